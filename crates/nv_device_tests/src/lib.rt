@@ -21,6 +21,8 @@ mod plain_files;
 #[cfg(test)]
 mod reading;
 #[cfg(test)]
+mod schedules;
+#[cfg(test)]
 mod stores;
 #[cfg(test)]
 mod writing;

@@ -349,11 +349,7 @@ fn lines_of_each_form(rt: HostRuntime) -> Result<(), Fail> {
         (Form::Sched, "7 pread 0 0 4", None),
         (Form::Sched, "8 pread 0 0 4", Some(Why::Number)),
         (Form::Sched, "round", Some(Why::Form)),
-        (Form::Sched, "steps 0", Some(Why::Form)),
-        (Form::Alone, "0 pread 0 0 4", None),
-        (Form::Alone, "1 pread 0 0 4", Some(Why::Number)),
-        (Form::Alone, "round", None),
-        (Form::Alone, "steps 0", Some(Why::Form)),
+        (Form::Sched, "steps 0", None),
     ] {
         let input = with_third(rt.alloc(), line.as_bytes(), b"\n")?;
         let mut source = Pieces::new(&input, usize::MAX);

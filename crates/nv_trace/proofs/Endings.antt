@@ -9,8 +9,7 @@ use Rattle.std.proofs.Math.Seq.{take-append-add}
 use Rattle.nv_trace.specs.Lines.{fields_of, parts_between}
 use Rattle.nv_trace.specs.Traced.{Traced, empty_trace}
 use Rattle.nv_trace.specs.Grammar.{and_then, is_printable}
-use Rattle.nv_trace.specs.Said.{said}
-use Rattle.nv_trace.specs.Reading.{Ending, Whole, Bad, after_line, after_lines, ending_of, long_unless_bad, longest_line, largest_input, unless_bad, with_statement}
+use Rattle.nv_trace.specs.Reading.{Ending, Whole, Bad, after_fields, after_line, after_lines, ending_of, fields_said, long_unless_bad, longest_line, largest_input, unless_bad}
 use Rattle.nv_trace.specs.declared.bad_line.BadLine.{BadLine}
 use Rattle.nv_trace.specs.declared.bad_line.Why.{Why}
 use Rattle.nv_trace.specs.declared.bad_line.Why.TheVariants.{Long as LongLine, Bytes as OddBytes}
@@ -37,21 +36,21 @@ settled_long [] long = absurd (omega arith)
 settled_long (first ∷ rest) long =
     ap (cond (eqb first 35) true) (lt-ltb longest_line (length (first ∷ rest)) long) ∙ or_true (eqb first 35)
 
-settled_cases : (skipped long longer : Bool) (trace read more : Result Traced Why) → cond skipped true long ≡ true → (long ≡ true → longer ≡ true) → cond skipped trace (cond longer (Err LongLine) more) ≡ cond skipped trace (cond long (Err LongLine) read)
-settled_cases true long longer trace read more settled up = refl
-settled_cases false long longer trace read more settled up = cond-true longer (Err LongLine) more (up settled) ∙ sym (cond-true long (Err LongLine) read settled)
+settled_cases : (skipped long longer : Bool) (trace : Result Traced Why) (after : List (List ℕ) → Result Traced Why) (read more : Result (List (List ℕ)) Why) → cond skipped true long ≡ true → (long ≡ true → longer ≡ true)
+    → cond skipped trace (and_then after (cond longer (Err LongLine) more)) ≡ cond skipped trace (and_then after (cond long (Err LongLine) read))
+settled_cases true long longer trace after read more settled up = refl
+settled_cases false long longer trace after read more settled up = ap (and_then after) (cond-true longer (Err LongLine) more (up settled) ∙ sym (cond-true long (Err LongLine) read settled))
 
--- what a line says that is neither skipped nor too long
-abbrev read_of : Traced → ℕ → List ℕ → Result Traced Why
-read_of trace number line =
-    cond (not (list_all is_printable line)) (Err OddBytes) (and_then (λ statement. Ok (with_statement trace number statement)) (said trace (fields_of line)))
+-- the fields of a line that isn't too long
+abbrev printed_fields : List ℕ → Result (List (List ℕ)) Why
+printed_fields line = cond (not (list_all is_printable line)) (Err OddBytes) (Ok (fields_of line))
 
 settled_line : (trace : Traced) (number : ℕ) (line more : List ℕ) → is_settled line ≡ true → after_line trace number (line ++ more) ≡ after_line trace number line
-unfolding after_line
+unfolding after_line fields_said
 settled_line trace number [] more settled = absurd (false≢true settled)
 settled_line trace number (first ∷ rest) more settled =
-    settled_cases (eqb first 35) (ltb longest_line (length (first ∷ rest))) (ltb longest_line (length (first ∷ (rest ++ more)))) (Ok trace)
-    (read_of trace number (first ∷ rest)) (read_of trace number (first ∷ (rest ++ more))) settled
+    settled_cases (eqb first 35) (ltb longest_line (length (first ∷ rest))) (ltb longest_line (length (first ∷ (rest ++ more)))) (Ok trace) (after_fields trace number)
+    (printed_fields (first ∷ rest)) (printed_fields (first ∷ (rest ++ more))) settled
     (λ long. lt-ltb longest_line (length (first ∷ (rest ++ more))) (omega (arith, ltb-true longest_line (length (first ∷ rest)) long, length-append rest more)))
 
 settled_first : (whole : Bool) (trace : Traced) (number : ℕ) (line more : List ℕ) (rest : List (List ℕ)) → is_settled line ≡ true → after_lines trace number (counted_lines whole ((line ++ more) ∷ rest)) ≡ after_lines trace number (counted_lines whole (line ∷ rest))

@@ -5,5 +5,7 @@ pub mod Numbered
 mod Numbers
 mod Parts
 mod Refusals
+mod Schedules
 mod Shapes
+mod TokenLists
 pub mod Writing

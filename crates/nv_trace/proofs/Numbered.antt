@@ -23,10 +23,11 @@ IsStrictlyIncreasing-push xs y rises below k in_range =
     ]
 
 -- a line that is no call
-numbered_later : (trace : Traced) (number : ℕ) → IsNumberedBelow number trace → IsNumberedBelow (number + 1) trace
+pub numbered_later : (trace : Traced) (number : ℕ) → IsNumberedBelow number trace → IsNumberedBelow (number + 1) trace
 numbered_later trace number numbered = record {
   line_order = numbered.line_order;
   below = All-weaker (λ traced. traced.line < number) (λ traced. traced.line < number + 1) (λ traced below. omega arith) trace.calls numbered.below;
+  few = omega (arith, numbered.few);
 }
 
 numbered_call : (trace : Traced) (number : ℕ) (traced : TracedCall) → traced.line ≡ number → IsNumberedBelow number trace → IsNumberedBelow (number + 1) (record trace { calls = trace.calls ++ traced ∷ [] })
@@ -37,11 +38,12 @@ numbered_call trace number traced is numbered =
           subst IsStrictlyIncreasing (sym (map_push line trace.calls traced))
           (IsStrictlyIncreasing-push (map line trace.calls) traced.line numbered.line_order (All-map (λ n. n < traced.line) line trace.calls (λ k d inside. omega (arith, is, numbered.below k d inside))));
       below = All-push (λ traced. traced.line < number + 1) trace.calls traced (numbered_later trace number numbered).below (omega (arith, is));
+      few = omega (arith, length_push trace.calls traced, numbered.few);
     }
 
 -- one more statement
 pub numbered_on : (trace : Traced) (number : ℕ) (statement : Statement) → IsNumberedBelow number trace → IsNumberedBelow (number + 1) (with_statement trace number statement)
-numbered_on trace number (File name) numbered = let on = numbered_later trace number numbered in record { line_order = on.line_order; below = on.below }
-numbered_on trace number (Opened descriptor) numbered = let on = numbered_later trace number numbered in record { line_order = on.line_order; below = on.below }
+numbered_on trace number (File name) numbered = let on = numbered_later trace number numbered in record { line_order = on.line_order; below = on.below; few = on.few }
+numbered_on trace number (Opened descriptor) numbered = let on = numbered_later trace number numbered in record { line_order = on.line_order; below = on.below; few = on.few }
 numbered_on trace number (Call thread call) numbered = numbered_call trace number (record { line = number; round = trace.rounds; thread = thread; call = call }) refl numbered
-numbered_on trace number Round numbered = let on = numbered_later trace number numbered in record { line_order = on.line_order; below = on.below }
+numbered_on trace number Round numbered = let on = numbered_later trace number numbered in record { line_order = on.line_order; below = on.below; few = on.few }

@@ -10,15 +10,17 @@ use Rattle.std.proofs.lemmas.List.Sums.{prefix_len-le-length, prefix_len_passes}
 use lib.Pointwise.{pointwise}
 use Rattle.nv_plain.specs.Layouts.{version_1}
 use Rattle.nv_plain.specs.Names.{is_name}
-use Rattle.nv_trace.specs.Forms.{has_rounds, last_thread}
+use Rattle.nv_trace.specs.Forms.{has_rounds, has_steps}
+use Rattle.nv_trace.specs.Grammar.{last_thread}
 use Rattle.nv_trace.specs.Said.{said_place}
-use Rattle.nv_trace.specs.Shape.{IsCallWithin, IsWellFormed, MayFollow}
+use Rattle.nv_trace.specs.Shape.{IsCallWithin, IsTokenWithin, IsWellFormed, MayFollow}
 use Rattle.nv_trace.specs.Streams.{counted}
 use Rattle.nv_trace.specs.Traced.{Traced}
-use Rattle.nv_trace.specs.Reading.{with_statement}
+use Rattle.nv_trace.specs.Reading.{with_statement, with_tokens}
 use Rattle.nv_trace.specs.declared.statement.Statement.{Statement}
 use Rattle.nv_trace.specs.declared.statement.Statement.TheVariants.{File, Opened, Call, Round}
 use Rattle.nv_trace.specs.declared.trace.Descriptor.{Descriptor}
+use Rattle.nv_trace.specs.declared.token.Token.{Token}
 use Rattle.nv_trace.specs.declared.trace_call.TracedCall.{TracedCall}
 use Rattle.nv_trace.specs.declared.trace_call.TraceCall.{TraceCall}
 use Rattle.nv_trace.specs.declared.trace_call.TraceCall.TheVariants.{Pread, Pwrite, Fsync}
@@ -64,6 +66,8 @@ with_name trace name may is =
       rounds = is.rounds;
       round_order = is.round_order;
       no_rounds = is.no_rounds;
+      tokens = is.tokens;
+      no_tokens = is.no_tokens;
     }
 
 within_more : (count more : ℕ) (call : TraceCall) → count ≤ more → IsCallWithin count call → IsCallWithin more call
@@ -86,9 +90,11 @@ with_descriptor trace descriptor may is =
       rounds = is.rounds;
       round_order = is.round_order;
       no_rounds = is.no_rounds;
+      tokens = is.tokens;
+      no_tokens = is.no_tokens;
     }
 
-with_call : (trace : Traced) (traced : TracedCall) → IsCallWithin (length trace.descriptors) traced.call → traced.thread ≤ last_thread trace.form → traced.round ≡ trace.rounds → IsWellFormed trace
+with_call : (trace : Traced) (traced : TracedCall) → IsCallWithin (length trace.descriptors) traced.call → traced.thread ≤ last_thread → traced.round ≡ trace.rounds → IsWellFormed trace
     → IsWellFormed (record trace { calls = trace.calls ++ traced ∷ [] })
 with_call trace traced within thread round is = record {
   names = is.names;
@@ -97,10 +103,12 @@ with_call trace traced within thread round is = record {
   descriptors = is.descriptors;
   files = is.files;
   calls = All-push (λ traced. IsCallWithin (length trace.descriptors) traced.call) trace.calls traced is.calls within;
-  threads = All-push (λ traced. traced.thread ≤ last_thread trace.form) trace.calls traced is.threads thread;
+  threads = All-push (λ traced. traced.thread ≤ last_thread) trace.calls traced is.threads thread;
   rounds = All-push (λ traced. traced.round ≤ trace.rounds) trace.calls traced is.rounds (omega (arith, round));
   round_order = IsNonDecreasingBy-push (λ traced. traced.round) trace.calls traced is.round_order (λ d some. omega (arith, round, is.rounds (length trace.calls - 1) d (omega arith)));
   no_rounds = is.no_rounds;
+  tokens = is.tokens;
+  no_tokens = is.no_tokens;
 }
 
 with_round : (trace : Traced) (rounds : ℕ) → has_rounds trace.form ≡ true → trace.rounds ≤ rounds → IsWellFormed trace → IsWellFormed (record trace { rounds = rounds })
@@ -115,6 +123,8 @@ with_round trace rounds has more is = record {
   rounds = λ k d inside. omega (arith, more, is.rounds k d inside);
   round_order = is.round_order;
   no_rounds = λ none. absurd (true≢false (sym has ∙ none));
+  tokens = is.tokens;
+  no_tokens = is.no_tokens;
 }
 
 -- a statement that may follow leaves a trace well formed, whose rounds are a u64
@@ -123,3 +133,20 @@ goes_on trace number (File name) may few is = with_name trace name may is
 goes_on trace number (Opened descriptor) may few is = with_descriptor trace descriptor may is
 goes_on trace number (Call thread call) may few is = with_call trace (record { line = number; round = trace.rounds; thread = thread; call = call }) may.1 may.0 refl is
 goes_on trace number Round may few is = with_round trace (counted trace.rounds) may (omega (arith, few)) is
+
+-- and so do tokens, where the form has them
+pub tokens_go_on : (trace : Traced) (tokens : List Token) → has_steps trace.form ≡ true → All IsTokenWithin tokens → IsWellFormed trace → IsWellFormed (with_tokens trace tokens)
+tokens_go_on trace tokens has within is = record {
+  names = is.names;
+  allowed = is.allowed;
+  distinct = is.distinct;
+  descriptors = is.descriptors;
+  files = is.files;
+  calls = is.calls;
+  threads = is.threads;
+  rounds = is.rounds;
+  round_order = is.round_order;
+  no_rounds = is.no_rounds;
+  tokens = All-append IsTokenWithin trace.tokens tokens is.tokens within;
+  no_tokens = λ none. absurd (true≢false (sym has ∙ none));
+}

@@ -10,6 +10,10 @@ use Rattle.nv_plain.specs.declared.mode.Mode.TheVariants.{R, W, Rw}
 use Rattle.nv_trace.specs.declared.bad_line.Why.{Why}
 use Rattle.nv_trace.specs.declared.bad_line.Why.TheVariants.{Number, Mode as BadMode, Hex}
 
+-- the largest number of a thread
+abbrev pub last_thread : ℕ
+last_thread = 7
+
 -- the largest offset of a call, and the most bytes that one moves
 abbrev pub largest_offset : ℕ
 largest_offset = 2 ^ 62 - 1

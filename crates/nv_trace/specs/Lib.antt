@@ -2,6 +2,7 @@ pub mod Streams
 pub mod Lines
 pub mod Grammar
 pub mod Forms
+pub mod Tokens
 pub mod Traced
 pub mod Reading
 pub mod Said

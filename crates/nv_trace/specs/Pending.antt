@@ -41,10 +41,10 @@ ending_from trace number line taken rest =
 abbrev pub input_ends : LineReader → (rest : List ℕ) → Ending
 input_ends reader rest = ending_from reader.trace reader.number reader.line.items reader.taken rest
 
--- a reader has taken no more than the largest input, a byte at least for each line, and the lines in their order
+-- a reader has taken no more than the largest input: a byte at least for each line that ended and those of the open one; and the lines in their order
 pub record IsWithinLines (reader : LineReader) : Type 0 where
   pub taken : reader.taken ≤ largest_input
-  pub number : reader.number ≤ reader.taken + 1
+  pub number : reader.number + length reader.line.items ≤ reader.taken + 1
   pub numbered : IsNumberedBelow reader.number reader.trace
 
 -- the lines end at this bad one; want of memory says nothing of them

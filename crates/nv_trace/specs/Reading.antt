@@ -3,7 +3,7 @@ use Rattle.std.specs.Prelude.{ℕ, ◌+◌, ◌==◌, nat_le, nat_lt, not, Bool,
 use Rattle.std.specs.List.{list_all}
 use Rattle.nv_trace.specs.Lines.{ended_lines, fields_of, open_line}
 use Rattle.nv_trace.specs.Grammar.{and_then, is_printable}
-use Rattle.nv_trace.specs.Said.{said}
+use Rattle.nv_trace.specs.Said.{is_schedule, said, tokens_said}
 use Rattle.nv_trace.specs.Streams.{counted}
 use Rattle.nv_trace.specs.Traced.{Traced, empty_trace}
 use Rattle.nv_trace.specs.declared.bad_line.BadLine.{BadLine}
@@ -11,6 +11,7 @@ use Rattle.nv_trace.specs.declared.bad_line.Why.{Why}
 use Rattle.nv_trace.specs.declared.bad_line.Why.TheVariants.{Long as LongLine, Bytes as OddBytes}
 use Rattle.nv_trace.specs.declared.statement.Statement.{Statement}
 use Rattle.nv_trace.specs.declared.statement.Statement.TheVariants.{File, Opened, Call, Round}
+use Rattle.nv_trace.specs.declared.token.Token.{Token}
 use Rattle.nv_trace.specs.declared.trace.Form.{Form}
 
 -- the most bytes of a line that isn't skipped, and of an input
@@ -28,18 +29,39 @@ with_statement trace number (Call thread call) =
     record trace { calls = trace.calls ++ record { line = number; round = trace.rounds; thread = thread; call = call } ∷ [] }
 with_statement trace number Round = record trace { rounds = counted trace.rounds }
 
+-- the trace with more tokens
+abbrev pub with_tokens : Traced → List Token → Traced
+with_tokens trace tokens = record trace { tokens = trace.tokens ++ tokens }
+
 -- an empty line, and one that begins with `#`
 abbrev pub is_skipped : List ℕ → Bool
 is_skipped [] = true
 is_skipped (first ∷ rest) = first == 35
 
+-- the fields of a line that isn't skipped: it isn't too long, and each of its bytes prints
+unfoldable pub fields_said : List ℕ → Result (List (List ℕ)) Why
+fields_said line =
+    if nat_lt longest_line (length line) then Err LongLine
+    else if not (list_all is_printable line) then Err OddBytes
+    else Ok (fields_of line)
+
+-- the trace after the fields of a `steps` line
+abbrev pub after_steps : Traced → List (List ℕ) → Result Traced Why
+after_steps trace fields = and_then (λ tokens. Ok (with_tokens trace tokens)) (tokens_said trace fields)
+
+-- the trace after the fields of any line
+unfoldable pub after_fields : Traced → ℕ → List (List ℕ) → Result Traced Why
+after_fields trace number fields =
+    if is_schedule fields then after_steps trace fields
+    else and_then (λ statement. Ok (with_statement trace number statement)) (said trace fields)
+
 -- the trace after one more line, or why the line is bad
 unfoldable pub after_line : Traced → ℕ → List ℕ → Result Traced Why
-after_line trace number line =
-    if is_skipped line then Ok trace
-    else if nat_lt longest_line (length line) then Err LongLine
-    else if not (list_all is_printable line) then Err OddBytes
-    else and_then (λ statement. Ok (with_statement trace number statement)) (said trace (fields_of line))
+after_line trace number line = if is_skipped line then Ok trace else and_then (after_fields trace number) (fields_said line)
+
+-- the trace after one more line that is to be a `steps` line, or why it is none
+unfoldable pub after_schedule : Traced → List ℕ → Result Traced Why
+after_schedule trace line = and_then (after_steps trace) (fields_said line)
 
 -- how an input ends: as a whole trace, at its first bad line, or too long
 pub data Ending : Type 0 where

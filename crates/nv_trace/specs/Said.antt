@@ -1,12 +1,14 @@
 -- What the fields of a line say behind the lines of a trace, or the first reason why they say nothing.
-use Rattle.std.specs.Prelude.{◌≡◌, ℕ, ◌-◌, ◌==◌, ◌&&◌, ◌||◌, nat_eq, nat_le, nat_lt, not, Bool, if◌then◌else◌, List, [], ◌∷◌, length, codes, replicate, Result, Ok, Err}
+use Rattle.std.specs.Prelude.{◌≡◌, ℕ, ◌-◌, ◌==◌, ◌&&◌, ◌||◌, nat_eq, nat_le, nat_lt, not, Bool, false, if◌then◌else◌, List, [], ◌∷◌, length, codes, replicate, Result, Ok, Err}
 use Rattle.std.specs.List.{list_any, position_or_len}
+use Rattle.std.specs.Option.{ok_or}
 use lib.Pointwise.{pointwise}
 use Rattle.nv_plain.specs.Layouts.{version_1}
 use Rattle.nv_plain.specs.Names.{is_name}
-use Rattle.nv_trace.specs.Forms.{has_rounds, last_thread}
-use Rattle.nv_trace.specs.Grammar.{and_then, bytes_of, largest_count, largest_offset, mode_of, most_descriptors, most_files, number_of, says}
-use Rattle.nv_trace.specs.Traced.{Traced, has_begun}
+use Rattle.nv_trace.specs.Forms.{has_rounds, has_steps}
+use Rattle.nv_trace.specs.Grammar.{and_then, bytes_of, largest_count, largest_offset, last_thread, mode_of, most_descriptors, most_files, number_of, says}
+use Rattle.nv_trace.specs.Tokens.{tokens_of}
+use Rattle.nv_trace.specs.Traced.{Traced, has_begun, has_tokens}
 use Rattle.nv_trace.specs.declared.bad_line.Why.{Why}
 use Rattle.nv_trace.specs.declared.bad_line.Why.TheVariants.{Form, Late, Number, Name, Many, Repeat, Unknown}
 use Rattle.nv_trace.specs.declared.bad_line.Unsaid.{Unsaid}
@@ -14,6 +16,7 @@ use Rattle.nv_trace.specs.declared.bad_line.Unsaid.TheVariants as unsaid
 use Rattle.nv_trace.specs.declared.call_lines.CallPlace.{CallPlace}
 use Rattle.nv_trace.specs.declared.statement.Statement.{Statement}
 use Rattle.nv_trace.specs.declared.statement.Statement.TheVariants.{File, Opened, Call, Round}
+use Rattle.nv_trace.specs.declared.token.Token.{Token}
 use Rattle.nv_trace.specs.declared.trace_call.TraceCall.{TraceCall}
 use Rattle.nv_trace.specs.declared.trace_call.TraceCall.TheVariants.{Pread, Pwrite, Fsync}
 
@@ -21,7 +24,7 @@ use Rattle.nv_trace.specs.declared.trace_call.TraceCall.TheVariants.{Pread, Pwri
 abbrev pub said_place : List ℕ → List (List ℕ) → ℕ
 said_place name names = position_or_len (λ known. pointwise nat_eq known name) names
 
--- the name of a file that is declared: no call and no round may stand before it, nor 16 files, nor the same name
+-- the name of a file that is declared: no call, no round and no token may stand before it, nor 16 files, nor the same name
 unfoldable pub new_name : Traced → List ℕ → Result (List ℕ) Why
 new_name trace name =
     if has_begun trace then Err Late
@@ -42,7 +45,7 @@ said_file trace name =
     else if nat_lt (said_place name trace.names) (length trace.names) then Ok (said_place name trace.names)
     else Err Unknown
 
--- a descriptor that is declared: no call and no round may stand before it, nor 64 descriptors
+-- a descriptor that is declared: no call, no round and no token may stand before it, nor 64 descriptors
 unfoldable pub new_descriptor : Traced → (number name mode : List ℕ) → Result Statement Why
 new_descriptor trace number name mode =
     if has_begun trace then Err Late
@@ -79,9 +82,9 @@ fill_of trace fd at len byte =
 abbrev pub sync_of : Traced → (fd : List ℕ) → Result TraceCall Why
 sync_of trace fd = and_then (λ fd. Ok (Fsync fd)) (call_on trace fd)
 
--- the number of a call's thread
+-- the number of a call's thread: no token may stand before a call
 abbrev pub thread_of : Traced → (thread : List ℕ) → Result ℕ Why
-thread_of trace thread = number_of (last_thread trace.form) thread
+thread_of trace thread = if has_tokens trace then Err Late else number_of last_thread thread
 
 -- a call behind the number of its thread
 abbrev pub made_by : Traced → (thread : List ℕ) → Result TraceCall Why → Result Statement Why
@@ -113,6 +116,17 @@ said_by trace _ = Err Form
 -- what the fields of a line say
 unfoldable pub said : Traced → List (List ℕ) → Result Statement Why
 said trace fields = if list_any (λ field. length field == 0) fields then Err Form else said_by trace fields
+
+-- whether the fields are those of a `steps` line
+abbrev pub is_schedule : List (List ℕ) → Bool
+is_schedule [] = false
+is_schedule (word ∷ fields) = says word (codes "steps")
+
+-- what the fields of a `steps` line say: a token each, and one at least
+unfoldable pub tokens_said : Traced → List (List ℕ) → Result (List Token) Why
+tokens_said trace [] = Err Form
+tokens_said trace (word ∷ []) = Err Form
+tokens_said trace (word ∷ fields) = if says word (codes "steps") && has_steps trace.form then ok_or (tokens_of fields) Form else Err Form
 
 -- the reason why nothing was read is so; want of memory has none
 abbrev pub IsUnsaid : {A : Type 0} → Result A Why → Unsaid → Type 0

@@ -2,6 +2,7 @@
 use Rattle.std.specs.Prelude.{ℕ, ◌+◌, ◌||◌, nat_lt, max, Bool, List, [], length, map, fold}
 use Rattle.nv_trace.specs.declared.trace.Form.{Form}
 use Rattle.nv_trace.specs.declared.trace.Descriptor.{Descriptor}
+use Rattle.nv_trace.specs.declared.token.Token.{Token}
 use Rattle.nv_trace.specs.declared.trace_call.TracedCall.{TracedCall}
 
 pub record Traced : Type 0 where
@@ -15,13 +16,19 @@ pub record Traced : Type 0 where
   pub calls : List TracedCall
   -- how many `round` lines there were
   pub rounds : ℕ
+  -- the tokens of its `steps` lines, in their order
+  pub tokens : List Token
 
 abbrev pub empty_trace : Form → Traced
-empty_trace form = record { form = form; names = []; descriptors = []; calls = []; rounds = 0 }
+empty_trace form = record { form = form; names = []; descriptors = []; calls = []; rounds = 0; tokens = [] }
 
--- whether a line has come that declares nothing: a call or a `round` line
+-- whether a `steps` line has come: each has a token
+abbrev pub has_tokens : Traced → Bool
+has_tokens trace = nat_lt 0 (length trace.tokens)
+
+-- whether a line has come that declares nothing: a call, a `round` or a `steps` line
 abbrev pub has_begun : Traced → Bool
-has_begun trace = nat_lt 0 (length trace.calls) || nat_lt 0 trace.rounds
+has_begun trace = nat_lt 0 (length trace.calls) || nat_lt 0 trace.rounds || has_tokens trace
 
 -- the numbers of its calls' lines
 abbrev pub lines_in : Traced → List ℕ

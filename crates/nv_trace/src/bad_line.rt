@@ -1,6 +1,6 @@
 //! Lines that are in no trace, and why.
 use nv_plain::NoMemory;
-use std::alloc::{AllocError, Global};
+use std::alloc::{AllocError, AllocFailed, Global};
 use thiserror::Error;
 
 /// Why a line is bad: the first of these that holds, in this order. `Number` to `Unknown` are found in a field, the fields from
@@ -13,7 +13,7 @@ pub enum Why {
     Bytes,
     /// It is in no form of a line.
     Form,
-    /// It declares a file or a descriptor behind a call or a `round` line.
+    /// It declares a file or a descriptor behind a line that declares nothing, or is a call behind a `steps` line.
     Late,
     /// A number is misspelt or out of its range, or a descriptor's is not the next one.
     Number,
@@ -75,6 +75,17 @@ impl From<AllocError> for Unsaid {
     ghost from_gives = { λ _ error. error ≡ unsaid.NoMemory };
 
     fn from(_: AllocError) -> Self {
+        Unsaid::NoMemory
+    }
+}
+
+impl<T: Drop> From<AllocFailed<T>> for Unsaid {
+    ghost use Rattle.std.specs.Prelude.{◌≡◌};
+    ghost use Rattle.nv_trace.specs.declared.bad_line.Unsaid.TheVariants as unsaid;
+
+    ghost from_gives = { λ _ error. error ≡ unsaid.NoMemory };
+
+    fn from(_: AllocFailed<T>) -> Self {
         Unsaid::NoMemory
     }
 }

@@ -1,10 +1,10 @@
 //! The lines of a trace that are calls.
-ghost use Rattle.std.specs.Prelude.{◌≡◌, ◌<◌, ◌≤◌, [], ◌∷◌, length, IfOk, Ok};
-ghost use Rattle.nv_trace.specs.Forms.{last_thread};
+ghost use Rattle.std.specs.Prelude.{◌≡◌, ◌<◌, ◌≤◌, [], ◌∷◌, false, length, IfOk, Ok, OnOk};
 ghost use Rattle.nv_trace.specs.Grammar as grammar;
 ghost use Rattle.nv_trace.specs.Said as said;
 ghost use Rattle.nv_trace.specs.Said.{IsRead, made_by, read_of, said_by, write_of};
 ghost use Rattle.nv_trace.specs.Shape.{MayFollow};
+ghost use Rattle.nv_trace.specs.Traced.{has_tokens};
 
 use crate::bad_line::{Unsaid, Why};
 use crate::spelling::{LARGEST_COUNT, bytes_of, number, says};
@@ -13,6 +13,9 @@ use crate::trace::Trace;
 use crate::trace_call::TraceCall;
 use nv_plain::Bytes;
 use std::alloc::Global;
+
+/// The largest number of a thread.
+pub(crate) const LAST_THREAD: u64 = 7;
 
 /// The largest number of a descriptor.
 const LAST_DESCRIPTOR: u64 = 63;
@@ -86,12 +89,16 @@ fn call_at(trace: &Trace, fd: &[u8], at: &[u8]) -> Result<CallPlace, Why>
     Ok(CallPlace { fd, at })
 }
 
-/// The number of a call's thread.
+/// The number of a call's thread, where a call may stand.
 fn thread_of(trace: &Trace, field: &[u8]) -> Result<u64, Why>
     ensures read { result ≡ said.thread_of trace.now field.now }
-    ensures within { IfOk result (λ thread. thread ≤ last_thread trace.now.form) }
+    ensures within { IfOk result (λ thread. thread ≤ grammar.last_thread) }
+    ensures early { OnOk result (has_tokens trace.now ≡ false) }
 {
-    number(field, trace.form().last_thread())
+    if trace.has_tokens() {
+        return Err(Why::Late);
+    }
+    number(field, LAST_THREAD)
 }
 
 /// The descriptor of a call.

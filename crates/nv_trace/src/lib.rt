@@ -12,7 +12,9 @@ mod reader_source;
 mod report;
 mod spelling;
 mod statement;
+mod steps;
 mod streams;
+mod token;
 mod trace;
 mod trace_call;
 mod writer_sink;
@@ -26,8 +28,10 @@ pub use reader_source::ReaderSource;
 pub use report::{
     Fate, Refusal, end_line, file_line, history_line, open_line, recovered_line, refused_line,
 };
-pub use statement::place_of;
+pub use statement::{Statement, place_of};
+pub use steps::schedule;
 pub use streams::{Failed, Sink, Source, write_all};
+pub use token::{Reach, StepName, Token, Turn};
 pub use trace::{Descriptor, Form, Trace};
 pub use trace_call::{TraceCall, TracedCall};
 pub use writer_sink::WriterSink;

@@ -1,11 +1,14 @@
 //! Why a line was not taken, and why an input gave no trace.
-ghost use Rattle.std.specs.Prelude.{◌≡◌};
-ghost use Rattle.nv_trace.specs.Refused.{read_error};
+ghost use Rattle.std.specs.Prelude.{◌≡◌, Result};
+ghost use Rattle.nv_trace.specs.Refused.{IsBadAs, read_error};
+ghost use Rattle.nv_trace.specs.Said.{IsUnsaid};
+ghost use Rattle.nv_trace.specs.Traced.{Traced};
+ghost use Rattle.nv_trace.specs.declared.bad_line.Why.{Why};
 ghost use Rattle.nv_trace.specs.declared.read_error.LineError.TheVariants as line_errors;
 ghost use Rattle.nv_trace.specs.declared.read_error.ReadError.TheVariants as read_errors;
 
 use crate::Failed;
-use crate::bad_line::BadLine;
+use crate::bad_line::{BadLine, Unsaid};
 use nv_plain::NoMemory;
 use std::alloc::AllocError;
 use thiserror::Error;
@@ -30,6 +33,16 @@ pub enum ReadError {
     Failed,
     #[error("no memory")]
     NoMemory,
+}
+
+/// The refusal of the line with this number.
+pub(crate) fn line_error(number: u64, unsaid: Unsaid) -> LineError
+    ensures { (told : Result Traced Why) → IsUnsaid told unsaid → IsBadAs told number result }
+{
+    match unsaid {
+        Unsaid::Bad(why) => LineError::Bad(BadLine { number, why }),
+        Unsaid::NoMemory => LineError::NoMemory,
+    }
 }
 
 impl From<NoMemory> for LineError {

@@ -1,11 +1,12 @@
 //! The reading of a trace.
 ghost use Rattle.std.specs.List.{list_all};
 ghost use Rattle.std.specs.List.Sorted.{IsStrictlyIncreasing};
-ghost use Rattle.std.specs.Prelude.{◌≡◌, ◌≢◌, ℕ, ◌+◌, ◌^◌, ◌<◌, ◌≤◌, Bool, List, [], ◌∷◌, ◌++◌, length, slice_index, Ok, Err, IfOk, IfErr, IfSome, IfNone, OnOk, OnErr, vec_len};
+ghost use Rattle.std.specs.Prelude.{◌≡◌, ◌≢◌, ℕ, ◌+◌, ◌^◌, ◌<◌, ◌≤◌, Bool, List, [], ◌∷◌, ◌++◌, codes, length, slice_index, Ok, Err, IfOk, IfErr, IfSome, IfNone, OnOk, OnErr, vec_len};
 ghost use Rattle.nv_plain.specs.Faults.{Rose};
 ghost use Rattle.nv_trace.specs.Reading as reading;
-ghost use Rattle.nv_trace.specs.Reading.{after_line, ending_of, Whole};
+ghost use Rattle.nv_trace.specs.Reading.{after_line, ending_of, fields_said, largest_input, Whole};
 ghost use Rattle.nv_trace.specs.Grammar.{is_printable};
+ghost use Rattle.nv_trace.specs.Lines.{fields_of};
 ghost use Rattle.nv_trace.specs.Said.{IsUnsaid};
 ghost use Rattle.nv_trace.specs.Shape.{IsNumberedBelow};
 ghost use Rattle.nv_trace.specs.Traced.{lines_in};
@@ -13,9 +14,10 @@ ghost use Rattle.nv_trace.specs.Refused.{IsBadLine, IsRefusedAs, RefusalTells};
 ghost use Rattle.nv_trace.specs.Pending.{input_ends, lines_end, room_for, IsWithinLines, EndsAt};
 ghost use Rattle.nv_trace.specs.declared.read_error.ReadError.TheVariants as read_errors;
 
-use crate::bad_line::{BadLine, Unsaid, Why};
-use crate::read_error::{LineError, ReadError};
+use crate::bad_line::{Unsaid, Why};
+use crate::read_error::{LineError, ReadError, line_error};
 use crate::statement::statement_of;
+use crate::steps::{behind_steps, schedule};
 use crate::trace::Form;
 use crate::{Failed, Source, Trace};
 use nv_plain::NoMemory;
@@ -31,7 +33,7 @@ const LARGEST_INPUT: u64 = 67_108_864;
 const CHUNK: usize = 65_536;
 
 /// Takes a line, without its line feed, into the trace. A line that is empty or begins with `#` says nothing; any other
-/// has at most 262,400 bytes. After a refusal the trace is as before.
+/// has at most 262,400 bytes. A `steps` line is given to `schedule`. After a refusal the trace is as before.
 pub fn read_line(trace: &mut Trace, number: u64, line: &[u8]) -> Result<(), LineError>
     ensures read { OnOk result (after_line trace.old number line.now ≡ Ok trace.new) }
     ensures bad { IfErr result (IsBadLine trace.old number line.now) }
@@ -39,16 +41,19 @@ pub fn read_line(trace: &mut Trace, number: u64, line: &[u8]) -> Result<(), Line
     ensures form { trace.new.form ≡ trace.old.form }
     ensures numbered { OnOk result (IsNumberedBelow number trace.old → IsNumberedBelow (number + 1) trace.new) }
 {
+    if behind_steps(line).is_some() {
+        return schedule(trace, number, line);
+    }
     match take_line(trace, number, line) {
         Ok(()) => Ok(()),
-        Err(Unsaid::Bad(why)) => Err(LineError::Bad(BadLine { number, why })),
-        Err(Unsaid::NoMemory) => Err(LineError::NoMemory),
+        Err(unsaid) => Err(line_error(number, unsaid)),
     }
 }
 
-/// Takes a line into the trace, or says why it is bad.
+/// Takes a line that is no `steps` line into the trace, or says why it is bad.
 #[tactic(auto, unfolding(crate::specs::Reading::after_line))]
 fn take_line(trace: &mut Trace, number: u64, line: &[u8]) -> Result<(), Unsaid>
+    requires { (rest : List ℕ) → line.now ≢ codes "steps " ++ rest }
     ensures read { OnOk result (after_line trace.old number line.now ≡ Ok trace.new) }
     ensures bad { IfErr result (IsUnsaid (after_line trace.old number line.now)) }
     ensures unchanged { OnErr result (trace.new ≡ trace.old) }
@@ -58,14 +63,24 @@ fn take_line(trace: &mut Trace, number: u64, line: &[u8]) -> Result<(), Unsaid>
     if is_skipped(line) {
         return Ok(());
     }
-    if line.len() > LONGEST_LINE {
-        return Err(Unsaid::Bad(Why::Long));
-    }
-    if !are_printable(line) {
-        return Err(Unsaid::Bad(Why::Bytes));
-    }
+    check_line(line)?;
     let statement = statement_of(trace.alloc(), trace, line)?;
     trace.push(number, statement)?;
+    Ok(())
+}
+
+/// Whether a line that isn't skipped has as many bytes as it may have, which print.
+#[tactic(auto, unfolding(crate::specs::Reading::fields_said))]
+pub(crate) fn check_line(line: &[u8]) -> Result<(), Why>
+    ensures clear { OnOk result (fields_said line.now ≡ Ok (fields_of line.now)) }
+    ensures bad { IfErr result (λ why. fields_said line.now ≡ Err why) }
+{
+    if line.len() > LONGEST_LINE {
+        return Err(Why::Long);
+    }
+    if !are_printable(line) {
+        return Err(Why::Bytes);
+    }
     Ok(())
 }
 
@@ -97,6 +112,7 @@ pub fn read_trace<I: Source>(alloc: Global, form: Form, src: &mut I) -> Result<T
     ensures whole { IfOk result (λ trace. IfSome (I.left src.old) (λ input. ending_of form input ≡ Whole trace)) }
     ensures form { IfOk result (λ trace. trace.form ≡ form) }
     ensures line_order { IfOk result (λ trace. IsStrictlyIncreasing (lines_in trace)) }
+    ensures few { IfOk result (λ trace. length trace.calls ≤ largest_input) }
     ensures at_end { OnOk result (IfSome (I.left src.old) (λ _. I.left src.new ≡ Some [])) }
     ensures refused { IfErr result (λ error. IfSome (I.left src.old) (IsRefusedAs form error)) }
     ensures failed { result ≡ Err read_errors.Failed → Rose (I.fault_count src.old) (I.fault_count src.new) }
@@ -164,9 +180,9 @@ impl LineReader {
 
     /// Takes the lines that these bytes end, and keeps the rest.
     fn take_lines(&mut self, bytes: &[u8]) -> Result<(), LineError>
-        requires { self.old.number + length bytes.now < 2 ^ 64 }
+        requires { self.old.number + length self.old.line.items + length bytes.now < 2 ^ 64 }
         ensures goes_on { OnOk result ((whole : Bool) (rest : List ℕ) → lines_end whole self.new rest ≡ lines_end whole self.old (bytes.now ++ rest)) }
-        ensures few { OnOk result (self.new.number ≤ self.old.number + length bytes.now) }
+        ensures few { OnOk result (self.new.number + length self.new.line.items ≤ self.old.number + length self.old.line.items + length bytes.now) }
         ensures numbered { OnOk result (IsNumberedBelow self.old.number self.old.trace → IsNumberedBelow self.new.number self.new.trace) }
         ensures form { self.new.trace.form ≡ self.old.trace.form }
         ensures taken { self.new.taken ≡ self.old.taken }
@@ -187,6 +203,7 @@ impl LineReader {
         requires { (k : ℕ) → k < length part.now → slice_index part.now k ≢ 10 }
         ensures goes_on { OnOk result ((whole : Bool) (rest : List ℕ) → lines_end whole self.new rest ≡ lines_end whole self.old (part.now ++ rest)) }
         ensures same { (self.new.trace ≡ self.old.trace) × (self.new.number ≡ self.old.number) × (self.new.taken ≡ self.old.taken) }
+        ensures few { length self.new.line.items ≤ length self.old.line.items + length part.now }
     {
         let count = part.len().min(room(&self.line, part));
         self.line.extend_from_slice(&part[..count])?;
@@ -198,6 +215,7 @@ impl LineReader {
         requires { self.old.number + 1 < 2 ^ 64 }
         ensures goes_on { OnOk result ((whole : Bool) (rest : List ℕ) → lines_end whole self.new rest ≡ lines_end whole self.old (10 ∷ rest)) }
         ensures number { OnOk result (self.new.number ≡ self.old.number + 1) }
+        ensures cleared { OnOk result (self.new.line.items ≡ []) }
         ensures numbered { OnOk result (IsNumberedBelow self.old.number self.old.trace → IsNumberedBelow self.new.number self.new.trace) }
         ensures form { self.new.trace.form ≡ self.old.trace.form }
         ensures taken { self.new.taken ≡ self.old.taken }
@@ -215,6 +233,7 @@ impl LineReader {
         ensures whole { IfOk result (λ trace. input_ends self [] ≡ Whole trace) }
         ensures form { IfOk result (λ trace. trace.form ≡ self.trace.form) }
         ensures line_order { IfOk result (λ trace. IsStrictlyIncreasing (lines_in trace)) }
+        ensures few { IfOk result (λ trace. length trace.calls ≤ largest_input) }
         ensures refused { IfErr result (λ error. RefusalTells error (input_ends self [])) }
         ensures no_fault { result ≢ Err read_errors.Failed }
     {

@@ -1,17 +1,22 @@
 //! What a field of a line spells: a number, bytes, a word.
-ghost use Rattle.std.specs.Prelude.{◌≡◌, ◌<◌, ◌≤◌, ◌^◌, ◌==◌, length, IfSome, IfOk, SomeIff, Ok};
+ghost use Rattle.std.specs.Prelude.{◌≡◌, ◌<◌, ◌≤◌, ◌^◌, ◌==◌, length, map, IfSome, IfOk, MatchOption, SomeIff, Ok};
 ghost use Rattle.std.specs.List.{list_all};
 ghost use Rattle.nv_trace.specs.Grammar as grammar;
 ghost use Rattle.nv_trace.specs.Grammar.{hex_of, is_digit, is_numeral, largest_count, movable, number_of, value_of};
+ghost use Rattle.nv_trace.specs.Lines.{parts_between};
 ghost use Rattle.nv_trace.specs.Said.{IsRead};
 
 use crate::bad_line::{Unsaid, Why};
+use arrayvec::ArrayVec;
 use hex::FromHexError;
 use nv_plain::{Bytes, NoMemory};
 use std::alloc::Global;
 
 /// The most bytes that one call moves.
 pub(crate) const LARGEST_COUNT: u64 = 131_072;
+
+/// The most parts of some text that is in some form: the fields of a line with a statement, or the parts of a token.
+const MOST_PARTS: usize = 6;
 
 /// The bytes that a field spells, `-` for none.
 #[tactic(auto, unfolding(crate::specs::Grammar::bytes_of))]
@@ -96,6 +101,17 @@ fn value(digits: &[u8]) -> Option<u64>
         value = value.checked_mul(10)?.checked_add(more)?;
     }
     Some(value)
+}
+
+/// The parts between the separators, where there are no more than any form has.
+pub(crate) fn parts(text: &[u8], separator: u8) -> Option<ArrayVec<&[u8], MOST_PARTS>>
+    ensures { MatchOption result (6 < length (parts_between separator text.now)) (λ parts. map (λ part. part.now) parts.items ≡ parts_between separator text.now) }
+{
+    let mut parts = ArrayVec::new();
+    for part in text.split(|byte| *byte == separator) {
+        parts.try_push(part).ok()?;
+    }
+    Some(parts)
 }
 
 /// Whether a field is this word.

@@ -11,10 +11,9 @@ ghost use Rattle.nv_trace.specs.declared.statement.Statement.TheVariants as stat
 
 use crate::bad_line::{Unsaid, Why};
 use crate::call_lines::{fill, read_or_write, sync};
-use crate::spelling::{number, says};
+use crate::spelling::{number, parts, says};
 use crate::trace::{Descriptor, Trace};
 use crate::trace_call::TraceCall;
-use arrayvec::ArrayVec;
 use nv_plain::{Bytes, Mode, NoMemory, is_file_name};
 use std::alloc::Global;
 
@@ -29,9 +28,6 @@ const MOST_DESCRIPTORS: usize = 64;
 
 /// The largest number of a descriptor.
 const LAST_DESCRIPTOR: u64 = 63;
-
-/// The most fields of a line that is in some form.
-const MOST_FIELDS: usize = 6;
 
 /// What one line of a trace says.
 #[derive(Debug, Drop)]
@@ -52,7 +48,7 @@ pub(crate) fn statement_of(alloc: Global, trace: &Trace, line: &[u8]) -> Result<
     ensures read { IsRead result (said.said trace.now (fields_of line.now)) }
     ensures follows { IfOk result (MayFollow trace.now) }
 {
-    let Some(fields) = fields(line) else {
+    let Some(fields) = parts(line, b' ') else {
         return Err(Unsaid::Bad(Why::Form));
     };
     let fields = fields.as_slice();
@@ -60,17 +56,6 @@ pub(crate) fn statement_of(alloc: Global, trace: &Trace, line: &[u8]) -> Result<
         return Err(Unsaid::Bad(Why::Form));
     }
     by_fields(alloc, trace, fields)
-}
-
-/// The fields of a line, where it has no more than a form may have.
-fn fields(line: &[u8]) -> Option<ArrayVec<&[u8], MOST_FIELDS>>
-    ensures { MatchOption result (6 < length (fields_of line.now)) (λ fields. map (λ field. field.now) fields.items ≡ fields_of line.now) }
-{
-    let mut fields = ArrayVec::new();
-    for field in line.split(|byte| *byte == b' ') {
-        fields.try_push(field).ok()?;
-    }
-    Some(fields)
 }
 
 fn has_empty(fields: &[&[u8]]) -> bool

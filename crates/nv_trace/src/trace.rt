@@ -1,11 +1,13 @@
 //! Traces, as data.
-ghost use Rattle.std.specs.Prelude.{◌≡◌, ◌+◌, ◌≤◌, OnErr, OnOk};
-ghost use Rattle.nv_trace.specs.Forms.{has_rounds, last_thread};
-ghost use Rattle.nv_trace.specs.Shape.{IsWellFormed, MayFollow};
-ghost use Rattle.nv_trace.specs.Traced.{empty_trace, has_begun, thread_count};
-ghost use Rattle.nv_trace.specs.Reading.{with_statement};
+ghost use Rattle.std.specs.Prelude.{◌≡◌, ◌+◌, ◌≤◌, All, OnErr, OnOk, true};
+ghost use Rattle.nv_trace.specs.Forms.{has_rounds, has_steps};
+ghost use Rattle.nv_trace.specs.Grammar.{last_thread};
+ghost use Rattle.nv_trace.specs.Shape.{IsTokenWithin, IsWellFormed, MayFollow};
+ghost use Rattle.nv_trace.specs.Traced.{empty_trace, has_begun, has_tokens, thread_count};
+ghost use Rattle.nv_trace.specs.Reading.{with_statement, with_tokens};
 
 use crate::statement::Statement;
+use crate::token::Token;
 use crate::trace_call::TracedCall;
 use nv_plain::{Bytes, Mode, NoMemory};
 use std::alloc::Global;
@@ -18,29 +20,21 @@ pub enum Form {
     Run,
     /// To make their steps in a given order.
     Sched,
-    /// To make its calls by thread 0 alone, where rounds change nothing.
-    Alone,
 }
 
 impl Form {
-    /// The largest number of a thread.
-    pub(crate) fn last_thread(self) -> u64
-        ensures { result ≡ last_thread self }
-    {
-        match self {
-            Form::Run | Form::Sched => 7,
-            Form::Alone => 0,
-        }
-    }
-
     /// Whether `round` is a line.
     pub(crate) fn has_rounds(self) -> bool
         ensures { result ≡ has_rounds self }
     {
-        match self {
-            Form::Run | Form::Alone => true,
-            Form::Sched => false,
-        }
+        self == Form::Run
+    }
+
+    /// Whether `steps` is the first field of a line.
+    pub(crate) fn has_steps(self) -> bool
+        ensures { result ≡ has_steps self }
+    {
+        self == Form::Sched
     }
 }
 
@@ -51,7 +45,8 @@ pub struct Descriptor {
     pub mode: Mode,
 }
 
-/// What the lines of a trace say: the files' names, the descriptors, the calls in their order, and how many rounds end before the last.
+/// What the lines of a trace say: the files' names, the descriptors, the calls in their order, how many rounds end before the last, and
+/// the tokens in theirs.
 #[derive(Drop)]
 pub struct Trace {
     alloc: Global,
@@ -61,6 +56,7 @@ pub struct Trace {
     calls: Vec<TracedCall>,
     /// How many `round` lines there were, standing still at 2^64 - 1.
     rounds: u64,
+    tokens: Vec<Token>,
 }
 
 impl Model for Trace {
@@ -68,11 +64,11 @@ impl Model for Trace {
 
     ghost Value = { Traced };
 
-    ghost view = { λ t. record { form = t.form; names = t.names.items; descriptors = t.descriptors.items; calls = t.calls.items; rounds = t.rounds } };
+    ghost view = { λ t. record { form = t.form; names = t.names.items; descriptors = t.descriptors.items; calls = t.calls.items; rounds = t.rounds; tokens = t.tokens.items } };
 
     ghost use Rattle.nv_trace.specs.Shape.{IsWellFormed};
 
-    ghost invariant = { λ t. IsWellFormed (record { form = t.form; names = t.names.items; descriptors = t.descriptors.items; calls = t.calls.items; rounds = t.rounds }) };
+    ghost invariant = { λ t. IsWellFormed (record { form = t.form; names = t.names.items; descriptors = t.descriptors.items; calls = t.calls.items; rounds = t.rounds; tokens = t.tokens.items }) };
 }
 
 impl Trace {
@@ -87,6 +83,7 @@ impl Trace {
             descriptors: Vec::new(alloc),
             calls: Vec::new(alloc),
             rounds: 0,
+            tokens: Vec::new(alloc),
         }
     }
 
@@ -119,10 +116,18 @@ impl Trace {
         self.rounds
     }
 
+    /// The tokens of its `steps` lines, in their order.
+    pub fn tokens(&self) -> &[Token]
+        ensures tokens { result.now ≡ self.now.tokens }
+        ensures well_formed { IsWellFormed self.now }
+    {
+        &self.tokens
+    }
+
     /// How many threads make its calls: one more than the largest of their numbers, and at least one.
     pub fn thread_count(&self) -> u64
         ensures count { result ≡ thread_count self.now }
-        ensures few { result ≤ last_thread self.now.form + 1 }
+        ensures few { result ≤ last_thread + 1 }
     {
         let mut count: u64 = 1;
         for traced in &self.calls {
@@ -138,11 +143,18 @@ impl Trace {
         self.form
     }
 
-    /// Whether a line has come that declares nothing: a call or a `round` line.
+    /// Whether a `steps` line has come.
+    pub(crate) fn has_tokens(&self) -> bool
+        ensures { result ≡ has_tokens self.now }
+    {
+        !self.tokens.is_empty()
+    }
+
+    /// Whether a line has come that declares nothing: a call, a `round` or a `steps` line.
     pub(crate) fn has_begun(&self) -> bool
         ensures { result ≡ has_begun self.now }
     {
-        !self.calls.is_empty() || self.rounds > 0
+        !self.calls.is_empty() || self.rounds > 0 || self.has_tokens()
     }
 
     /// What it takes memory from.
@@ -150,8 +162,8 @@ impl Trace {
         self.alloc
     }
 
-    /// Takes one more statement. Without memory nothing changes.
-    pub(crate) fn push(&mut self, number: u64, statement: Statement) -> Result<(), NoMemory>
+    /// Takes one more statement, which the line of this number says. Without memory nothing changes.
+    pub fn push(&mut self, number: u64, statement: Statement) -> Result<(), NoMemory>
         requires { MayFollow self.old statement }
         ensures pushed { OnOk result (self.new ≡ with_statement self.old number statement) }
         ensures unchanged { OnErr result (self.new ≡ self.old) }
@@ -167,6 +179,17 @@ impl Trace {
             })?,
             Statement::Round => self.rounds = self.rounds.saturating_add(1),
         }
+        Ok(())
+    }
+
+    /// Takes more tokens. Without memory nothing changes.
+    pub(crate) fn push_tokens(&mut self, tokens: &[Token]) -> Result<(), NoMemory>
+        requires form { has_steps self.old.form ≡ true }
+        requires within { All IsTokenWithin tokens.now }
+        ensures pushed { OnOk result (self.new ≡ with_tokens self.old tokens.now) }
+        ensures unchanged { OnErr result (self.new ≡ self.old) }
+    {
+        self.tokens.extend_from_slice(tokens)?;
         Ok(())
     }
 }
