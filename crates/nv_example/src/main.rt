@@ -1,5 +1,5 @@
-//! The library by an example. Ann and Bob, two threads, write records to one file through a mount over a folder, which the first
-//! word names, and read them back; then the log is carried to the file, and the mount is closed.
+//! Trusted edge: a program that shows the library. Ann and Bob, two threads, write records to one file through a mount over a
+//! folder, which the first word names, and read them back; then the log is carried to the file, and the mount is closed.
 #![tactic(auto)]
 
 ghost use Rattle.std.specs.Prelude.{◌≡◌, ◌<◌, [], false, IfSome};
@@ -19,7 +19,9 @@ use nv_open::{Opened, open};
 use nv_plain::{Bytes, Mode};
 use nv_pmem::{Geometry, Lines};
 use nv_store::Backing;
-use nv_table::{Pass, Workspace, join_pass, passes_stay_between_calls, split_pass};
+use nv_table::{
+    Pass, Workspace, a_pass_is_alone_again, join_pass, passes_stay_between_calls, split_pass,
+};
 use std::alloc::Global;
 use std::env;
 use std::sync::Wait;
@@ -77,6 +79,7 @@ fn call<R: Threads + Wait + Print + Sync, L: Lines + Drop + Send, B: Backing + D
     ensures alone { IsAlone ann.new.view }
 {
     passes_stay_between_calls();
+    a_pass_is_alone_again();
     let mut ann_desk = Workspace::new(alloc, mount.board().layout())?;
     let mut bob_desk = Workspace::new(alloc, mount.board().layout())?;
     let mut bob = split_pass(alloc, mount.board(), ann)?;

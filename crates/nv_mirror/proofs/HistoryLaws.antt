@@ -11,9 +11,9 @@ use Rattle.nv_core.proofs.state.Changes.{by_number}
 use Rattle.nv_core.proofs.steps.Inherits.{inherits}
 use Rattle.nv_core.proofs.steps.RunLaws.{after_parts}
 use Rattle.nv_core.proofs.invariant.HistoryLaws.{begins_all, grown}
+use Rattle.nv_core.proofs.invariant.KeepsHistory.{begins_more}
 use Rattle.nv_core.specs.steps.Opening.{opening}
 use Rattle.nv_table.specs.state.Opened.{Opened, mount_of, state_of}
-use Rattle.nv_table.proofs.state.ViewLaws.{begins_on}
 
 -- one of two
 chosen : {T : Type 0} (P : T → Type 0) (b : Bool) (one other : T) → P one → P other → P (if b then one else other)
@@ -26,14 +26,14 @@ AllSeen core = (number : ℕ) → IsPrefix (core.passes number).seen core.histor
 
 seen_here : (sizes : Sizes) (by : ℕ) (core : Core) (found : ℕ) (op : Op) → AllSeen core → IsPrefix (changed_pass sizes by core op found).seen (core.history ++ added by (core.passes by) op)
 seen_here sizes by core found (Place reply) all = ([], sym (append-nil _))
-seen_here sizes by core found Split all = begins_on _ core.history [] (inherits (λ p. IsPrefix p.seen core.history) core
+seen_here sizes by core found Split all = begins_more _ core.history [] (inherits (λ p. IsPrefix p.seen core.history) core
     (λ a b x y. chosen (λ l. IsPrefix l core.history) (nat_lt (length a.seen) (length b.seen)) b.seen a.seen y x) all (λ p is. is))
-seen_here sizes by core found op all = begins_on (core.passes by).seen core.history [] (all by)
+seen_here sizes by core found op all = begins_more (core.passes by).seen core.history [] (all by)
 
 seen_step : (sizes : Sizes) (by : ℕ) (core : Core) (found : ℕ) (op : Op) → AllSeen core → AllSeen (after_step sizes by op found core)
 seen_step sizes by core found op all =
     by_number (λ n (p : Pass). IsPrefix p.seen (core.history ++ added by (core.passes by) op)) core.passes (changes by core.made op) (changed_pass sizes by core op found)
-    (seen_here sizes by core found op all) (λ n ne. begins_on (core.passes n).seen core.history (added by (core.passes by) op) (all n))
+    (seen_here sizes by core found op all) (λ n ne. begins_more (core.passes n).seen core.history (added by (core.passes by) op) (all n))
 
 seen_act : (sizes : Sizes) (by : ℕ) (core : Core) (act : Act) → AllSeen core → AllSeen (after_act sizes by act core)
 seen_act sizes by core (BeginsCall call op found) all =

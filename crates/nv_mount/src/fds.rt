@@ -84,7 +84,8 @@ impl Fds {
         self.fds.is_empty()
     }
 
-    /// Opens one more, and gives its number.
+    /// Opens one more, and gives its number, which is how many there were, from 0 on. `file` is the place of the file among the
+    /// region's names, from 0 on, in the header's order; whether there is one is asked where the mount is opened.
     pub fn open(&mut self, file: u64, mode: Mode) -> Result<u64, FdError>
         ensures number { IfOk result (λ fd. fd ≡ length self.old) }
         ensures opened { OnOk result (self.new ≡ self.old ++ record { file = file; mode = mode } ∷ []) }

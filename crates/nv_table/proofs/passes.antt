@@ -2,4 +2,6 @@
 pub mod LeftLaws
 pub mod SeatLaws
 pub mod BetweenLaws
+pub mod AloneAgain
 pub mod AloneLaws
+pub mod MomentLaws

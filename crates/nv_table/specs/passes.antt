@@ -3,3 +3,4 @@ pub mod Seats
 pub mod PassesMade
 pub mod Alone
 pub mod BetweenCalls
+pub mod Moments

@@ -1,5 +1,5 @@
 //! What of the core's laws the table rests on, and laws of passes that calls rest on.
-ghost use Rattle.nv_table.specs.passes.Alone.{NothingComesBetween, StaysAlone, NoLockIsHeld, LoadsTellHead, HeadStaysKnown, NoDrawIsLost};
+ghost use Rattle.nv_table.specs.passes.Alone.{CallsLeaveAlone, HeadStaysKnown, JoinsLeaveAlone, LoadsTellHead, NoDrawIsLost, NoLockIsHeld, NothingComesBetween, StaysAlone};
 ghost use Rattle.nv_table.specs.passes.BetweenCalls.{NewPassIsIdle, SplitsLeaveIdle, JoinsLeaveIdle};
 ghost use Rattle.nv_table.specs.invariant.CoreLaws.{CoreLaws};
 
@@ -35,3 +35,9 @@ pub fn a_pass_alone_is_not_refused()
     runs_are_sound();
     passes_are_left_alone();
 }
+
+/// Pass 0 stays alone through calls of its own, and is alone again when it has taken in the one pass that it made.
+pub fn a_pass_is_alone_again()
+    ensures calls { CallsLeaveAlone }
+    ensures join { JoinsLeaveAlone }
+{}

@@ -3,12 +3,13 @@ ghost use Rattle.std.specs.Prelude.{◌≡◌, ◌≢◌, ◌+◌, ◌<◌, true
 ghost use Rattle.nv_core.specs.state.Words.{Word, keeps_something};
 ghost use Rattle.nv_core.specs.state.Passes.{times};
 ghost use Rattle.nv_table.specs.state.Views.{pass_of, made_of, ended_of, still_owned, numbers};
+ghost use Rattle.nv_table.specs.passes.Moments.{SeesTold, forgetful, told_back};
 ghost use Rattle.nv_table.specs.passes.Seats.{parent, child, exported, imported, joined, spent};
 
 use crate::laws::laws_of_the_core;
 use crate::rule::{Opening, TableInvariantRule};
 use crate::{Shown, View};
-use atomic_table::{Join, Seat, Shared, Split};
+use atomic_table::{Join, Play, Seat, Shared, Split};
 use std::marker::PhantomData;
 use std::snapshot::Snapshot;
 
@@ -97,6 +98,58 @@ pub(crate) fn import_view<S: Shown>(
     ensures imported { seat.new.me ≡ (imported seat.old.me.0 exported.me.0, seat.old.me.1) }
 {
     shared.join_seat::<Hearing>(seat, exported)
+}
+
+/// How a seat forgets what an exported view told it last, and what view it gives back.
+pub struct Forgetting {
+    marker: PhantomData<()>,
+}
+
+impl Split<View> for Forgetting {
+    ghost left = { forgetful };
+
+    ghost right = { told_back };
+}
+
+/// A seat forgets what an exported view told it last.
+pub(crate) fn forget<S: Shown>(
+    shared: &Shared<S, View, Snapshot<Opening<S>>, TableInvariantRule<S>>,
+    seat: &mut Seat<S, View>,
+) -> Seat<S, View>
+    requires table { seat.old.table_id ≡ shared.now.table_id }
+    requires place { 0 < shared.now.table_id.words }
+    ensures table { seat.new.table_id ≡ seat.old.table_id }
+    ensures seat { seat.new.id ≡ seat.old.id }
+    ensures forgetful { seat.new.me ≡ (forgetful seat.old.me.0, seat.old.me.1) }
+    ensures same_table { result.table_id ≡ seat.old.table_id }
+    ensures told_back { result.me ≡ (told_back seat.old.me.0, []) }
+{
+    shared.split_seat::<Forgetting>(seat)
+}
+
+/// What a look at the table tells.
+pub struct Looking {
+    marker: PhantomData<()>,
+}
+
+impl<S> Play<S, View> for Looking {
+    ghost then = { λ step old found new. (new ≡ old) × SeesTold old.0 };
+}
+
+/// A seat looks at the table, which changes nothing.
+pub(crate) fn look<S: Shown>(
+    shared: &Shared<S, View, Snapshot<Opening<S>>, TableInvariantRule<S>>,
+    seat: &mut Seat<S, View>,
+)
+    requires table { seat.old.table_id ≡ shared.now.table_id }
+    requires place { 0 < shared.now.table_id.words }
+    requires live { seat.old.me.0.live ≡ true }
+    ensures table { seat.new.table_id ≡ seat.old.table_id }
+    ensures seat { seat.new.id ≡ seat.old.id }
+    ensures same { seat.new.me ≡ seat.old.me }
+    ensures told { SeesTold seat.old.me.0 }
+{
+    shared.load::<Looking>(seat, 0);
 }
 
 /// How pass 0 takes another pass's seat.

@@ -1,13 +1,14 @@
 //! How passes are made and taken in, and how one tells another the run so far.
 ghost use Rattle.std.specs.Prelude.{◌≡◌, ◌≢◌, ◌+◌, ◌<◌, ◌≤◌, ◌^◌, List, [], ◌∷◌, ℕ, length, IfOk, OnErr};
 ghost use Rattle.nv_core.specs.state.Words.{Word};
+ghost use Rattle.nv_table.specs.passes.Moments.{SharesMoment, longer};
 ghost use Rattle.nv_table.specs.passes.PassesMade.{IsShownStill, IsSplit, PutsBack, IsTakenIn, imported_by};
 ghost use Rattle.nv_table.specs.state.Views.{pass_of, made_of};
 ghost use Rattle.nv_table.specs.state.States.{IsOf};
 
 use crate::pass::or_else;
 use crate::passing::{join, leave, split};
-use crate::seating::{import_view as import_into_seat, part, take_in, tell};
+use crate::seating::{forget, import_view as import_into_seat, look, part, take_in, tell};
 use crate::{Board, Pass, Slot, View};
 use atomic_table::Seat;
 use nv_core::{passes_are_left_alone, runs_are_sound};
@@ -190,4 +191,26 @@ pub fn import_view<L: Lines, B: Backing>(
 {
     let ExportedView { seat } = exported;
     import_into_seat(&board.table.shared, &mut to.seat, seat);
+}
+
+/// A pass looks at an exported view: there is a moment that it shares with it, at which the run so far began with that view's, and in which the pass had seen all of its own. So no step of the pass that
+/// comes later lies in that run. The pass stays as it is; the view that comes back tells the longer one of that run and of what the pass has seen.
+pub fn look_at<L: Lines, B: Backing>(
+    board: &Board<L, B>,
+    pass: &mut Pass<L, B>,
+    exported: ExportedView<L, B>,
+) -> ExportedView<L, B>
+    requires board { IsOf board.now pass.old }
+    requires exported { exported.table ≡ board.now.table }
+    ensures pass { pass.new ≡ pass.old }
+    ensures table { result.table ≡ board.now.table }
+    ensures longer { result.run ≡ longer pass.old.view.run exported.run }
+    ensures shares { SharesMoment pass.old.view exported.run }
+{
+    let ExportedView { seat } = exported;
+    import_into_seat(&board.table.shared, &mut pass.seat, seat);
+    look(&board.table.shared, &mut pass.seat);
+    ExportedView {
+        seat: forget(&board.table.shared, &mut pass.seat),
+    }
 }

@@ -28,10 +28,10 @@ pub record Views (opened : Opened) (run : List Event) (views : List PassView) : 
   pub apart : AreApart views
   pub keeper : (seat : ℕ) (view : PassView) → get_elem? views seat ≡ some view → view.live ≡ true → view.number ≡ 0 → KeeperKnows opened run views view
 
-views_of : {S : Type 0} (shown : S → Value) (opened : Opened) (s : State S PassView) (shows : TableInvariant shown opened s) → Views opened shows.run s.views
+pub views_of : {S : Type 0} (shown : S → Value) (opened : Opened) (s : State S PassView) (shows : TableInvariant shown opened s) → Views opened shows.run s.views
 views_of shown opened s shows = record { seen = shows.seen; knows = shows.knows; apart = shows.apart; keeper = shows.keeper }
 
-with_views : {S : Type 0} (shown : S → Value) (opened : Opened) (s : State S PassView) (shows : TableInvariant shown opened s) (views : List PassView) → Views opened shows.run views
+pub with_views : {S : Type 0} (shown : S → Value) (opened : Opened) (s : State S PassView) (shows : TableInvariant shown opened s) (views : List PassView) → Views opened shows.run views
     → TableInvariant shown opened record { words = s.words; homes = s.homes; views = views }
 with_views shown opened s shows views them = record {
   mount = shows.mount;
@@ -48,12 +48,12 @@ with_views shown opened s shows views them = record {
 }
 
 -- one that is dead is not live
-not_live : (view : PassView) → view.live ≡ false → view.live ≡ true → ⊥
+pub not_live : (view : PassView) → view.live ≡ false → view.live ≡ true → ⊥
 not_live view dead live = true≢false (sym live ∙ dead)
 
 -- ---- one more view
 
-snoc_cases : {A : Type 0} (l : List A) (a b : A) (j : ℕ) → get_elem? (l ++ a ∷ []) j ≡ some b → (get_elem? l j ≡ some b) ⊎ ((j ≡ length l) × (a ≡ b))
+pub snoc_cases : {A : Type 0} (l : List A) (a b : A) (j : ℕ) → get_elem? (l ++ a ∷ []) j ≡ some b → (get_elem? l j ≡ some b) ⊎ ((j ≡ length l) × (a ≡ b))
 snoc_cases [] a b zero e = inr (refl, some-injective a b e)
 snoc_cases [] a b (suc j) e = absurd (some-ne-none b (sym e))
 snoc_cases (x ∷ xs) a b zero e = inl e

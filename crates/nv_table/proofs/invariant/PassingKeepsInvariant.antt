@@ -15,13 +15,14 @@ use Rattle.nv_core.specs.state.Core.{Core, with_value, made_stepped, ended_stepp
 use Rattle.nv_core.specs.steps.Events.{TakesStep, Event, EventEnabled, after_event}
 use Rattle.nv_core.specs.steps.Frames.{StaysKnown}
 use Rattle.nv_core.proofs.state.Changes.{by_word}
+use Rattle.nv_core.proofs.invariant.KeepsHistory.{begins_more}
 use Rattle.nv_table.specs.state.Layout.{slot_total, cell_of}
 use Rattle.nv_table.specs.state.Opened.{Opened, state_of}
 use Rattle.nv_table.specs.state.Views.{PassView, numbers, still_owned, KnowsRun, AllBegin}
 use Rattle.nv_table.specs.invariant.TableInvariant.{IsKept, AtHome, OutWith, KeeperKnows, TableInvariant}
 use Rattle.nv_table.specs.passes.Seats.{PassingTells, after_passing}
 use Rattle.nv_table.specs.invariant.CoreLaws.{CoreLaws}
-use Rattle.nv_table.proofs.state.ViewLaws.{begins_on, begins_self, all_begin_on, sees_self, made_on, made_seen, told_on}
+use Rattle.nv_table.proofs.state.ViewLaws.{begins_self, all_begin_on, sees_self, made_on, made_seen, told_on}
 use Rattle.nv_table.proofs.invariant.Going.{own_more, sees_more, over_more, after_one, run_one}
 
 -- ---- seats
@@ -181,7 +182,7 @@ module _ {S : Type 0} (laws : CoreLaws) (shown : S → Value) (s : State S PassV
         seen = λ seat view at_now. elim (at_set s.views id seat next_of view at_now) [
           | inl is ↦ subst (λ (w : PassView). IsPrefix w.run (shows.run ++ event_of ∷ []) × AllBegin w.told (shows.run ++ event_of ∷ [])) is.1
               (begins_self (shows.run ++ event_of ∷ []), all_begin_on v.told shows.run (event_of ∷ []) (shows.seen id v at).1)
-          | inr is ↦ let seen = shows.seen seat view is.1 in (begins_on view.run shows.run (event_of ∷ []) seen.0, all_begin_on view.told shows.run (event_of ∷ []) seen.1)
+          | inr is ↦ let seen = shows.seen seat view is.1 in (begins_more view.run shows.run (event_of ∷ []) seen.0, all_begin_on view.told shows.run (event_of ∷ []) seen.1)
         ];
         knows = λ seat view at_now live_now. elim (at_set s.views id seat next_of view at_now) [
           | inl is ↦ subst (KnowsRun v.opened (shows.run ++ event_of ∷ [])) is.1 knows_next

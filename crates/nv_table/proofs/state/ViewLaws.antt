@@ -15,6 +15,7 @@ use Rattle.nv_core.specs.steps.Events.{Event, Act, BeginsCall, TakesStep, CallsD
 use Rattle.nv_core.specs.steps.Opening.{opening}
 use Rattle.nv_core.specs.steps.Frames.{StaysKnown}
 use Rattle.nv_core.specs.steps.Opening.{IsMount}
+use Rattle.nv_core.proofs.invariant.KeepsHistory.{begins_more}
 use Rattle.nv_core.proofs.steps.RunLaws.{after_parts}
 use Rattle.nv_table.specs.state.Opened.{Opened, mount_of, IsRunOf, state_of}
 use Rattle.nv_table.specs.state.Views.{Past, PassView, numbers, AllBegin, SeesAll, KnowsRun}
@@ -23,16 +24,13 @@ use Rattle.nv_table.specs.invariant.CoreLaws.{CoreLaws}
 
 -- ---- runs that go on
 
-pub begins_on : {T : Type 0} (first whole more : List T) → IsPrefix first whole → IsPrefix first (whole ++ more)
-begins_on first whole more begins = (begins.0 ++ more, ap (λ l. l ++ more) begins.1 ∙ append_assoc first begins.0 more)
-
 pub begins_self : {T : Type 0} (whole : List T) → IsPrefix whole whole
 begins_self whole = ([], sym (append-nil whole))
 
 -- and the runs that it was told of still begin it
 pub all_begin_on : (notes : List (List Event)) (whole more : List Event) → AllBegin notes whole → AllBegin notes (whole ++ more)
 all_begin_on [] whole more all = tt
-all_begin_on (exported ∷ rest) whole more all = (begins_on exported whole more all.0, all_begin_on rest whole more all.1)
+all_begin_on (exported ∷ rest) whole more all = (begins_more exported whole more all.0, all_begin_on rest whole more all.1)
 
 pub own_both : (number : ℕ) (run more : List Event) → own number (run ++ more) ≡ own number run ++ own number more
 own_both number run more = filter-append (λ event. event.by == number) run more
@@ -168,7 +166,7 @@ module _ {S : Type 0} (shown : S → Value) (opened : Opened) (state : State S P
     | inl here ↦
         subst (λ (s : PassView). IsPrefix s.run (shows.run ++ more) × AllBegin s.told (shows.run ++ more)) here.1
         (begins_self (shows.run ++ more), all_begin_on view.told shows.run more (shows.seen id view there).1)
-    | inr else_ ↦ let seen = shows.seen seat one else_.1 in (begins_on one.run shows.run more seen.0, all_begin_on one.told shows.run more seen.1)
+    | inr else_ ↦ let seen = shows.seen seat one else_.1 in (begins_more one.run shows.run more seen.0, all_begin_on one.told shows.run more seen.1)
   ]
 
   -- another seat is another pass's

@@ -4,11 +4,12 @@ use Rattle.nv_plain.specs.declared.call.FileCall.{FileCall}
 use Rattle.nv_core.specs.state.Words.{Word, HEAD}
 use Rattle.nv_core.specs.steps.Ops.{Op, Load, Take, Draw}
 use Rattle.nv_core.specs.steps.Opening.{IsMount}
-use Rattle.nv_table.specs.invariant.Idle.{TakenHoldNothing}
+use Rattle.nv_table.specs.invariant.Idle.{IsIdle, IsLater, TakenHoldNothing}
 use Rattle.nv_table.specs.state.Opened.{mount_of, state_of}
 use Rattle.nv_table.specs.invariant.BetweenSteps.{KnowsTaken}
 use Rattle.nv_table.specs.steps.StepContracts.{Postcondition}
 use Rattle.nv_table.specs.state.Views.{PassView, pass_of, made_of}
+use Rattle.nv_table.specs.passes.PassesMade.{IsSplit, IsTakenIn}
 use Rattle.nv_table.specs.state.States.{PassState}
 
 -- Pass 0 has taken in all that it made, and none of these holds a cell.
@@ -54,3 +55,14 @@ abbrev pub NoDrawIsLost : Type 0
 NoDrawIsLost =
     (old new : PassState) (found : ℕ) → IsMount (mount_of old.view.opened) → KnowsTaken old.view → IsAlone old.view → KnowsHead old.view
     → Postcondition old None Draw found new → found ≡ (pass_of old.view).head
+
+-- ---- laws, of its calls and of another pass
+
+-- Between calls of its own it is alone as before.
+abbrev pub CallsLeaveAlone : Type 0
+CallsLeaveAlone = (old new : PassState) → IsLater old new → IsIdle new → IsAlone old.view → IsAlone new.view
+
+-- It is alone again where it has made one other pass, has made calls of its own beside that, and has taken it in.
+abbrev pub JoinsLeaveAlone : Type 0
+JoinsLeaveAlone =
+    (old split kept new other back : PassState) → IsAlone old.view → IsSplit old split other → IsLater split kept → IsTakenIn kept back new → IsIdle new → IsAlone new.view
