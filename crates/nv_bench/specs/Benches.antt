@@ -22,6 +22,8 @@ pub record BenchState : Type 0 where
   pub settled : ℕ
   -- the parts as power left them when it last went off; none where it doesn't tell, or power never went off
   pub left : Option (List Part)
+  -- the picks that power went off with, the last one first
+  pub picked : List Pick
 
 -- with another count of faults
 abbrev pub with_faults : ℕ → BenchState → BenchState
@@ -59,4 +61,5 @@ powered_off pick bench = record bench {
   told = option_map (powered pick) bench.told;
   settled = bench.faults;
   left = option_map (λ holding. (powered pick holding).parts) bench.told;
+  picked = pick ∷ bench.picked;
 }

@@ -42,11 +42,12 @@ mem_state bench = record {
   armed = bench.armed;
   settled = bench.settled;
   left = latest_of bench.left.states;
+  picked = bench.picked.states;
 }
 
 -- a bench that holds this, of which nothing was ever lent, armed or powered off, and that has never failed
 abbrev pub new_state : Holding → BenchState
-new_state holding = record { told = Some holding; is_open = false; lent = []; faults = 0; arms = 0; armed = 0; settled = 0; left = None }
+new_state holding = record { told = Some holding; is_open = false; lent = []; faults = 0; arms = 0; armed = 0; settled = 0; left = None; picked = [] }
 
 -- stores in memory are whole
 stores_whole : (names : List (List ℕ)) (stores : List MemStore) → All (λ (named : NamedStore). IsWholeStore named.store) (named_stores names (map store_now stores))

@@ -1,4 +1,4 @@
-//! The host's files that are in use, so that no two names are one file.
+//! Trusted edge: the host's files that are in use, so that no two names are one file.
 use crate::BenchError;
 use std::alloc::Global;
 use std::fs;

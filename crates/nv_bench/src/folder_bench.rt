@@ -1,4 +1,4 @@
-//! A bench over the files of a folder.
+//! Trusted edge: a bench over the files of a folder.
 ghost use Rattle.std.specs.Prelude.{◌≡◌, ◌+◌, List, length, map, sum_by, true, false, None, IfOk, OnOk, OnErr};
 ghost use Rattle.nv_plain.specs.Faults.{Rose};
 ghost use Rattle.nv_store.specs.FileStore.{store_faults};

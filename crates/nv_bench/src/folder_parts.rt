@@ -1,4 +1,4 @@
-//! The parts of a region that stand in a folder.
+//! Trusted edge: the parts of a region that stand in a folder.
 ghost use Rattle.std.specs.Prelude.{◌≡◌, sum_by, IfOk};
 ghost use Rattle.nv_plain.specs.Faults.{saturated};
 ghost use Rattle.nv_pmem.specs.FilePart.{part_faults};

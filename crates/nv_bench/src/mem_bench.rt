@@ -30,6 +30,8 @@ pub struct MemBench {
     settled: u64,
     // The parts as power left them, each time that it went off.
     left: Past<Vec<MemPart>>,
+    // The picks that it went off with.
+    picked: Past<Pick>,
     ghost home: { is_open ≡ true → vec_len parts ≡ 0 },
     // So stores are taken back without memory.
     ghost places: { HasPlaces (vec_len lent) bench_stores },
@@ -63,6 +65,7 @@ impl MemBench {
             armed: 0,
             settled: 0,
             left: Past::new(),
+            picked: Past::new(),
         })
     }
 
@@ -96,6 +99,7 @@ impl MemBench {
             armed: 0,
             settled: 0,
             left: Past::new(),
+            picked: Past::new(),
         })
     }
 
@@ -202,6 +206,7 @@ impl Bench for MemBench {
         self.fuse.disarm();
         self.settled = self.faults();
         self.left.note(&self.parts);
+        self.picked.note(&pick);
         Ok(())
     }
 

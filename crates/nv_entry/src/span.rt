@@ -27,7 +27,8 @@ pub fn piece_count(at: u64, len: u64, page: u64) -> u64
     }
 }
 
-/// Piece `i` of a write of `len` bytes to `at`, counted from 0 and rising.
+/// Piece `i` of a write of `len` bytes to `at`, counted from 0 and rising. `at` is an offset in the file, `len` and `page` count
+/// bytes; which file it is doesn't matter. The piece lies in page `at` / `page` + `i` of the file.
 pub fn cut(at: u64, len: u64, page: u64, i: u64) -> Span
     requires page { IsPageSize page }
     requires range { at + len ≤ 2 ^ 60 }

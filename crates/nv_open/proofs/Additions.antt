@@ -21,7 +21,7 @@ pub if_err_never : {T E : Type 0} (P Q : E → Type 0) (result : Result T E) →
 if_err_never P Q (Ok value) never = tt
 if_err_never P Q (Err error) never = λ is. absurd (never is)
 
-are_now_append : {S : Type 0} (row more : List (List S)) (states others : List S) → AreNow row states → AreNow more others → AreNow (row ++ more) (states ++ others)
+pub are_now_append : {S : Type 0} (row more : List (List S)) (states others : List S) → AreNow row states → AreNow more others → AreNow (row ++ more) (states ++ others)
 are_now_append [] more [] others are those = those
 are_now_append [] more (state ∷ states) others are those = absurd are
 are_now_append (history ∷ row) more [] others are those = absurd are

@@ -47,7 +47,7 @@ begun_before geometry asked parts page entries names next begun = record {
 blank_files : (parts : List Part) (names : List (List ℕ)) (stores : List NamedStore) → is_blank parts ≡ true → files_named parts names stores ≡ files_of (stores_named names stores)
 blank_files parts names stores is = ap (λ (test : Bool). cond test (files_of (stores_named names stores)) (recovered (row_words parts) (files_of (stores_named names stores))).files) is
 
-files_cases : (geometry : Geometry) (parts : List Part) (names : List (List ℕ)) (stores : List NamedStore) (blank : Bool) → blank ≡ is_blank parts → files_named (opened (Some geometry) parts) names stores ≡ files_named parts names stores
+pub files_cases : (geometry : Geometry) (parts : List Part) (names : List (List ℕ)) (stores : List NamedStore) (blank : Bool) → blank ≡ is_blank parts → files_named (opened (Some geometry) parts) names stores ≡ files_named parts names stores
 files_cases geometry parts names stores true is =
     blank_files (opened (Some geometry) parts) names stores (blank_stays geometry parts ∙ sym is) ∙ sym (blank_files parts names stores (sym is))
 files_cases geometry parts names stores false is = ap (λ (these : List Part). files_named these names stores) (opened_kept geometry parts (sym is))

@@ -15,3 +15,8 @@ pub mod AsHeld
 pub mod TestBenches
 pub mod Tells
 pub mod Looks
+pub mod Homes
+pub mod Stands
+pub mod GivenBack
+pub mod Partly
+pub mod PartlyBack

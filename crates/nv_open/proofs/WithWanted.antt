@@ -72,7 +72,7 @@ lent_more count all old mid new lent more = record {
 
 -- ---- the new names
 
-not_contained : (known : List (List ℕ)) (name : List ℕ) → is_known known name ≡ false → ¬ (Contains known name)
+pub not_contained : (known : List (List ℕ)) (name : List ℕ) → is_known known name ≡ false → ¬ (Contains known name)
 not_contained known name absent (k, inside, is) =
     let found = known_at known k name inside (get_or_default known k [] name inside ∙ is) in
     let never : true ≡ false = sym found ∙ absent in
@@ -87,7 +87,7 @@ new_stores_cases known name rest stores false test same =
     ∙ ap (λ (others : List Store). store_of name stores ∷ others) same
 
 -- their stores are none of those that are known
-new_stores : (known wanted : List (List ℕ)) (stores : List NamedStore) → stores_named (new_names known wanted) (without_stores known stores) ≡ stores_named (new_names known wanted) stores
+pub new_stores : (known wanted : List (List ℕ)) (stores : List NamedStore) → stores_named (new_names known wanted) (without_stores known stores) ≡ stores_named (new_names known wanted) stores
 new_stores known [] stores = refl
 new_stores known (name ∷ wanted) stores =
     new_stores_cases known name (new_names known wanted) stores (is_known known name) refl (new_stores known wanted stores)

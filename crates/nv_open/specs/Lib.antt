@@ -5,3 +5,4 @@ pub mod Held
 pub mod Adding
 pub mod Begun
 pub mod Looking
+pub mod Unopened

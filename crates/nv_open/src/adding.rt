@@ -1,17 +1,19 @@
 //! The names that are wanted and not there are added.
 ghost use Rattle.std.specs.Prelude.{◌≡◌, ◌+◌, ◌++◌, length, map, sum_by, Err, IfOk, IfErr};
 ghost use Rattle.nv_plain.specs.Layouts.{version_1};
+ghost use Rattle.nv_pmem.specs.Rows.{InEachRowImage};
 ghost use Rattle.nv_header.specs.FileNames.{AreFileNames};
 ghost use Rattle.nv_header.specs.Changes.{parts_after_format};
 ghost use Rattle.nv_recover.specs.Telling.{AllTell};
 ghost use Rattle.nv_open.specs.Adding.{new_names};
 ghost use Rattle.nv_open.specs.Causes.{RegionHasCause};
+ghost use Rattle.nv_open.specs.Unopened.{HasFirstNames, TellRow};
 ghost use Rattle.nv_open.specs.declared.error.OpenError.TheVariants as error;
 
 use crate::OpenError;
 use nv_header::{Names, Region, add_file};
 use nv_plain::{Bytes, NoMemory};
-use nv_pmem::Lines;
+use nv_pmem::{Lines, rows_have_states};
 use std::alloc::Global;
 
 /// Of the names that are wanted those that aren't known, in their order.
@@ -41,8 +43,11 @@ pub(crate) fn add_names<L: Lines + Drop>(
     ensures many { IfOk result (λ added. length added.parts.items ≡ length region.parts.items) }
     ensures tell { AllTell (map L.history region.parts.items) → IfOk result (λ added. AllTell (map L.history added.parts.items)) }
     ensures never { (why : _) → IfErr result (λ failed. ¬ (failed.1 ≡ error.Refused why)) }
+    ensures left { AllTell (map L.history region.parts.items) → IfErr result (λ failed.
+        TellRow (InEachRowImage (HasFirstNames region.geometry.page region.geometry.entries region.names names.now region.next)) (map L.history failed.0.items)) }
     ensures cause { RegionHasCause (sum_by L.fault_count region.parts.items) (sum_by L.fault_count (parts_after_format result)) result }
 {
+    rows_have_states();
     let mut region = region;
     for name in names.as_slice() {
         match add_file(alloc, region, name.as_slice()) {

@@ -2,21 +2,22 @@
 ghost use Rattle.std.specs.Prelude.{◌≡◌, All, true, length, map, sum_by, IfOk, IfErr};
 ghost use Rattle.nv_plain.specs.Layouts.{version_1};
 ghost use Rattle.nv_plain.specs.Faults.{HasCause};
-ghost use Rattle.nv_pmem.specs.Rows.{RowTells, AreOnlyRead};
+ghost use Rattle.nv_pmem.specs.Rows.{RowTells, AreOnlyRead, InEachRowImage};
 ghost use Rattle.nv_bench.specs.Opening.{is_blank};
 ghost use Rattle.nv_header.specs.Changes.{parts_after_format};
 ghost use Rattle.nv_header.specs.Laws.{HasSpare};
 ghost use Rattle.nv_header.specs.Needs.{HasLines};
-ghost use Rattle.nv_header.specs.Regions.{IsBlankRow};
+ghost use Rattle.nv_header.specs.Regions.{IsBlankOrFormatted, IsBlankRow};
 ghost use Rattle.nv_recover.specs.Telling.{AllTell};
 ghost use Rattle.nv_open.specs.Begun.{IsFormatted};
 ghost use Rattle.nv_open.specs.Causes.{RegionHasCause};
 ghost use Rattle.nv_open.specs.Refusals.{rooms_of, IsBadHeader};
+ghost use Rattle.nv_open.specs.Unopened.{TellRow};
 ghost use Rattle.nv_open.specs.declared.error.OpenError.TheVariants as error;
 
 use crate::OpenError;
 use nv_header::{Head, Names, Region, check_lines, format, needed_lines_make_parts};
-use nv_pmem::{Geometry, Lines, RegionFault, loads_follow_calls};
+use nv_pmem::{Geometry, Lines, RegionFault, loads_follow_calls, rows_have_states};
 use std::alloc::Global;
 
 /// Formats a blank region. A bench that tells nothing may have given parts that lack lines; they are refused.
@@ -34,8 +35,11 @@ pub(crate) fn format_parts<L: Lines + Drop>(
         → RowTells (map L.history parts.items) (λ told. ¬ HasLines version_1 geometry.page geometry.entries (rooms_of told))) }
     ensures header { (why : _) → IfErr result (λ failed. failed.1 ≡ error.Refused why → IsBadHeader why) }
     ensures kept { (why : _) → IfErr result (λ failed. failed.1 ≡ error.Refused why → map L.history failed.0.items ≡ map L.history parts.items) }
+    ensures left { AllTell (map L.history parts.items) → IfErr result (λ failed.
+        TellRow (InEachRowImage (IsBlankOrFormatted version_1 geometry.page geometry.entries)) (map L.history failed.0.items)) }
     ensures cause { RegionHasCause (sum_by L.fault_count parts.items) (sum_by L.fault_count (parts_after_format result)) result }
 {
+    rows_have_states();
     let head = Head {
         geometry,
         names: Names::new(alloc),

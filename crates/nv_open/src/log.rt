@@ -1,8 +1,9 @@
 //! The log of a region that is lent is recovered.
-ghost use Rattle.std.specs.Prelude.{◌≡◌, ◌+◌, List, length, map, sum_by, All, Err, IfOk};
+ghost use Rattle.std.specs.Prelude.{◌≡◌, ◌+◌, List, length, map, sum_by, All, Err, IfOk, IfErr};
 ghost use Rattle.nv_plain.specs.Layouts.{version_1};
 ghost use Rattle.nv_plain.specs.Recovered.{region_files};
 ghost use Rattle.nv_pmem.specs.Moments.{Tells};
+ghost use Rattle.nv_pmem.specs.Part.{Part};
 ghost use Rattle.nv_pmem.specs.RowStates.{AreNow};
 ghost use Rattle.nv_pmem.specs.Rows.{RowTells, AreQuiet, row_words};
 ghost use Rattle.nv_store.specs.Store.{IsQuietStore, Store};
@@ -15,11 +16,12 @@ ghost use Rattle.nv_recover.specs.Telling.{AllTell};
 ghost use Rattle.nv_open.specs.Causes.{OpenHasCause};
 ghost use Rattle.nv_open.specs.Held.{HoldFiles, IsRecovered};
 ghost use Rattle.nv_open.specs.Refusals.{IsRefusedFor, IsBadLog};
+ghost use Rattle.nv_open.specs.Unopened.{StandAsBefore};
 ghost use Rattle.nv_open.specs.declared.error.OpenError.TheVariants as error;
 
 use crate::OpenError;
 use nv_header::{Head, Region, needed_lines_make_parts};
-use nv_pmem::Lines;
+use nv_pmem::{Lines, rows_have_states};
 use nv_recover::{
     Recovered, images_stand_for_files, recover, recoveries_give_the_same_files,
     rows_of_stores_have_states,
@@ -59,6 +61,8 @@ pub(crate) fn recover_log<L: Lines + Drop, B: Backing>(
         → map L.history (parts_after result) ≡ map L.history parts.items }
     ensures stores_kept { (why : _) → answer_of result ≡ Err (error.Refused why)
         → RowTells (map L.history parts.items) (λ told. map B.history stores.new.items ≡ map B.history stores.old.items) }
+    ensures standing { IfErr result (λ failed. (told : List Part) (was : List Store) → AreNow (map L.history parts.items) told → AreNow (map B.history stores.old.items) was
+        → StandAsBefore told was (map L.history failed.0.items) (map B.history stores.new.items)) }
     ensures count { length stores.new.items ≡ length stores.old.items }
     ensures cause { OpenHasCause (sum_by L.fault_count parts.items + sum_by B.fault_count stores.old.items)
         (sum_by L.fault_count (parts_after result) + sum_by B.fault_count stores.new.items) (answer_of result) }
@@ -67,6 +71,7 @@ pub(crate) fn recover_log<L: Lines + Drop, B: Backing>(
     images_stand_for_files();
     recoveries_give_the_same_files();
     rows_of_stores_have_states();
+    rows_have_states();
     match recover(alloc, head, parts, stores) {
         Ok(done) => Ok(done),
         Err((parts, error)) => Err((parts, error.into())),

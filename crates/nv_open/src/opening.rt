@@ -18,6 +18,7 @@ ghost use Rattle.nv_open.specs.Causes.{ErrorHasCause, RegionHasCause};
 ghost use Rattle.nv_open.specs.Held.{HoldFiles, files_named, AreUnwritten, told_after};
 ghost use Rattle.nv_open.specs.Lending.{HasLent, HasLentMore, all_lent, stores_lent};
 ghost use Rattle.nv_open.specs.Refusals.{IsRefusedFor, rooms_of};
+ghost use Rattle.nv_open.specs.Unopened.{GivesBack, HasSome, InEachImage, StandForFiles, StandsWithSome, TellsOf};
 ghost use Rattle.nv_open.specs.declared.error.OpenError.TheVariants as error;
 ghost use Rattle.nv_open.specs.declared.error.Refusal.TheVariants as refusal;
 
@@ -28,7 +29,7 @@ use crate::stores::open_stores;
 use crate::{OpenError, Opened, Refusal};
 use nv_bench::Bench;
 use nv_header::{Names, Region};
-use nv_pmem::{Geometry, images_follow_calls};
+use nv_pmem::{Geometry, images_follow_calls, rows_have_states};
 use std::alloc::Global;
 
 /// The most files of a region.
@@ -66,6 +67,8 @@ pub fn open<T: Bench>(
         → IfSome (T.state bench.old).told (λ holding. IsNotOpened holding.parts geometry wanted.now why) }
     ensures unwritten { (why : _) → result ≡ Err (error.Refused why) → ¬ (why ≡ refusal.TooManyFiles)
         → (T.state bench.new).told ≡ told_after why (T.state bench.old).told }
+    ensures standing { IfErr result (λ why. IfSome (T.state bench.old).told (λ was. StandForFiles was.parts
+        → TellsOf (InEachImage (StandsWithSome was wanted.now)) (T.state bench.new).told)) }
     ensures untold { (T.state bench.old).told ≡ None → (T.state bench.new).told ≡ None }
     ensures cause { IfErr result (ErrorHasCause (T.state bench.old).faults (T.state bench.new).faults) }
 {
@@ -117,6 +120,8 @@ fn open_parts<T: Bench>(
         → IfSome (T.state bench.old).told (λ holding. RowTells (map T.Part.history parts.items) (λ told. IsNotOpened told geometry wanted.now why))) }
     ensures unwritten { (why : _) → IfErr result (λ failed. failed.1 ≡ error.Refused why → ¬ (why ≡ refusal.TooManyFiles)
         → AreUnwritten T.Part.history T.Store.history why (T.state bench.old) (T.state bench.new) parts.items failed.0.items stores.new.items) }
+    ensures standing { IfErr result (λ failed. IfSome (T.state bench.old).told (λ holding. RowTells (map T.Part.history parts.items) (λ told. StandForFiles told
+        → GivesBack T.Part.history T.Store.history (InEachImage (StandsWithSome (record { parts = told; stores = holding.stores }) wanted.now)) (T.state bench.new) failed.0.items stores.new.items))) }
 {
     match begin(alloc, bench, geometry, parts, stores) {
         Ok(region) => add_wanted(alloc, bench, wanted, region, stores),
@@ -159,6 +164,8 @@ fn begin<T: Bench>(
         → IfSome (T.state bench.old).told (λ holding. RowTells (map T.Part.history parts.items) (λ told. (is_blank told ≡ false) × IsRefusedFor told why))) }
     ensures unwritten { (why : _) → IfErr result (λ failed. failed.1 ≡ error.Refused why
         → AreUnwritten T.Part.history T.Store.history why (T.state bench.old) (T.state bench.new) parts.items failed.0.items stores.new.items) }
+    ensures standing { (wanted : List (List ℕ)) → IfErr result (λ failed. IfSome (T.state bench.old).told (λ holding. RowTells (map T.Part.history parts.items) (λ told. StandForFiles told
+        → GivesBack T.Part.history T.Store.history (InEachImage (StandsWithSome (record { parts = told; stores = holding.stores }) wanted)) (T.state bench.new) failed.0.items stores.new.items))) }
 {
     let mut parts = parts;
     images_follow_calls();
@@ -203,7 +210,11 @@ fn add_wanted<T: Bench>(
     ensures many { IfOk result (λ added. length added.parts.items ≡ length region.parts.items) }
     ensures refused { (why : _) → IfErr result (λ failed. failed.1 ≡ error.Refused why
         → (why ≡ refusal.TooManyFiles) × (version_1.file_limit < length (all_names region.names wanted.now))) }
+    ensures standing { (files : _) → HoldFiles (map T.Store.history stores.old.items) files → IfErr result (λ failed. IfSome (T.state bench.old).told (λ holding. AllTell (map T.Part.history region.parts.items)
+        → GivesBack T.Part.history T.Store.history (InEachImage (HasSome (length region.names) (all_names region.names wanted.now) (files_behind files (new_names region.names wanted.now) holding.stores)))
+        (T.state bench.new) failed.0.items stores.new.items)) }
 {
+    rows_have_states();
     let Ok(missing) = missing_names(alloc, region.names(), wanted) else {
         return Err((region.into_parts(), OpenError::NoMemory));
     };

@@ -13,6 +13,7 @@ ghost use Rattle.nv_open.specs.Causes.{ErrorHasCause, OpenHasCause};
 ghost use Rattle.nv_open.specs.Held.{HoldFiles, IsRecovered, files_named, AreUnwritten, told_after};
 ghost use Rattle.nv_open.specs.Lending.{HasLent, all_lent, stores_lent};
 ghost use Rattle.nv_open.specs.Refusals.{IsRefusedFor};
+ghost use Rattle.nv_open.specs.Unopened.{GivesBack, HasHeader, StandsAsBefore, TellsOf};
 ghost use Rattle.nv_open.specs.declared.error.OpenError.TheVariants as error;
 
 use crate::header::read_header;
@@ -55,6 +56,7 @@ pub fn recover_region<T: Bench>(
         → IfSome (T.state bench.old).told (λ holding. IsRefusedFor holding.parts why) }
     ensures unwritten { (why : _) → result ≡ Err (error.Refused why)
         → (T.state bench.new).told ≡ told_after why (T.state bench.old).told }
+    ensures standing { IfErr result (λ why. IfSome (T.state bench.old).told (λ was. HasHeader was.parts → TellsOf (StandsAsBefore was) (T.state bench.new).told)) }
     ensures untold { (T.state bench.old).told ≡ None → (T.state bench.new).told ≡ None }
     ensures cause { IfErr result (ErrorHasCause (T.state bench.old).faults (T.state bench.new).faults) }
 {
@@ -109,6 +111,10 @@ pub(crate) fn recover_parts<T: Bench>(
         → RowTells (map T.Part.history parts.items) (λ told. IsRefusedFor told why) }
     ensures unwritten { (why : _) → answer_of result ≡ Err (error.Refused why)
         → AreUnwritten T.Part.history T.Store.history why (T.state bench.old) (T.state bench.new) parts.items (parts_after result) stores.new.items }
+
+    // At each error whatever power leaves of it can take the place of what it held.
+    ensures standing { IfErr result (λ failed. IfSome (T.state bench.old).told (λ holding. RowTells (map T.Part.history parts.items) (λ told. HasHeader told
+        → GivesBack T.Part.history T.Store.history (StandsAsBefore (record { parts = told; stores = holding.stores })) (T.state bench.new) failed.0.items stores.new.items))) }
 {
     let mut parts = parts;
     let head = match read_header(alloc, &mut parts) {

@@ -1,4 +1,4 @@
-//! A file whose entry in its folder is durable too.
+//! Trusted edge: a file whose entry in its folder is durable too.
 use std::fs::{self, File, OpenFile, OpenOptions};
 use std::io::{self, ErrorKind};
 use std::path::Path;

@@ -1,4 +1,4 @@
-//! A part over a file.
+//! Trusted edge: a part over a file.
 ghost use Rattle.std.specs.Prelude.{◌≡◌, ◌<◌, ◌≤◌, vec_len, IfOk};
 ghost use Rattle.nv_pmem.specs.FilePart.{part_device, part_history, part_room, part_faults, part_told_lines};
 

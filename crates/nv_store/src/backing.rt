@@ -68,9 +68,9 @@ impl From<AllocError> for StoreError {
     }
 }
 
-/// One file of a disk with a page cache: a growing list of bytes. A write is seen by reads at once, and is durable after
-/// the next `sync`. A power failure before that may leave any bytes in its range, and any length from the durable to the
-/// present one.
+/// One file of a disk with a page cache: a growing list of bytes, whose offsets and lengths count bytes, from 0. A write is
+/// seen by reads at once, and is durable after the next `sync`. A power failure before that may leave any bytes in its range,
+/// and any length from the durable to the present one. After a fault the caller may go on, and the clauses say with what.
 pub trait Backing {
     /// Which device this is. No call changes it.
     ghost device: { Self → ℕ };
@@ -101,7 +101,11 @@ pub trait Backing {
         ensures cause { HasCause (fault_count self.old) (fault_count self.new) result }
         ensures device { device self.new ≡ device self.old };
 
-    /// Writes from an offset on, past the end too; a gap reads as zeros. No bytes change nothing.
+    /// Writes from an offset on, past the end too; a gap reads as zeros. No bytes change nothing (POSIX.1-2017, pwrite).
+    ///
+    /// After a fault it may be torn: reads give any bytes in its range, up to any length from the old one to the write's end,
+    /// and what there is of the range is not durable; all other bytes are as they were. The same write, made again, makes that
+    /// good. After `NoMemory` nothing is changed.
     fn pwrite(&mut self, at: u64, bytes: &[u8]) -> Result<(), StoreError>
         ensures done { OnOk result (DidStoreStep (Write at bytes.now ∷ []) (history self.old) (history self.new)) }
         ensures failed { OnErr result (LeftOrTore at (length bytes.now) (history self.old) (history self.new)) }
@@ -109,7 +113,12 @@ pub trait Backing {
         ensures cause { HasWriteCause (fault_count self.old) (fault_count self.new) result }
         ensures device { device self.new ≡ device self.old };
 
-    /// Makes durable what reads give.
+    /// Makes durable what reads give, bytes and length (POSIX.1-2017, fsync: all data of the file is transferred to the
+    /// device).
+    ///
+    /// After a fault nothing is promised to be durable that wasn't before (the standard: outstanding operations are not
+    /// guaranteed to have been completed). Reads give what they gave, and a later sync that goes well makes that durable. A
+    /// system may drop what it couldn't write and call the next sync a success; over such a one each later sync is to fail too.
     fn sync(&mut self) -> Result<(), StoreFault>
         ensures done { OnOk result (DidStoreStep (Sync ∷ []) (history self.old) (history self.new)) }
         ensures failed { OnErr result (history self.new ≡ history self.old) }

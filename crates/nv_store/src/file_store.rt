@@ -1,4 +1,4 @@
-//! A store over a file.
+//! Trusted edge: a store over a file.
 ghost use Rattle.std.specs.Prelude.{◌≡◌, IfOk};
 ghost use Rattle.nv_store.specs.FileStore.{store_device, store_history, store_faults, store_told_whole};
 

@@ -6,6 +6,10 @@ use Rattle.nv_open.specs.Refusals.{rooms_of}
 use Rattle.nv_open.proofs.LineCounts.{told_counts, has_lines_same}
 use Rattle.nv_open.proofs.LogLaws.{as_many}
 use Rattle.nv_open.proofs.Tells.{did_tells}
+use Rattle.std.proofs.Common.{inl}
+use Rattle.nv_pmem.specs.RowStates.{row_tells_at}
+use Rattle.nv_header.specs.Regions.{IsBlankOrFormatted, IsBlankRow}
+use Rattle.nv_open.proofs.Partly.{row_end}
 use Rattle.nv_open.proofs.formatting.format_parts.Goals as goal
 
 pub returns-in-Err-clause-short : goal.returns-in-Err-clause-short
@@ -28,3 +32,15 @@ returns-in-Ok-clause-tell g c tell = did_tells _ (map g.L.Lines.history c.args.p
 
 pub returns-in-Ok-clause-many : goal.returns-in-Ok-clause-many
 returns-in-Ok-clause-many g c = as_many g.L.Lines.device c.args.parts.items c.in-Ok.region.parts.items c.in-Ok.ensures.changed.devices
+
+pub returns-in-Err-clause-left : goal.returns-in-Err-clause-left
+returns-in-Err-clause-left g c tell =
+    let row = map g.L.Lines.history c.args.parts.items in
+    let now = c.rows_have_states.ensures.some row tell in
+    let blank = row_tells_at row IsBlankRow now.states now.are c.requires.blank in
+    record { now = now.states; now_are = now.are; is_so = λ image is. inl (blank.blank image is) }
+
+pub returns-clause-left : goal.returns-clause-left
+returns-clause-left g c tell =
+    row_end (IsBlankOrFormatted version_1 c.args.geometry.page c.args.geometry.entries) (map g.L.Lines.history c.args.parts.items) (map g.L.Lines.history c.in-Err-format.parts.items) c.rows_have_states.ensures.some tell
+    c.in-Err-format.ensures.changed.moments

@@ -3,6 +3,7 @@ use Rattle.nv_plain.specs.Layouts.{version_1}
 use Rattle.nv_recover.specs.Changes.{devices_of}
 use Rattle.nv_open.proofs.HeadLaws.{error_is}
 use Rattle.nv_open.proofs.LogLaws.{files_held, can_be_read, recovered_told, refused_by_log, unwritten_log, as_many}
+use Rattle.nv_open.proofs.Stands.{stood, whole_now}
 use Rattle.nv_open.proofs.log.recover_log.Goals as goal
 
 pub recover-requires-clause-parts : goal.recover-requires-clause-parts
@@ -40,3 +41,11 @@ returns-in-Err-clause-count g c = as_many g.B.Backing.device c.args.stores.now.i
 
 pub returns-in-Ok-clause-many : goal.returns-in-Ok-clause-many
 returns-in-Ok-clause-many g c = as_many g.L.Lines.device c.args.parts.items c.in-Ok.done.0.parts.items c.in-Ok.ensures.kept.devices
+
+pub returns-in-Err-clause-standing : goal.returns-in-Err-clause-standing
+returns-in-Err-clause-standing g c told was told_are was_are =
+    let history = g.L.Lines.history in
+    let held = g.B.Backing.history in
+    stood (devices_of history held c.args.parts.items c.args.stores.now.items) (devices_of history held c.in-Err.parts.items c.recover.new.stores.items) told was
+    c.recoveries_give_the_same_files.ensures.tell c.rows_have_states.ensures.some c.rows_of_stores_have_states.ensures.some c.in-Err.ensures.kept.moments told_are was_are
+    (whole_now held g.met.B.Backing.told_whole c.recover.new.stores.items)

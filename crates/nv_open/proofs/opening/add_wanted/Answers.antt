@@ -15,6 +15,17 @@ use Rattle.std.proofs.lemmas.List.Elements.{All-append}
 use Rattle.nv_pmem.specs.Moments.{Tells}
 use Rattle.nv_store.specs.Store.{IsQuietStore}
 use Rattle.nv_open.proofs.Tells.{opened_quiet}
+use Rattle.std.proofs.Common.{[], refl, take}
+use Rattle.nv_pmem.specs.RowStates.{AreNow}
+use Rattle.nv_pmem.specs.Rows.{InEachRowImage, RowTells}
+use Rattle.nv_pmem.specs.Steps as lines
+use Rattle.nv_header.specs.Regions.{IsAtRest}
+use Rattle.nv_recover.specs.Telling.{AllTell}
+use Rattle.nv_open.specs.Lending.{stores_named}
+use Rattle.nv_open.specs.Unopened.{GivesBack, HasFirstNames, HasSome, InEachImage, TellRow}
+use Rattle.nv_open.proofs.GivenBack.{if_err_each, if_err_any}
+use Rattle.nv_open.proofs.Openings.{opened_none, some_nil}
+use Rattle.nv_open.proofs.PartlyBack.{added_back, alone_are, rest_left, some_are}
 use Rattle.nv_open.proofs.opening.add_wanted.Goals as goal
 
 pub open_stores-requires-clause-names : goal.open_stores-requires-clause-names
@@ -69,3 +80,91 @@ returns-clause-quiet g c = λ quiet.
     (λ added. subst Quiet (sym opened.behind)
     (All-append (λ store. Tells (history store) IsQuietStore) c.args.stores.now.items opened.stores quiet
     (opened_quiet history (g.T.Bench.state c.args.bench.now).told c.in-Ok.missing opened.stores c.requires.synced opened.told opened.untold)))
+
+pub returns-in_default-clause-standing : goal.returns-in_default-clause-standing
+returns-in_default-clause-standing g c files holds =
+    let history = g.T.Part.Lines.history in
+    let store_history = g.T.Store.Backing.history in
+    let state = g.T.Bench.state c.args.bench.now in
+    let region = c.args.region in
+    let stores = c.args.stores.now.items in
+    let known = region.names in
+    let new = new_names known c.args.wanted.now in
+    let none = opened_none store_history g.T.Store.Backing.fault_count state stores stores refl in
+    let back = c.into_parts.result.items in
+    let row : List lines.PartHistory = map history region.parts.items in
+    let same : map history back ≡ row = ap (λ parts. map history parts.items) c.into_parts.ensures.parts in
+    added_back history store_history state state row back stores stores none.stores known c.args.wanted.now [] region.geometry.page region.geometry.entries region.next files (g.met.T.Bench.named c.args.bench.now) c.requires.names
+    (alone_are known region.is_region.names_are) c.requires.one_each holds c.requires.synced none.behind none.lent none.told
+    (λ tell. rest_left (map history back) region.geometry.page region.geometry.entries known new region.next c.rows_have_states.ensures.some (subst AllTell (sym same) tell) c.into_parts.ensures.region.tells)
+
+pub returns-then-len-gt-FILE_LIMIT-clause-standing : goal.returns-then-len-gt-FILE_LIMIT-clause-standing
+returns-then-len-gt-FILE_LIMIT-clause-standing g c files holds =
+    let history = g.T.Part.Lines.history in
+    let store_history = g.T.Store.Backing.history in
+    let state = g.T.Bench.state c.args.bench.now in
+    let region = c.args.region in
+    let stores = c.args.stores.now.items in
+    let known = region.names in
+    let new = new_names known c.args.wanted.now in
+    let none = opened_none store_history g.T.Store.Backing.fault_count state stores stores refl in
+    let back = c.into_parts-then-len-gt-FILE_LIMIT.result.items in
+    let row : List lines.PartHistory = map history region.parts.items in
+    let same : map history back ≡ row = ap (λ parts. map history parts.items) c.into_parts-then-len-gt-FILE_LIMIT.ensures.parts in
+    added_back history store_history state state row back stores stores none.stores known c.args.wanted.now [] region.geometry.page region.geometry.entries region.next files (g.met.T.Bench.named c.args.bench.now) c.requires.names
+    (alone_are known region.is_region.names_are) c.requires.one_each holds c.requires.synced none.behind none.lent none.told
+    (λ tell. rest_left (map history back) region.geometry.page region.geometry.entries known new region.next c.rows_have_states.ensures.some (subst AllTell (sym same) tell) c.into_parts-then-len-gt-FILE_LIMIT.ensures.region.tells)
+
+pub returns-in-Err-clause-standing : goal.returns-in-Err-clause-standing
+returns-in-Err-clause-standing g c files holds =
+    let history = g.T.Part.Lines.history in
+    let store_history = g.T.Store.Backing.history in
+    let state = g.T.Bench.state c.args.bench.now in
+    let region = c.args.region in
+    let known = region.names in
+    let wanted = c.args.wanted.now in
+    let new = new_names known wanted in
+    let missing = c.in-Ok.missing in
+    let begun = c.in-Err.ensures.begun in
+    let opened = begun.opened in
+    let more = take begun.number missing in
+    let is : missing ≡ new = c.in-Ok.ensures ∙ ap (λ (these : List (List ℕ)). new_names these wanted) c.names.ensures in
+    let few : length (all_names known wanted) ≤ 16 =
+    omega (arith, length-append known new, ap length is, c.if-len-gt-FILE_LIMIT.false, c.len.ensures, c.len-2.ensures, ap length c.names-2.ensures) in
+    let all = all_are_names known wanted region.is_region.names_are c.requires.wanted few in
+    let back = c.into_parts-in-Err.result.items in
+    let row : List lines.PartHistory = map history region.parts.items in
+    let same : map history back ≡ row = ap (λ parts. map history parts.items) c.into_parts-in-Err.ensures.parts in
+    added_back history store_history state (g.T.Bench.state c.open_stores.new.bench) row back c.args.stores.now.items c.open_stores.new.stores.items opened.stores known wanted more region.geometry.page region.geometry.entries region.next files
+    (g.met.T.Bench.named c.args.bench.now) c.requires.names (some_are begun.number known missing (subst (λ (these : List (List ℕ)). AreFileNames version_1 (known ++ these)) (sym is) all)) c.requires.one_each holds c.requires.synced
+    opened.behind opened.lent opened.told
+    (λ tell. rest_left (map history back) region.geometry.page region.geometry.entries known new region.next c.rows_have_states.ensures.some (subst AllTell (sym same) tell) c.into_parts-in-Err.ensures.region.tells)
+
+pub returns-clause-standing : goal.returns-clause-standing
+returns-clause-standing g c files holds =
+    let history = g.T.Part.Lines.history in
+    let store_history = g.T.Store.Backing.history in
+    let state = g.T.Bench.state c.args.bench.now in
+    let then = g.T.Bench.state c.open_stores.new.bench in
+    let region = c.args.region in
+    let known = region.names in
+    let wanted = c.args.wanted.now in
+    let new = new_names known wanted in
+    let missing = c.in-Ok.missing in
+    let opened = c.in_default-open_stores.ensures.opened in
+    let stores = c.open_stores.new.stores.items in
+    let is : missing ≡ new = c.in-Ok.ensures ∙ ap (λ (these : List (List ℕ)). new_names these wanted) c.names.ensures in
+    let few : length (all_names known wanted) ≤ 16 =
+    omega (arith, length-append known new, ap length is, c.if-len-gt-FILE_LIMIT.false, c.len.ensures, c.len-2.ensures, ap length c.names-2.ensures) in
+    let all = all_are_names known wanted region.is_region.names_are c.requires.wanted few in
+    let row : List lines.PartHistory = map history region.parts.items in
+    if_err_each c.add_names.result
+    (λ failed. TellRow (InEachRowImage (HasFirstNames region.geometry.page region.geometry.entries known missing region.next)) (map history failed.0.items))
+    (λ failed. IfSome state.told (λ holding. AllTell row
+    → GivesBack history store_history (InEachImage (HasSome (length known) (all_names known wanted) (files_behind files new holding.stores))) then failed.0.items stores))
+    (λ failed left.
+    added_back history store_history state then row failed.0.items c.args.stores.now.items stores opened.stores known wanted missing region.geometry.page region.geometry.entries region.next files
+    (g.met.T.Bench.named c.args.bench.now) c.requires.names (subst (λ (these : List (List ℕ)). AreFileNames version_1 (known ++ these)) (sym is) all) c.requires.one_each holds c.requires.synced
+    opened.behind opened.lent opened.told
+    (λ tell. subst (λ names. TellRow (InEachRowImage (HasFirstNames region.geometry.page region.geometry.entries known names region.next)) (map history failed.0.items)) is (left tell)))
+    (λ tell. c.add_names.ensures.left tell)

@@ -18,6 +18,16 @@ use Rattle.nv_open.proofs.Beginnings.{if_ok_map, if_err_map, if_err_both, if_som
 use Rattle.nv_open.proofs.LineCounts.{kept_spare}
 use Rattle.nv_open.proofs.Openings.{opened_none, some_nil}
 use Rattle.nv_open.proofs.Returns.{written_back, unwritten_by}
+use Rattle.std.proofs.lemmas.Result.{IfErr-weaker}
+use Rattle.nv_bench.specs.Holding.{Holding}
+use Rattle.nv_header.specs.Regions.{IsBlankOrFormatted}
+use Rattle.nv_pmem.specs.Rows.{InEachRowImage}
+use Rattle.nv_recover.specs.Telling.{AllTell}
+use Rattle.nv_open.specs.Unopened.{HasHeader, GivesBack, InEachImage, StandForFiles, StandsAsBefore, StandsWithSome, TellRow}
+use Rattle.nv_pmem.specs.RowStates.{AreNow}
+use Rattle.nv_open.specs.Lending.{stores_named}
+use Rattle.nv_open.proofs.GivenBack.{if_err_each, read_back}
+use Rattle.nv_open.proofs.PartlyBack.{blank_back, kept_back, read_left}
 use Rattle.nv_open.proofs.opening.begin.Goals as goal
 
 pub format_parts-requires-clause-blank : goal.format_parts-requires-clause-blank
@@ -141,3 +151,55 @@ returns-in-Err-recover_parts-clause-unwritten g c why is =
     let same = ap (map history) (written_back c.args.parts.len new items (omega (arith, c.are_blank.auto.parts, c.deref_mut.ensures.len))) ∙ c.are_blank.ensures.read.histories ∙ ap (map history) c.deref_mut.ensures.value in
     unwritten_since history g.T.Store.Backing.history why (g.T.Bench.state c.args.bench.now) (g.T.Bench.state c.recover_parts.new.bench) items
     (take c.args.parts.len (new ++ drop (length new) items)) c.in-Err-recover_parts.failed.0.items c.recover_parts.new.stores.items same (c.in-Err-recover_parts.ensures.unwritten why (ap Err is))
+
+pub returns-in-Ok-true-clause-standing : goal.returns-in-Ok-true-clause-standing
+returns-in-Ok-true-clause-standing g c wanted =
+    let history = g.T.Part.Lines.history in
+    let store_history = g.T.Store.Backing.history in
+    let new = c.are_blank.new.parts in
+    let items = c.args.parts.items in
+    let row : List lines.PartHistory = map history items in
+    let geometry = c.args.geometry in
+    let state = g.T.Bench.state c.args.bench.now in
+    let stores = c.args.stores.now.items in
+    let none = opened_none store_history g.T.Store.Backing.fault_count state stores stores refl in
+    let same = ap (map history) (written_back c.args.parts.len new items (omega (arith, c.are_blank.auto.parts, c.deref_mut.ensures.len))) ∙ c.are_blank.ensures.read.histories ∙ ap (map history) c.deref_mut.ensures.value in
+    let blank = tells_test (map history c.deref_mut.result.now) row c.in-Ok-true.field-0 true (ap (map history) c.deref_mut.ensures.value) c.in-Ok-true.ensures.told c.in-Ok-true.field-0-test in
+    if_err_each c.format_parts.result
+    (λ failed. TellRow (InEachRowImage (IsBlankOrFormatted version_1 geometry.page geometry.entries)) (map history failed.0.items))
+    (λ failed. IfSome state.told (λ holding. RowTells row (λ told. StandForFiles told → GivesBack history store_history (InEachImage (StandsWithSome (record { parts = told; stores = holding.stores }) wanted)) state failed.0.items stores)))
+    (λ failed left. blank_back history store_history state state row failed.0.items stores wanted geometry.page geometry.entries c.requires.home none.lent c.requires.none blank c.requires.tell left)
+    (λ tell. c.format_parts.ensures.left (subst AllTell (sym same) tell))
+
+pub returns-in-Err-recover_parts-clause-standing : goal.returns-in-Err-recover_parts-clause-standing
+returns-in-Err-recover_parts-clause-standing g c wanted =
+    let history = g.T.Part.Lines.history in
+    let store_history = g.T.Store.Backing.history in
+    let new = c.are_blank.new.parts in
+    let items = c.args.parts.items in
+    let row : List lines.PartHistory = map history items in
+    let state = g.T.Bench.state c.args.bench.now in
+    let then = g.T.Bench.state c.recover_parts.new.bench in
+    let failed = c.in-Err-recover_parts.failed in
+    let same = ap (map history) (written_back c.args.parts.len new items (omega (arith, c.are_blank.auto.parts, c.deref_mut.ensures.len))) ∙ c.are_blank.ensures.read.histories ∙ ap (map history) c.deref_mut.ensures.value in
+    let blank = tells_test (map history c.deref_mut.result.now) row c.in-Ok-false.field-0 false (ap (map history) c.deref_mut.ensures.value) c.in-Ok-false.ensures.told c.in-Ok-false.field-0-test in
+    kept_back history store_history state then row failed.0.items c.recover_parts.new.stores.items wanted blank
+    (subst (λ (these : List lines.PartHistory). IfSome state.told (λ holding. RowTells these (λ told. HasHeader told
+    → GivesBack history store_history (StandsAsBefore (record { parts = told; stores = holding.stores })) then failed.0.items c.recover_parts.new.stores.items))) same c.in-Err-recover_parts.ensures.standing)
+
+pub returns-in-Err-clause-standing : goal.returns-in-Err-clause-standing
+returns-in-Err-clause-standing g c wanted =
+    let history = g.T.Part.Lines.history in
+    let store_history = g.T.Store.Backing.history in
+    let new = c.are_blank.new.parts in
+    let items = c.args.parts.items in
+    let row : List lines.PartHistory = map history items in
+    let back = take c.args.parts.len (new ++ drop (length new) items) in
+    let state = g.T.Bench.state c.args.bench.now in
+    let stores = c.args.stores.now.items in
+    let none = opened_none store_history g.T.Store.Backing.fault_count state stores stores refl in
+    let same = ap (map history) (written_back c.args.parts.len new items (omega (arith, c.are_blank.auto.parts, c.deref_mut.ensures.len))) ∙ c.are_blank.ensures.read.histories ∙ ap (map history) c.deref_mut.ensures.value in
+    let named = g.met.T.Bench.named c.args.bench.now in
+    let are = subst (λ these. IfSome state.told (λ holding. AreNow (map store_history these) (stores_named [] holding.stores))) (sym c.requires.none) (some_nil state.told) in
+    read_left history store_history state state row back stores wanted c.images_follow_calls.ensures.quiet named c.requires.home none.lent c.requires.none same c.requires.quiet c.requires.synced
+    (read_back history store_history state state items back stores named c.requires.home c.requires.quiet c.requires.synced [] same none.lent are)

@@ -10,6 +10,7 @@ use Rattle.nv_open.specs.declared.error.OpenError.TheVariants as error
 use Rattle.nv_open.specs.declared.error.Refusal.TheVariants.{TooManyFiles}
 use Rattle.nv_open.proofs.Beginnings.{if_ok_map, if_err_map, if_some_map, if_some_any}
 use Rattle.nv_open.proofs.WithWanted.{still_quiet, lent_more, opened_passed, too_many, not_opened}
+use Rattle.nv_open.proofs.PartlyBack.{with_wanted}
 use Rattle.nv_open.proofs.opening.open_parts.Goals as goal
 
 pub add_wanted-requires-clause-synced : goal.add_wanted-requires-clause-synced
@@ -60,3 +61,15 @@ returns-in-Ok-clause-known g c =
     let wanted = c.args.wanted.now in
     if_ok_map (λ added. added.names ≡ all_names known wanted) (λ added. (known : List (List ℕ)) × (added.names ≡ all_names known wanted)) c.add_wanted.result
     (λ added are. (known, are)) c.add_wanted.ensures.names
+
+pub returns-in-Ok-clause-standing : goal.returns-in-Ok-clause-standing
+returns-in-Ok-clause-standing g c =
+    let history = g.T.Part.Lines.history in
+    let store_history = g.T.Store.Backing.history in
+    let region = c.in-Ok.region in
+    with_wanted history store_history c.add_wanted.result (λ failed. failed.0.items) (g.T.Bench.state c.args.bench.now).told (g.T.Bench.state c.begin.new.bench).told (g.T.Bench.state c.add_wanted.new.bench)
+    (map history c.args.parts.items) (map history region.parts.items) (map store_history c.begin.new.stores.items) c.add_wanted.new.stores.items c.args.geometry region.geometry.page region.geometry.entries region.names c.args.wanted.now region.next
+    (ap (λ (state : BenchState). state.told) c.in-Ok.ensures.names) c.in-Ok.ensures.begun c.in-Ok.ensures.files c.in-Ok.ensures.told c.add_wanted.ensures.standing
+
+pub returns-in-Err-clause-standing : goal.returns-in-Err-clause-standing
+returns-in-Err-clause-standing g c = c.in-Err.ensures.standing c.args.wanted.now

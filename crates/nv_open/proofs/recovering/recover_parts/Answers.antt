@@ -18,6 +18,12 @@ use Rattle.nv_open.proofs.Returns.{written_back, lent_quiet, opened_alone, files
 use Rattle.nv_bench.specs.Holding.{Holding}
 use Rattle.nv_recover.specs.Telling.{AllTell}
 use Rattle.nv_open.proofs.Tells.{telling_with}
+use Rattle.std.proofs.Common.{Some}
+use Rattle.std.proofs.lemmas.Result.{IfErr-weaker}
+use Rattle.nv_pmem.specs.Part.{Part}
+use Rattle.nv_bench.specs.Benches.{BenchState}
+use Rattle.nv_open.specs.Unopened.{GivesBack, StandAsBefore, StandsAsBefore}
+use Rattle.nv_open.proofs.GivenBack.{read_back, stood_back, at_some}
 use Rattle.nv_open.proofs.recovering.recover_parts.Goals as goal
 
 pub returns-in-Err-clause-refused : goal.returns-in-Err-clause-refused
@@ -120,3 +126,62 @@ returns-clause-told g c =
     (subst (λ these. IfSome told (λ holding. AreNow (map store_history these) (stores_named names holding.stores)))
     (opened_alone c.args.stores.now.items c.open_stores.new.stores.items opened.stores c.requires.none opened.behind) opened.told)
     (λ parts_tell stores_tell. c.recover_log.ensures.tell (subst AllTell (sym same) parts_tell) stores_tell)
+
+pub returns-in-Err-clause-standing : goal.returns-in-Err-clause-standing
+returns-in-Err-clause-standing g c =
+    let history = g.T.Part.Lines.history in
+    let store_history = g.T.Store.Backing.history in
+    let new = c.read_header.new.parts in
+    let items = c.args.parts.items in
+    let state = g.T.Bench.state c.args.bench.now in
+    let none = opened_none store_history g.T.Store.Backing.fault_count state c.args.stores.now.items c.args.stores.now.items refl in
+    read_back history store_history state state items (take c.args.parts.len (new ++ drop (length new) items)) c.args.stores.now.items (g.met.T.Bench.named c.args.bench.now) c.requires.home c.requires.quiet c.requires.synced []
+    (ap (map history) (written_back c.args.parts.len new items (omega (arith, c.read_header.auto.parts, c.deref_mut.ensures.len)))
+    ∙ c.in-Err.ensures.read.histories ∙ ap (map history) c.deref_mut.ensures.value)
+    none.lent (subst (λ these. IfSome state.told (λ holding. AreNow (map store_history these) (stores_named [] holding.stores))) (sym c.requires.none) (some_nil state.told))
+
+pub returns-in-Err-open_stores-clause-standing : goal.returns-in-Err-open_stores-clause-standing
+returns-in-Err-open_stores-clause-standing g c =
+    let history = g.T.Part.Lines.history in
+    let store_history = g.T.Store.Backing.history in
+    let new = c.read_header.new.parts in
+    let items = c.args.parts.items in
+    let state = g.T.Bench.state c.args.bench.now in
+    let begun = c.in-Err-open_stores.ensures.begun in
+    let opened = begun.opened in
+    let names = take begun.number c.in-Ok.head.names in
+    read_back history store_history state (g.T.Bench.state c.open_stores.new.bench) items (take c.args.parts.len (new ++ drop (length new) items)) c.open_stores.new.stores.items (g.met.T.Bench.named c.args.bench.now) c.requires.home
+    c.requires.quiet c.requires.synced names
+    (ap (map history) (written_back c.args.parts.len new items (omega (arith, c.read_header.auto.parts, c.deref_mut.ensures.len)))
+    ∙ c.in-Ok.ensures.read.histories ∙ ap (map history) c.deref_mut.ensures.value)
+    opened.lent
+    (subst (λ these. IfSome state.told (λ holding. AreNow (map store_history these) (stores_named names holding.stores)))
+    (opened_alone c.args.stores.now.items c.open_stores.new.stores.items opened.stores c.requires.none opened.behind) opened.told)
+
+pub returns-clause-standing : goal.returns-clause-standing
+returns-clause-standing g c =
+    let history = g.T.Part.Lines.history in
+    let store_history = g.T.Store.Backing.history in
+    let new = c.read_header.new.parts in
+    let items = c.args.parts.items in
+    let back = take c.args.parts.len (new ++ drop (length new) items) in
+    let state = g.T.Bench.state c.args.bench.now in
+    let lent = g.T.Bench.state c.open_stores.new.bench in
+    let names = c.in-Ok.head.names in
+    let opened = c.in_default.ensures.opened in
+    let same = ap (map history) (written_back c.args.parts.len new items (omega (arith, c.read_header.auto.parts, c.deref_mut.ensures.len)))
+    ∙ c.in-Ok.ensures.read.histories ∙ ap (map history) c.deref_mut.ensures.value in
+    let were = subst (λ these. IfSome state.told (λ holding. AreNow (map store_history these) (stores_named names holding.stores)))
+    (opened_alone c.args.stores.now.items c.open_stores.new.stores.items opened.stores c.requires.none opened.behind) opened.told in
+    IfErr-weaker c.recover_log.result
+    (λ failed. (told : List Part) (was : List _) → AreNow (map history back) told → AreNow (map store_history c.open_stores.new.stores.items) was
+    → StandAsBefore told was (map history failed.0.items) (map store_history c.recover_log.new.stores.items))
+    (λ failed. IfSome state.told (λ holding. RowTells (map history items) (λ told. _)))
+    (λ failed stands.
+    stood_back history store_history state lent items failed.0.items c.recover_log.new.stores.items (g.met.T.Bench.named c.args.bench.now) c.requires.home c.requires.quiet c.requires.synced names
+    (subst (λ these. RowTells (map history these) (λ parts. header_names parts ≡ names)) c.deref_mut.ensures.value c.in-Ok.ensures.names) c.in-Ok.ensures.limits.names
+    (c.recover_log.ensures.count ∙ sym (ap length (opened_alone c.args.stores.now.items c.open_stores.new.stores.items opened.stores c.requires.none opened.behind)) ∙ opened.count)
+    opened.lent
+    (λ holding told_is told told_are. stands told (stores_named names holding.stores) (subst (λ (row : List lines.PartHistory). AreNow row told) (sym same) told_are)
+    (at_some state.told (λ holding. AreNow (map store_history c.open_stores.new.stores.items) (stores_named names holding.stores)) holding told_is were)))
+    c.recover_log.ensures.standing

@@ -8,6 +8,13 @@ use Rattle.nv_open.proofs.HeadLaws.{error_is}
 use Rattle.nv_open.proofs.AsHeld.{some_map}
 use Rattle.nv_open.proofs.LogLaws.{states_many}
 use Rattle.nv_open.proofs.Regions.{given_quiet, given_spare, given_tell, lent_told, quiet_parts, some_told, some_stores, still_untold, returned_told}
+use Rattle.std.proofs.Common.{Some, Option, List, []}
+use Rattle.std.specs.Prelude.{option_map, IfSome}
+use Rattle.nv_bench.specs.Benches.{BenchState}
+use Rattle.nv_pmem.specs.Rows.{RowTells}
+use Rattle.nv_pmem.specs.RowStates.{row_tells_at}
+use Rattle.nv_open.specs.Unopened.{HasHeader, GivesBack, StandsAsBefore, TellsOf}
+use Rattle.nv_open.proofs.GivenBack.{at_some, if_err_any, if_some, still_stands, told_so}
 use Rattle.nv_open.proofs.recovering.recover_region.Goals as goal
 
 pub recover_parts-requires-clause-spare : goal.recover_parts-requires-clause-spare
@@ -62,3 +69,28 @@ returns-in-Ok-clause-many g c =
     let parts = c.in_ok-parts.parts.items in
     some_map (g.T.Bench.state c.args.bench.now).told (λ holding. AreNow (map history parts) holding.parts) (λ holding. length c.in-Ok.region.parts.items ≡ length holding.parts)
     (λ holding are. c.in-Ok.ensures.many ∙ sym (states_many (map history parts) holding.parts are ∙ length-map parts history)) c.in_ok-parts.ensures.told
+
+pub returns-in_err-parts-clause-standing : goal.returns-in_err-parts-clause-standing
+returns-in_err-parts-clause-standing g c =
+    let old = g.T.Bench.state c.args.bench.now in
+    let new = g.T.Bench.state c.open_region.new.self in
+    if_err_any c.from_residual.result (λ why.
+    if_some old.told (λ was. HasHeader was.parts → TellsOf (StandsAsBefore was) new.told) (λ was told readable. still_stands old new was c.in_err-parts.ensures.kept told c.requires.quiet readable))
+
+pub returns-in-Err-clause-standing : goal.returns-in-Err-clause-standing
+returns-in-Err-clause-standing g c =
+    let history = g.T.Part.Lines.history in
+    let store_history = g.T.Store.Backing.history in
+    let old = g.T.Bench.state c.args.bench.now in
+    let mid = g.T.Bench.state c.open_region.new.self in
+    let new = g.T.Bench.state c.recover_parts.new.bench in
+    let parts = c.in_ok-parts.parts.items in
+    let then = (g.T.Bench.state c.give_back.new.self).told in
+    if_some old.told (λ was. HasHeader was.parts → TellsOf (StandsAsBefore was) then) (λ was told readable.
+    let left : Holding = record { parts = []; stores = was.stores } in
+    let mid_told : mid.told ≡ Some left = lent_told old mid c.in_ok-parts.ensures.lent ∙ ap (λ (one : Option Holding). option_map (λ (these : Holding). record { parts = []; stores = these.stores }) one) told in
+    let Gives : Holding → Type 0 = λ was. GivesBack history store_history (StandsAsBefore was) new c.in-Err.parts.items c.recover_parts.new.stores.items in
+    told_so history store_history (StandsAsBefore was) new c.in-Err.parts.items c.recover_parts.new.stores.items then
+    (row_tells_at (map history parts) (λ told. HasHeader told → Gives (record { parts = told; stores = was.stores })) was.parts (at_some old.told (λ holding. AreNow (map history parts) holding.parts) was told c.in_ok-parts.ensures.told)
+    (at_some mid.told (λ holding. RowTells (map history parts) (λ told. HasHeader told → Gives (record { parts = told; stores = holding.stores }))) left mid_told c.in-Err.ensures.standing) readable)
+    c.give_back.ensures.told)

@@ -46,6 +46,7 @@ returns-clause-off c =
       armed = old.armed;
       settled = settled i;
       left = noted i;
+      picked = c.note-2.ensures i;
     }
 
 pub invariant_of-self-clause-named : goal.invariant_of-self-clause-named

@@ -1,0 +1,258 @@
+-- What a bench tells to which the devices of an opening come back that failed.
+use Rattle.std.proofs.Common.{◌≡◌, ℕ, ◌+◌, ◌<◌, ◌≤◌, zero, suc, Bool, true, false, not, cond, List, [], ◌∷◌, ◌++◌, length, map, take, inl, inr, refl, sym, ap, subst, ◌∙◌, arith, length-append}
+use Rattle.std.specs.Prelude.{All, Contains, Option, Some, None, IfSome, Result, Ok, Err, IfErr, option_map}
+use Rattle.std.proofs.Math.Seq.{take-append-add}
+use Rattle.std.proofs.lemmas.List.{append-nil, get_or-take, length-map, length-take, map-append}
+use Rattle.std.proofs.lemmas.List.Elements.{Contains-append_left}
+use Rattle.nv_plain.specs.Files.{Files}
+use Rattle.nv_plain.specs.Images.{Image}
+use Rattle.nv_plain.specs.Layouts.{version_1}
+use Rattle.nv_plain.specs.Recovered.{Fits}
+use Rattle.nv_pmem.specs.Laws.{QuietPartHasOneImage}
+use Rattle.nv_pmem.specs.Part.{Part}
+use Rattle.nv_pmem.specs.RowStates.{AreNow, TellingRowsHaveStates, row_tells_at, row_tells_from}
+use Rattle.nv_pmem.specs.Rows.{AreQuiet, InEachRowImage, RowTells, row_words}
+use Rattle.nv_pmem.specs.Steps as lines
+use Rattle.nv_pmem.specs.declared.geometry.Geometry.{Geometry}
+use Rattle.nv_store.specs.Steps.{StoreHistory}
+use Rattle.nv_store.specs.Store.{IsQuietStore, Store}
+use Rattle.nv_bench.specs.Benches.{BenchState, region_lent, told_back, with_faults}
+use Rattle.nv_bench.specs.Holding.{Holding, IsQuietHolding, NamedStore}
+use Rattle.nv_bench.specs.Naming.{AreDistinct, HasDistinctStores, names_of}
+use Rattle.nv_bench.specs.Opening.{is_blank, opened}
+use Rattle.nv_header.specs.FileNames.{AreFileNames}
+use Rattle.nv_header.specs.Regions.{HasEmptyLog, IsAtRest, IsBlankOrFormatted}
+use Rattle.nv_recover.specs.Standing.{files_of}
+use Rattle.nv_recover.specs.Telling.{AllTell}
+use Rattle.nv_open.specs.Adding.{all_names, is_known, new_names}
+use Rattle.nv_open.specs.Begun.{IsOpeningBegun, files_behind, files_with}
+use Rattle.nv_open.specs.Held.{HoldFiles, files_named, header_names}
+use Rattle.nv_open.specs.Lending.{stores_lent, stores_named, without_named, without_stores}
+use Rattle.nv_open.specs.Unopened.{HasHeader, GivesBack, HasFirstNames, HasSome, InEachImage, StandForFiles, StandsAsBefore, StandsWithSome, TellRow, TellsOf, names_known}
+use Rattle.nv_open.proofs.Additions.{are_now_append}
+use Rattle.nv_open.proofs.AsHeld.{files_cases}
+use Rattle.nv_open.proofs.BlankLaws.{blank_row}
+use Rattle.nv_open.proofs.GivenBack.{at_some, if_some, read_back, still_stands, told_with}
+use Rattle.nv_open.proofs.LogLaws.{states_many}
+use Rattle.nv_open.proofs.Partly.{begun_back, blank_known, blank_left, kept_known, kept_left}
+use Rattle.nv_open.proofs.Sized.{blank_stays, opened_kept}
+use Rattle.nv_open.proofs.WithWanted.{new_stores, not_contained}
+
+-- ---- what is given back, more or less said of it
+
+pub gives_more : {X Y : Type 0} (part_history : X → lines.PartHistory) (store_history : Y → StoreHistory) (P Q : Holding → Type 0) (bench : BenchState) (parts : List X) (stores : List Y) → ((back : Holding) → P back → Q back)
+    → GivesBack part_history store_history P bench parts stores → GivesBack part_history store_history Q bench parts stores
+gives_more part_history store_history P Q bench parts stores step gives = record {
+  now = gives.now;
+  held = gives.held;
+  now_are = gives.now_are;
+  held_are = gives.held_are;
+  tells = record { now = gives.tells.now; told_is = gives.tells.told_is; is_so = step gives.tells.now gives.tells.is_so };
+}
+
+by_test : {A : Type 0} (b : Bool) → (b ≡ true → A) → (b ≡ false → A) → A
+by_test true yes_so no_so = yes_so refl
+by_test false yes_so no_so = no_so refl
+
+module _ {X Y : Type 0} (part_history : X → lines.PartHistory) (store_history : Y → StoreHistory) (old new : BenchState) (row : List lines.PartHistory) (parts : List X) (stores : List Y) (wanted : List (List ℕ)) where
+  abbrev was : List Part → Holding → Holding
+  was told holding = record { parts = told; stores = holding.stores }
+
+  abbrev Back : List Part → Holding → Type 0
+  Back told holding = GivesBack part_history store_history (InEachImage (StandsWithSome (was told holding) wanted)) new parts stores
+
+  abbrev Left : Type 0
+  Left = IfSome old.told (λ holding. RowTells row (λ told. StandForFiles told → Back told holding))
+
+  -- a region that stands as before
+  pub kept_back : RowTells row (λ told. is_blank told ≡ false)
+      → IfSome old.told (λ holding. RowTells row (λ told. HasHeader told → GivesBack part_history store_history (StandsAsBefore (record { parts = told; stores = holding.stores })) new parts stores)) → Left
+  kept_back blank stands =
+      if_some old.told (λ holding. RowTells row (λ told. StandForFiles told → Back told holding)) (λ holding told_is.
+      row_tells_from row (λ told. StandForFiles told → Back told holding) (λ told are stand.
+      let kept = row_tells_at row (λ told. is_blank told ≡ false) told are blank in
+      gives_more part_history store_history (StandsAsBefore (was told holding)) (InEachImage (StandsWithSome (was told holding) wanted)) new parts stores
+      (λ back. kept_left (was told holding) back wanted kept (stand.fits kept))
+      (row_tells_at row (λ told. HasHeader told → GivesBack part_history store_history (StandsAsBefore (was told holding)) new parts stores) told are
+      (at_some old.told (λ holding. RowTells row (λ told. HasHeader told → GivesBack part_history store_history (StandsAsBefore (was told holding)) new parts stores)) holding told_is stands) (stand.readable kept))))
+
+  -- a blank one, to which no store came
+  blank_at : (holding : Holding) (told now : List Part) (page entries : ℕ) → old.told ≡ Some holding → old.lent ≡ [] → new ≡ with_faults new.faults (stores_lent [] old) → AreNow (map store_history stores) [] → is_blank told ≡ true
+      → AreNow (map part_history parts) now → InEachRowImage (IsBlankOrFormatted version_1 page entries) now → Back told holding
+  blank_at holding told now page entries told_is home is none blank now_are each = record {
+    now = now;
+    held = [];
+    now_are = now_are;
+    held_are = none;
+    tells = record {
+      now = record { parts = now; stores = holding.stores ++ [] };
+      told_is = told_with old new [] holding now [] told_is home is;
+      is_so = blank_left (was told holding) (record { parts = now; stores = holding.stores ++ [] }) wanted page entries blank each;
+    };
+  }
+
+  no_store : stores ≡ [] → AreNow (map store_history stores) []
+  no_store none = subst (λ (these : List Y). AreNow (map store_history these) []) (sym none) tt
+
+  pub blank_back : (page entries : ℕ) → old.lent ≡ [] → new ≡ with_faults new.faults (stores_lent [] old) → stores ≡ [] → RowTells row (λ told. is_blank told ≡ true) → IfSome old.told (λ holding. AllTell row)
+      → (AllTell row → TellRow (InEachRowImage (IsBlankOrFormatted version_1 page entries)) (map part_history parts)) → Left
+  blank_back page entries home is none blank tell left =
+      if_some old.told (λ holding. RowTells row (λ told. StandForFiles told → Back told holding)) (λ holding told_is.
+      let now = left (at_some old.told (λ holding. AllTell row) holding told_is tell) in
+      row_tells_from row (λ told. StandForFiles told → Back told holding) (λ told are stand.
+      blank_at holding told now.now page entries told_is home is (no_store none) (row_tells_at row (λ told. is_blank told ≡ true) told are blank) now.now_are now.is_so))
+
+  -- parts that were only read, blank or not
+  pub read_left : QuietPartHasOneImage → HasDistinctStores old → old.lent ≡ [] → new ≡ with_faults new.faults (stores_lent [] old) → stores ≡ [] → map part_history parts ≡ row → RowTells row AreQuiet
+      → IfSome old.told (λ holding. All (λ (named : NamedStore). IsQuietStore named.store) holding.stores)
+      → IfSome old.told (λ holding. RowTells row (λ told. HasHeader told → GivesBack part_history store_history (StandsAsBefore (record { parts = told; stores = holding.stores })) new parts stores)) → Left
+  read_left one named home is none same quiet synced stands =
+      if_some old.told (λ holding. RowTells row (λ told. StandForFiles told → Back told holding)) (λ holding told_is.
+      row_tells_from row (λ told. StandForFiles told → Back told holding) (λ told are stand.
+      by_test (is_blank told)
+      (λ blank. blank_at holding told told 0 0 told_is home is (no_store none) blank (subst (λ (these : List lines.PartHistory). AreNow these told) (sym same) are)
+      (λ image is_image. inl ((blank_row one told (row_tells_at row AreQuiet told are quiet) blank).blank image is_image)))
+      (λ kept. gives_more part_history store_history (StandsAsBefore (was told holding)) (InEachImage (StandsWithSome (was told holding) wanted)) new parts stores
+      (λ back. kept_left (was told holding) back wanted kept (stand.fits kept))
+      (row_tells_at row (λ told. HasHeader told → GivesBack part_history store_history (StandsAsBefore (was told holding)) new parts stores) told are
+      (at_some old.told (λ holding. RowTells row (λ told. HasHeader told → GivesBack part_history store_history (StandsAsBefore (was told holding)) new parts stores)) holding told_is stands) (stand.readable kept)))))
+
+-- ---- a region that was begun
+
+-- the first of some file names are such too
+first_are : (count : ℕ) (names : List (List ℕ)) → AreFileNames version_1 names → AreFileNames version_1 (take count names)
+first_are count names are =
+    let long = length-take count names in
+    record {
+      few = (let few = are.few in omega (arith, long, few));
+      allowed = λ i below. (let At = are.allowed i (omega (arith, long, below)) in rw (get_or-take count names i [] (omega (arith, long, below))) At);
+      distinct = λ i j less below same.
+          are.distinct i j less (omega (arith, long, below))
+          (sym (get_or-take count names i [] (omega (arith, long, less, below))) ∙ same ∙ get_or-take count names j [] (omega (arith, long, below)));
+    }
+
+pub some_are : (count : ℕ) (known missing : List (List ℕ)) → AreFileNames version_1 (known ++ missing) → AreFileNames version_1 (known ++ take count missing)
+some_are count known missing are = subst (AreFileNames version_1) (take-append-add known missing count) (first_are (length known + count) (known ++ missing) are)
+
+pub alone_are : (known : List (List ℕ)) → AreFileNames version_1 known → AreFileNames version_1 (known ++ [])
+alone_are known are = subst (AreFileNames version_1) (sym (append-nil known)) are
+
+-- a new name is none of the known ones
+new_apart : (known wanted : List (List ℕ)) (name : List ℕ) → Contains (new_names known wanted) name → ¬ (Contains known name)
+new_apart known [] name there = absurd (let below = there.1 in omega (arith, below))
+new_apart known (first ∷ wanted) name there = by (is_known known first) refl (λ later. new_apart known wanted name later) there
+  where
+    by : (is : Bool) → is_known known first ≡ is → (Contains (new_names known wanted) name → ¬ (Contains known name)) → Contains (cond (not is) (first ∷ new_names known wanted) (new_names known wanted)) name → ¬ (Contains known name)
+    by true is rest there = rest there
+    by false is rest (zero, inside, same) = subst (λ one. ¬ (Contains known one)) same (not_contained known first is)
+    by false is rest (suc k, inside, same) = rest (k, omega (arith, inside), same)
+
+distinct_front : (front back : List (List ℕ)) → AreDistinct (front ++ back) → AreDistinct front
+distinct_front [] back distinct = tt
+distinct_front (first ∷ front) back distinct = (λ there. distinct.0 (Contains-append_left front back first there), distinct_front front back distinct.1)
+
+-- parts of a region that are at rest
+pub rest_left : (row : List lines.PartHistory) (page entries : ℕ) (known more : List (List ℕ)) (next : ℕ) → TellingRowsHaveStates → AllTell row → RowTells row (IsAtRest version_1 page entries known next)
+    → TellRow (InEachRowImage (HasFirstNames page entries known more next)) row
+rest_left row page entries known more next states tell rest =
+    let now = states row tell in
+    let at_rest = row_tells_at row (IsAtRest version_1 page entries known next) now.states now.are rest in
+    record {
+      now = now.states;
+      now_are = now.are;
+      is_so = λ image is. record { count = 0; empty = subst (λ names. HasEmptyLog version_1 page entries names next image) (sym (append-nil known)) (at_rest.empty image is) };
+    }
+
+module _ {X Y : Type 0} (part_history : X → lines.PartHistory) (store_history : Y → StoreHistory) (old new : BenchState) (row : List lines.PartHistory) (parts : List X) (before now stores : List Y) (known wanted more : List (List ℕ)) (page entries next : ℕ) (files : Files)
+    (named : HasDistinctStores old) (lent : old.lent ≡ known) (are : AreFileNames version_1 (known ++ more)) (one_each : length before ≡ length known) (holds : HoldFiles (map store_history before) files)
+    (synced : IfSome old.told (λ holding. All (λ (named : NamedStore). IsQuietStore named.store) holding.stores)) (behind : now ≡ before ++ stores) (is : new ≡ with_faults new.faults (stores_lent more old))
+    (stores_are : IfSome old.told (λ holding. AreNow (map store_history stores) (stores_named more holding.stores))) where
+  pub added_back : (AllTell row → TellRow (InEachRowImage (HasFirstNames page entries known (new_names known wanted) next)) (map part_history parts))
+      → IfSome old.told (λ holding. AllTell row
+      → GivesBack part_history store_history (InEachImage (HasSome (length known) (all_names known wanted) (files_behind files (new_names known wanted) holding.stores))) new parts now)
+  added_back left =
+      if_some old.told (λ holding. AllTell row → GivesBack part_history store_history (InEachImage (HasSome (length known) (all_names known wanted) (files_behind files (new_names known wanted) holding.stores))) new parts now) (λ holding told_is tell.
+      let home = holding.stores in
+      let Distinct : List (List ℕ) → Type 0 = λ names. AreDistinct (names_of home ++ names) in
+      let distinct = subst Distinct lent (at_some old.told (λ holding. AreDistinct (names_of holding.stores ++ old.lent)) holding told_is named) in
+      let long : length known ≡ length holds.held = sym (states_many (map store_history before) holds.held holds.are ∙ length-map before store_history ∙ one_each) in
+      let rows : map store_history before ++ map store_history stores ≡ map store_history now = sym (map-append store_history before stores) ∙ ap (map store_history) (sym behind) in
+      let all_are = subst (λ (row : List StoreHistory). AreNow row (holds.held ++ stores_named more home)) rows
+      (are_now_append (map store_history before) (map store_history stores) holds.held (stores_named more home) holds.are
+      (at_some old.told (λ holding. AreNow (map store_history stores) (stores_named more holding.stores)) holding told_is stores_are)) in
+      begun_back home known (new_names known wanted) more holds.held files page entries next distinct (distinct_front (names_of home) known distinct) are long holds.files_are holds.quiet
+      (at_some old.told (λ holding. All (λ (named : NamedStore). IsQuietStore named.store) holding.stores) holding told_is synced) (new_apart known wanted)
+      part_history store_history old new parts now holding told_is refl lent is (left tell) all_are)
+
+-- ---- and then it was to get more names
+
+-- the names of a region that was begun are those that it was known by
+known_names : (told : List Part) (geometry : Geometry) (page entries : ℕ) (names : List (List ℕ)) (next : ℕ) → IsOpeningBegun told geometry page entries names next → names_known told ≡ names
+known_names told geometry page entries names next begun =
+    by_test (is_blank told) (λ blank. blank_known told blank ∙ sym (begun.formatted blank).names_are) (λ kept. kept_known told kept ∙ sym (begun.kept kept).recovered.names_are)
+
+pub with_wanted : {T X Y E : Type 0} (part_history : X → lines.PartHistory) (store_history : Y → StoreHistory) (result : Result T E) (parts_of : E → List X) (told mid : Option Holding) (new : BenchState) (row region_row : List lines.PartHistory) (store_row : List StoreHistory) (stores : List Y)
+    (geometry : Geometry) (page entries : ℕ) (names wanted : List (List ℕ)) (next : ℕ) → mid ≡ option_map (without_named names) told
+    → RowTells row (λ told. IsOpeningBegun told geometry page entries names next)
+    → IfSome told (λ holding. RowTells row (λ parts. HoldFiles store_row (files_named parts names holding.stores)))
+    → IfSome told (λ holding. AllTell region_row)
+    → ((files : Files) → HoldFiles store_row files → IfErr result (λ failed. IfSome mid (λ holding. AllTell region_row
+    → GivesBack part_history store_history (InEachImage (HasSome (length names) (all_names names wanted) (files_behind files (new_names names wanted) holding.stores))) new (parts_of failed) stores)))
+    → IfErr result (λ failed. IfSome told (λ holding. RowTells row (λ told. StandForFiles told
+    → GivesBack part_history store_history (InEachImage (StandsWithSome (record { parts = told; stores = holding.stores }) wanted)) new (parts_of failed) stores)))
+with_wanted part_history store_history (Ok done) parts_of told mid new row region_row store_row stores geometry page entries names wanted next is begun files tell standing = tt
+with_wanted part_history store_history (Err failed) parts_of None mid new row region_row store_row stores geometry page entries names wanted next is begun files tell standing = tt
+with_wanted {T} {X} {Y} {E} part_history store_history (Err failed) parts_of (Some holding) mid new row region_row store_row stores geometry page entries names wanted next is begun files tell standing =
+    let Was : List Part → Holding = λ told. record { parts = told; stores = holding.stores } in
+    row_tells_from row (λ told. StandForFiles told → GivesBack part_history store_history (InEachImage (StandsWithSome (Was told) wanted)) new (parts_of failed) stores) (λ told are stand.
+    let here = files_named told names holding.stores in
+    let same : names_known told ≡ names = known_names told geometry page entries names next (row_tells_at row (λ told. IsOpeningBegun told geometry page entries names next) told are begun) in
+    let left : Holding = record { parts = holding.parts; stores = without_stores names holding.stores } in
+    let gives = at_some mid
+    (λ holding. AllTell region_row → GivesBack part_history store_history (InEachImage (HasSome (length names) (all_names names wanted) (files_behind here (new_names names wanted) holding.stores))) new (parts_of failed) stores)
+    left is (standing here (row_tells_at row (λ parts. HoldFiles store_row (files_named parts names holding.stores)) told are files)) tell in
+    let those : files_behind here (new_names names wanted) left.stores ≡ files_with told names wanted holding.stores =
+    ap (λ (stores : List Store). record { contents = here.contents ++ (files_of stores).contents }) (new_stores names wanted holding.stores) in
+    let Some_of : Files → Image → Files → Type 0 = λ files image bytes. HasSome (length names) (all_names names wanted) files image bytes in
+    let By : List (List ℕ) → Image → Files → Type 0 = λ names image bytes. HasSome (length names) (all_names names wanted) (files_with told names wanted holding.stores) image bytes in
+    gives_more part_history store_history (InEachImage (Some_of (files_behind here (new_names names wanted) left.stores))) (InEachImage (StandsWithSome (Was told) wanted)) new (parts_of failed) stores
+    (λ back each image bytes is_image are_bytes.
+    inr (subst (λ names. By names image bytes) (sym same) (subst (λ files. Some_of files image bytes) those (each image bytes is_image are_bytes))))
+    gives)
+
+-- ---- as the bench held it before its parts were made those of a geometry
+
+pub before_made : (geometry : Geometry) (was : Holding) (wanted : List (List ℕ)) (image : Image) (bytes : Files) → StandsWithSome (record { parts = opened (Some geometry) was.parts; stores = was.stores }) wanted image bytes → StandsWithSome was wanted image bytes
+before_made geometry was wanted image bytes stands =
+    let parts = opened (Some geometry) was.parts in
+    let stays : is_blank parts ≡ is_blank was.parts = blank_stays geometry was.parts in
+    let same : names_known parts ≡ names_known was.parts =
+    by_test (is_blank was.parts) (λ blank. blank_known parts (stays ∙ blank) ∙ sym (blank_known was.parts blank)) (λ kept. ap (λ (these : List Part). names_known these) (opened_kept geometry was.parts kept)) in
+    elim stands [
+      | inl blank ↦ inl (sym stays ∙ blank.0, blank.1)
+      | inr some ↦
+          let By : List (List ℕ) → Type 0 = λ known. HasSome (length known) (all_names known wanted) (files_with parts known wanted was.stores) image bytes in
+          let known = names_known was.parts in
+          let Of : Files → Type 0 = λ files. HasSome (length known) (all_names known wanted) (files_behind files (new_names known wanted) was.stores) image bytes in
+          inr (subst Of (files_cases geometry was.parts known was.stores (is_blank was.parts) refl) (subst By same some))
+    ]
+
+pub made_stand : (geometry : Geometry) (parts : List Part) → StandForFiles parts → StandForFiles (opened (Some geometry) parts)
+made_stand geometry parts stand = record {
+  readable = λ kept. (let was = sym (blank_stays geometry parts) ∙ kept in subst HasHeader (sym (opened_kept geometry parts was)) (stand.readable was));
+  fits = λ kept. (let was = sym (blank_stays geometry parts) ∙ kept in subst (λ (these : List Part). Fits version_1 (row_words these)) (sym (opened_kept geometry parts was)) (stand.fits was));
+}
+
+-- a bench of which nothing was lent
+pub still_left : (old new : BenchState) (was : Holding) (wanted : List (List ℕ)) → QuietPartHasOneImage → new ≡ with_faults new.faults old → old.told ≡ Some was → IfSome old.told IsQuietHolding → StandForFiles was.parts
+    → TellsOf (InEachImage (StandsWithSome was wanted)) new.told
+still_left old new was wanted one is told quiet stand =
+    let still : IsQuietHolding was = at_some old.told IsQuietHolding was told quiet in
+    by_test (is_blank was.parts)
+    (λ blank. record {
+      now = was;
+      told_is = ap (λ (state : BenchState). state.told) is ∙ told;
+      is_so = blank_left was was wanted 0 0 blank (λ image is_image. inl ((blank_row one was.parts still.parts blank).blank image is_image));
+    })
+    (λ kept. let stays = still_stands old new was is told quiet (stand.readable kept) in
+    record { now = stays.now; told_is = stays.told_is; is_so = kept_left was stays.now wanted kept (stand.fits kept) stays.is_so })

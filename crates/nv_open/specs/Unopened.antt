@@ -1,0 +1,110 @@
+-- Unopened: what a bench holds, whatever a power failure leaves of it, whose region wasn't opened, or wasn't recovered.
+use Rattle.std.specs.Prelude.{◌≡◌, ◌⊎◌, ℕ, ◌≤◌, Bool, true, false, if◌then◌else◌, List, [], ◌++◌, length, map, take, Option, Some}
+use Rattle.nv_plain.specs.Files.{Files}
+use Rattle.nv_plain.specs.Images.{Image, header_of}
+use Rattle.nv_plain.specs.Layouts.{version_1}
+use Rattle.nv_plain.specs.Recovered.{Fits, IsBlank}
+use Rattle.nv_pmem.specs.Part.{Part}
+use Rattle.nv_pmem.specs.RowStates.{AreNow}
+use Rattle.nv_pmem.specs.Rows.{IsRowImage, row_words}
+use Rattle.nv_pmem.specs.Steps as lines
+use Rattle.nv_store.specs.Steps.{StoreHistory}
+use Rattle.nv_store.specs.Store.{Store}
+use Rattle.nv_header.specs.Heads.{IsHead, first_names}
+use Rattle.nv_header.specs.Regions.{HasEmptyLog}
+use Rattle.nv_bench.specs.Benches.{BenchState, told_back}
+use Rattle.nv_bench.specs.Holding.{Holding}
+use Rattle.nv_bench.specs.Opening.{is_blank}
+use Rattle.nv_recover.specs.Standing.{AreStoreImages, StandsFor, StandsStill, files_of}
+use Rattle.nv_open.specs.Adding.{all_names}
+use Rattle.nv_open.specs.Begun.{files_with}
+use Rattle.nv_open.specs.Held.{header_names}
+use Rattle.nv_open.specs.Lending.{stores_named}
+
+-- a bench tells that it holds something that is so
+pub record TellsOf (P : Holding → Type 0) (told : Option Holding) : Type 0 where
+  pub now : Holding
+  pub told_is : told ≡ Some now
+  pub is_so : P now
+
+-- ---- images of what a bench holds
+
+-- the names that the header of an image says
+abbrev pub names_in : Image → List (List ℕ)
+names_in image = first_names version_1 image (header_of image).files
+
+-- an image of the parts of a bench, with the bytes of the stores that its header names, freely, is so
+abbrev pub InEachImage : (Image → Files → Type 0) → Holding → Type 0
+InEachImage P holding =
+    (image : Image) (bytes : Files) → IsRowImage holding.parts image → AreStoreImages (stores_named (names_in image) holding.stores) bytes → P image bytes
+
+-- the files of the first so many names
+abbrev pub first_files : ℕ → Files → Files
+first_files count files = record { contents = take count files.contents }
+
+-- An image can be read and has some first ones of these names, no fewer than so many. With the bytes it stands for the files of these.
+pub record HasSome (least : ℕ) (names : List (List ℕ)) (files : Files) (image : Image) (bytes : Files) : Type 0 where
+  pub count : ℕ
+  pub enough : least ≤ count
+  pub readable : IsHead version_1 version_1.header_lines image
+  pub names_are : names_in image ≡ take count names
+  pub stands : StandsFor image bytes (first_files count files)
+
+-- The header of parts can be read, and says good names.
+abbrev pub HasHeader : List Part → Type 0
+HasHeader parts = IsHead version_1 version_1.header_lines (row_words parts)
+
+-- ---- a recovery that failed
+
+-- Whatever a power failure leaves of what a bench holds has a header with the same names, and can take the place of what it held.
+pub record StandsAsBefore (was now : Holding) : Type 0 where
+  pub same_names : (image : Image) → IsRowImage now.parts image → names_in image ≡ header_names was.parts
+  pub stands : StandsStill (row_words was.parts) (files_of (stores_named (header_names was.parts) was.stores)) now.parts (stores_named (header_names was.parts) now.stores)
+
+-- ---- an opening that failed
+
+-- the names of a region at its opening: those that its header says, and none of a blank one
+abbrev pub names_known : List Part → List (List ℕ)
+names_known parts = if is_blank parts then [] else header_names parts
+
+-- Parts stand for files: they are blank, or a region that can be read, whose committed numbers lead whole groups.
+pub record StandForFiles (parts : List Part) : Type 0 where
+  pub readable : is_blank parts ≡ false → HasHeader parts
+  pub fits : is_blank parts ≡ false → Fits version_1 (row_words parts)
+
+-- An image of what is left of a bench: it is blank, as the bench was; or it has all names of the region, and maybe some of the new ones, and stands for
+-- their files.
+abbrev pub StandsWithSome : (was : Holding) (wanted : List (List ℕ)) → Image → Files → Type 0
+StandsWithSome was wanted image bytes =
+    let known = names_known was.parts in
+    ((is_blank was.parts ≡ true) × IsBlank image) ⊎ HasSome (length known) (all_names known wanted) (files_with was.parts known wanted was.stores) image bytes
+
+-- ---- what comes back
+
+-- These devices tell, and whatever a power failure leaves of them can take the place of what these parts and stores were, with the same names in its header.
+pub record StandAsBefore (parts : List Part) (stores : List Store) (part_row : List lines.PartHistory) (store_row : List StoreHistory) : Type 0 where
+  pub now : List Part
+  pub held : List Store
+  pub now_are : AreNow part_row now
+  pub held_are : AreNow store_row held
+  pub same_names : (image : Image) → IsRowImage now image → names_in image ≡ header_names parts
+  pub stands : StandsStill (row_words parts) (files_of stores) now held
+
+-- parts tell, and what they hold is so
+pub record TellRow (P : List Part → Type 0) (row : List lines.PartHistory) : Type 0 where
+  pub now : List Part
+  pub now_are : AreNow row now
+  pub is_so : P now
+
+-- The log is empty, and the header has these names and the first so many of others.
+pub record HasFirstNames (page entries : ℕ) (names more : List (List ℕ)) (next : ℕ) (image : Image) : Type 0 where
+  pub count : ℕ
+  pub empty : HasEmptyLog version_1 page entries (names ++ take count more) next image
+
+-- These parts and stores tell, and a bench to which they come back holds something that is so.
+pub record GivesBack {X Y : Type 0} (part_history : X → lines.PartHistory) (store_history : Y → StoreHistory) (P : Holding → Type 0) (bench : BenchState) (parts : List X) (stores : List Y) : Type 0 where
+  pub now : List Part
+  pub held : List Store
+  pub now_are : AreNow (map part_history parts) now
+  pub held_are : AreNow (map store_history stores) held
+  pub tells : TellsOf P (told_back now held bench)
