@@ -5,18 +5,19 @@ ghost use Rattle.nv_table.specs.state.States.{IsOf};
 ghost use Rattle.nv_table.specs.state.Views.{first_view};
 ghost use Rattle.nv_trace.specs.Shape.{IsWellFormed};
 ghost use Rattle.nv_trace.specs.Traced.{lines_in};
+ghost use Rattle.nv_runner.specs.declared.running.TheConstants.{MOST_CALLS};
 
 use crate::given::{region, stores};
 use crate::syncs::opened_over;
 use nv_plain::{NoMemory, Reply};
 use nv_pmem::{Fuse, Pick};
-use nv_runner::{Gate, OpenGate, Plan, Point, SortedCalls, run_calls};
+use nv_runner::{Gate, MOST_CALLS, OpenGate, Plan, Point, SortedCalls, run_calls};
 use nv_trace::{Form, MemSource, Trace, TraceCall, read_trace};
 use std::alloc::Global;
 use std::sync::Wait;
 use std::sync::atomic::{AtomicU64, Ordering};
 use std::test::Fail;
-use std::thread::Threads;
+use std::thread::{Threads, yield_now};
 
 /// Two threads write in a first round, and read in a second one what both wrote.
 const ROUNDS: &str =
@@ -29,7 +30,7 @@ const BESIDE: &str =
 /// A thread alone.
 const ALONE: &str = "file a\nfd 0 a rw\n0 pwrite 0 0 61\n0 pwrite 0 64 62\n";
 
-/// How often a thread that is held looks whether it may go on.
+/// How often a thread that is held looks whether it may go on. It gives its processor up between two looks, since the thread that it waits for may want it: some seconds in all.
 const LOOKS: u64 = 10_000_000;
 
 /// A gate that holds a thread before the call of a line until another thread is at a moment of a call of its own, and gives up after so many looks.
@@ -60,6 +61,7 @@ impl Holding {
             if self.come.load(Ordering::SeqCst) == 1 {
                 return;
             }
+            yield_now();
         }
         self.missed.store(1, Ordering::SeqCst);
     }
@@ -80,11 +82,11 @@ impl Gate for Holding {
 fn traced(alloc: Global, text: &str) -> Result<Trace, Fail>
     ensures well_formed { IfOk result (λ trace. IsWellFormed trace) }
     ensures lines { IfOk result (λ trace. IsStrictlyIncreasing (lines_in trace)) }
-    ensures few { IfOk result (λ trace. length trace.calls ≤ 67108864) }
+    ensures few { IfOk result (λ trace. length trace.calls ≤ MOST_CALLS) }
 {
     let mut source = MemSource::new(alloc, text.as_bytes(), &[])?;
     let trace = read_trace(alloc, Form::Run, &mut source)?;
-    if trace.calls().len() > 67_108_864 {
+    if trace.calls().len() > MOST_CALLS {
         return Err(NoMemory.into());
     }
     Ok(trace)
@@ -100,7 +102,7 @@ fn run<'a, R: Threads + Wait + Sync, G: Gate + Sync>(
 ) -> Result<SortedCalls<'a>, Fail>
     requires well_formed { IsWellFormed trace.now }
     requires lines { IsStrictlyIncreasing (lines_in trace.now) }
-    requires few { length trace.now.calls ≤ 67108864 }
+    requires few { length trace.now.calls ≤ MOST_CALLS }
 {
     let stores = stores(alloc, &[], Fuse::new(alloc, &[])?)?;
     let (mount, pass) = opened_over(alloc, region(alloc)?, stores)?;

@@ -115,7 +115,7 @@ drawn_refused : (refused : List RefusedCall) (left : List OpenedCall) → drawin
 drawn_refused [] left = drawn_open left
 drawn_refused (r ∷ refused) left = drawn_refused refused left
 
-drawn_listed : (placed : List PlacedCall) (refused : List RefusedCall) (left : List OpenedCall)
+pub drawn_listed : (placed : List PlacedCall) (refused : List RefusedCall) (left : List OpenedCall)
     → drawing_calls (map placed_made placed ++ map refused_made refused ++ map opened_made left) ≡ map (λ (p : PlacedCall). p.call) placed ++ map (λ (o : OpenedCall). o.call) left
 drawn_listed [] refused left = drawn_refused refused left
 drawn_listed (p ∷ placed) refused left = ap (λ (l : List TracedCall). p.call ∷ l) (drawn_listed placed refused left)

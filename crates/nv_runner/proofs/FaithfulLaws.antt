@@ -17,7 +17,6 @@ use Rattle.nv_core.specs.crash.CommutingWrites.{after_calls}
 use Rattle.nv_core.specs.log.LivePieces.{calls_of}
 use Rattle.nv_core.specs.state.Passes.{IsOneOf, Pass}
 use Rattle.nv_core.specs.state.Values.{Value}
-use Rattle.nv_core.specs.state.Words.{Sizes}
 use Rattle.nv_core.specs.steps.Frames.{OwnEventsTell}
 use Rattle.nv_core.specs.steps.Opening.{IsMount}
 use Rattle.nv_table.specs.invariant.BetweenSteps.{KnowsTaken}
@@ -31,8 +30,6 @@ use Rattle.nv_mount.specs.WholeRuns.{history_then}
 use Rattle.nv_mount.specs.declared.fds.Fd.{Fd}
 use Rattle.nv_mirror.specs.declared.answers.Refusal as mirror
 use Rattle.nv_trace.specs.Shape.{IsCallWithin, IsWellFormed}
-use Rattle.nv_trace.specs.declared.trace_call.TraceCall.{TraceCall}
-use Rattle.nv_trace.specs.declared.trace_call.TraceCall.TheVariants.{Pread, Pwrite, Fsync}
 use Rattle.nv_trace.specs.Traced.{Traced, lines_in}
 use Rattle.nv_trace.specs.declared.report.Refusal.{Refusal}
 use Rattle.nv_trace.specs.declared.trace.Descriptor.{Descriptor}
@@ -43,11 +40,11 @@ use Rattle.nv_runner.specs.declared.sorted.Open.{Open}
 use Rattle.nv_runner.specs.declared.sorted.SortedCalls.{SortedCalls}
 use Rattle.nv_runner.specs.EndedRuns.{HasOutcome, IsClosedBy, IsRefusedSo, batch_of}
 use Rattle.nv_runner.specs.Faithful.{Basis, IsAllowedRefusal, IsFaithful, IsLeftOpen, IsWrite, barred, descriptors_in, drawing_calls, entries_of, file_call, history_of, listed_calls, not_later, open_calls_of}
-use Rattle.nv_runner.specs.FaithfulRuns.{FilesAreOfTheHistory, IsMountOf, RunsAreFaithful, ShowsCalls, UnstoppedRunsLeaveNothingOpen, as_fd, shown_as, shown_one, shown_refusal, shown_refusals}
+use Rattle.nv_runner.specs.FaithfulRuns.{EmptiedLogsGoOn, FilesAreOfTheHistory, IsMountOf, RunsAreFaithful, ShowsCalls, UnstoppedRunsLeaveNothingOpen, as_fd, shown_as, shown_one, shown_refusal, shown_refusals}
 use Rattle.nv_runner.specs.Histories.{CallsOnFiles, KeepOrder, PlacedCall, StandsAs}
 use Rattle.nv_runner.specs.Reports.{Report, ShownRefusal}
 use Rattle.nv_runner.specs.Lists.{MadeCall, calls_made}
-use Rattle.nv_runner.specs.Refusals.{IsOpenWrite, early_of_call}
+use Rattle.nv_runner.specs.Refusals.{early_of_call}
 use Rattle.nv_runner.specs.RunRefusals.{entries_of_calls}
 use Rattle.nv_runner.specs.RunRefusals as in_run
 use Rattle.nv_runner.specs.Sorted.{AreSortedOut, OpenedCall, RefusedCall, opened_call, opened_made, placed_call, placed_made, refused_call, refused_made}
@@ -149,13 +146,8 @@ module _ (basis : Basis) (trace : Traced) (fds : List Fd) (opened : Opened) (vie
 pub record HaveCauses (fds : List Fd) (plan : Plan) (made : List MadeCall) (zero : PassState) : Type 0 where
   pub refused : (call : TracedCall) (refusal : mirror.Refusal) → IsOneOf made (record { call = call; answer = answers.Refused refusal }) → IsRefusedSo fds (batch_of plan) made zero call refusal
   pub placed : (call : TracedCall) (place : ℕ) (reply : Reply) → IsOneOf made (record { call = call; answer = answers.Placed place reply }) → early_of_call zero.view.opened.sizes fds call.call ≡ None
-  pub left_open : (call : TracedCall) (number : ℕ) → IsOneOf made (record { call = call; answer = answers.Open number }) → SawStop zero.view × IsOpenWrite zero.view.opened.sizes fds call.call
+  pub left_open : (call : TracedCall) (number : ℕ) → IsOneOf made (record { call = call; answer = answers.Open number }) → SawStop zero.view × IsWrite call.call × (early_of_call zero.view.opened.sizes fds call.call ≡ None)
   pub room : plan.worker ≡ false → entries_of_calls zero.view.opened.sizes (in_run.drawing_calls made) ≤ zero.view.opened.sizes.entries
-
-unbarred_write : (sizes : Sizes) (fds : List Fd) (call : TraceCall) → IsOpenWrite sizes fds call → IsWrite call × (early_of_call sizes fds call ≡ None)
-unbarred_write sizes fds (Pread fd at len) write = absurd write
-unbarred_write sizes fds (Pwrite fd at bytes) write = (tt, write)
-unbarred_write sizes fds (Fsync fd) write = absurd write
 
 module _ (made : List MadeCall) (sorted : SortedCalls) (sorts : AreSortedOut made sorted) where
   abbrev placed_ones : List PlacedCall
@@ -183,7 +175,7 @@ module _ (made : List MadeCall) (sorted : SortedCalls) (sorts : AreSortedOut mad
       one_moved each_one made (refused_made r) back (one_left (map placed_made placed_ones ++ map refused_made refused_ones) (map opened_made open_ones) (refused_made r)
       (one_right (map placed_made placed_ones) (map refused_made refused_ones) (refused_made r) (one_mapped refused_made refused_ones r one)))
 
-  open_there : (o : OpenedCall) → IsOneOf open_ones o → IsOneOf made (opened_made o)
+  pub open_there : (o : OpenedCall) → IsOneOf open_ones o → IsOneOf made (opened_made o)
   open_there o one =
       one_moved each_one made (opened_made o) back
       (one_right (map placed_made placed_ones ++ map refused_made refused_ones) (map opened_made open_ones) (opened_made o) (one_mapped opened_made open_ones o one))
@@ -295,9 +287,8 @@ module _ (failed : Type 0) (basis : Basis) (trace : Traced) (fds : List Fd) (pla
           let from = one_of_mapped (λ (o : OpenedCall). o.call) open_list call one in
           let o = from.0 in
           let told = causes.left_open o.call o.number (open_there made sorted sorts o from.1) in
-          let write = unbarred_write opened.sizes fds o.call.call told.1 in
           subst (IsLeftOpen failed basis descriptors_then) from.2
-          (record { is_write = write.0; failed_so = stops told.0; not_barred = free_where (opened_made o) (open_there made sorted sorts o from.1) write.1 })
+          (record { is_write = told.1; failed_so = stops told.0; not_barred = free_where (opened_made o) (open_there made sorted sorts o from.1) told.2 })
 
   pub has_room : plan.worker ≡ false → entries_of basis.sizes (drawing_calls report) ≤ basis.sizes.entries
   has_room off =
@@ -351,10 +342,31 @@ pub runs_are_faithful : RunsAreFaithful
 runs_are_faithful basis trace fds plan start zero sorted part_values store_values parts stores faults count tail report formed few lines is new out closed shows =
     faithful_where (SawStop zero.view) basis trace fds plan start zero sorted part_values store_values parts stores faults count tail report formed few lines is new out closed shows (λ saw. saw)
 
+-- ---- the log
+
+pub emptied_logs_go_on : EmptiedLogsGoOn
+emptied_logs_go_on basis trace fds plan start zero sorted part_values store_values parts stores faults count tail report is out closed shows emptied =
+    let opened = zero.view.opened in
+    let there = subst (λ (o : Opened). IsMountOf basis trace o fds) (sym out.run_out.mount) is in
+    let placed_list = map placed_call sorted.placed.items in
+    let refused_list = map refused_call sorted.refused.items in
+    let open_list = map opened_call sorted.open_calls.items in
+    let drew_is : drawing_calls report ≡ map (λ (p : PlacedCall). p.call) placed_list ++ map (λ (o : OpenedCall). o.call) open_list =
+    ap (λ (l : List PlacedCall). map (λ (p : PlacedCall). p.call) l ++ open_calls_of report) shows.history
+    ∙ ap (λ (l : List TracedCall). map (λ (p : PlacedCall). p.call) placed_list ++ l) shows.open_calls in
+    let drew : entries_of_calls opened.sizes (in_run.drawing_calls out.made) ≡ entries_of basis.sizes (drawing_calls report) =
+    drawn_in_all opened.sizes out.made placed_list refused_list open_list out.sorted.0.listed ∙ ap (λ (l : List TracedCall). entries_of_calls opened.sizes l) (sym drew_is)
+    ∙ entries_alike basis trace opened fds there (drawing_calls report) in
+    let last = closed.whole.tail_is in
+    let none = emptied.none in
+    let head = out.counted in
+    let next = there.next in
+    omega (arith, last, none, head, next, drew)
+
 -- ---- the files
 
 -- those after the calls of a history, whoever made them
-after_each : (history : List Answered) (files : Files) → after_calls (calls_of history) files ≡ after history files
+pub after_each : (history : List Answered) (files : Files) → after_calls (calls_of history) files ≡ after history files
 after_each [] files = refl
 after_each (answered ∷ later) files = after_each later (files_after answered.call files)
 

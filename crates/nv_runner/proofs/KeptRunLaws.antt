@@ -1,12 +1,10 @@
 -- Kept runs: what a power failure makes of the calls that a run left open, in whatever order they are listed.
-use Rattle.std.proofs.Common.{◌≡◌, ℕ, zero, suc, ◌<◌, Bool, true, false, if◌then◌else◌, List, [], ◌∷◌, ◌++◌, length, map, get_or, refl, sym, ap, subst, ◌∙◌, arith}
+use Rattle.std.proofs.Common.{◌≡◌, ℕ, zero, suc, Bool, true, false, if◌then◌else◌, List, [], ◌∷◌, ◌++◌, length, map, get_or, refl, sym, ap, subst, ◌∙◌, arith}
 use Rattle.std.specs.Prelude.{All, IsPermutation, filter, not, slice_set}
 use Rattle.std.specs.List.{flat_map, swap}
 use Rattle.std.proofs.lemmas.List.{append-nil, length-map}
 use Rattle.std.proofs.lemmas.List.Elements.{All-nil, All-cons, All-head, All-tail}
 use Rattle.std.proofs.lemmas.List.Sorted.{All-permutation, IsPermutation-append_left, IsPermutation-filter_both, IsPermutation-keeps, IsPermutation-refl, IsPermutation-swap, IsPermutation-sym, IsPermutation-trans}
-use Rattle.nv_plain.specs.Files.{Files}
-use Rattle.nv_plain.specs.Images.{Image}
 use Rattle.nv_plain.specs.Recovered.{recovered}
 use Rattle.nv_core.specs.state.Passes.{Fault, is_write}
 use Rattle.nv_core.specs.crash.CommutingWrites.{after_calls}

@@ -21,18 +21,18 @@ use Rattle.nv_runner.proofs.SortedLaws.{falls_not}
 -- ---- numbers of which no two are one
 
 -- each is there once
-distinct_once : (numbers : List ℕ) → ((number : ℕ) → times_there number numbers ≤ 1) → AreDistinctNumbers numbers
+pub distinct_once : (numbers : List ℕ) → ((number : ℕ) → times_there number numbers ≤ 1) → AreDistinctNumbers numbers
 distinct_once [] once = tt
 distinct_once (first ∷ rest) once = (
   λ one. (let few = once first in let here = same_counts first first refl in let there = some_there first rest one in omega arith),
   distinct_once rest (λ number. (let few = once number in omega arith)),
 )
 
-distinct_moved : (xs ys : List ℕ) → IsPermutation xs ys → AreDistinctNumbers xs → AreDistinctNumbers ys
+pub distinct_moved : (xs ys : List ℕ) → IsPermutation xs ys → AreDistinctNumbers xs → AreDistinctNumbers ys
 distinct_moved xs ys moved distinct =
     distinct_once ys (λ number. (let same = added_moved (if_same number) xs ys moved in let few = once_there number xs distinct in omega arith))
 
-rising_distinct : (xs : List ℕ) → AllPairs (λ x y. x < y) xs → AreDistinctNumbers xs
+pub rising_distinct : (xs : List ℕ) → AllPairs (λ x y. x < y) xs → AreDistinctNumbers xs
 rising_distinct [] rise = tt
 rising_distinct (first ∷ rest) rise = (
   λ one. (

@@ -2,10 +2,10 @@
 use Rattle.std.proofs.Common.{◌≡◌, ℕ, ◌+◌, ◌≤◌, true, false, List, [], ◌++◌, length, inl, inr, refl, sym, ap, subst, ◌∙◌, arith, append-nil, length-append}
 use Rattle.std.specs.Prelude.{All, IsPermutation, Option, Some, None, Result, Ok, Err, IfOk, OnOk, is_none, is_some, if◌then◌else◌}
 use Rattle.std.specs.List.{flat_map}
-use Rattle.std.proofs.lemmas.Bool.{cases_eq}
+use Rattle.std.proofs.lemmas.Bool.{cases_eq, ltb-true, true≢false}
 use Rattle.std.proofs.lemmas.List.Sorted.{IsPermutation-sym}
 use Rattle.nv_plain.specs.declared.call.Reply.{Reply}
-use Rattle.nv_core.specs.state.Passes.{IsOneOf, Pass}
+use Rattle.nv_core.specs.state.Passes.{IsOneOf, Pass, is_write}
 use Rattle.nv_core.specs.state.Words.{Sizes, HEAD, STOP}
 use Rattle.nv_core.specs.steps.Events.{Event}
 use Rattle.nv_core.specs.steps.Frames.{OwnEventsTell}
@@ -25,6 +25,7 @@ use Rattle.nv_mount.specs.LoneWords.{word_then}
 use Rattle.nv_mount.specs.RisenCounts.{SawStop}
 use Rattle.nv_mount.specs.WholeRuns.{history_then}
 use Rattle.nv_mount.specs.declared.fds.Fd.{Fd}
+use Rattle.nv_mount.proofs.WholeRunLaws.{all_taken, joined_then, not_made}
 use Rattle.nv_mirror.specs.Answers.{IsUnplaced}
 use Rattle.nv_mirror.specs.declared.answers.Refusal.{Refusal}
 use Rattle.nv_calls.specs.fsync.SyncRuns.{file_of_fd}
@@ -38,21 +39,21 @@ use Rattle.nv_runner.specs.declared.plan.Plan.{Plan}
 use Rattle.nv_runner.specs.declared.run_error.RunError.{RunError}
 use Rattle.nv_runner.specs.declared.run_error.RunError.TheVariants.{NoMemory, Fault}
 use Rattle.nv_runner.specs.declared.sorted.SortedCalls.{SortedCalls}
-use Rattle.nv_runner.specs.Calls.{IsUnbarred, IsUnbarredWrite, fd_of}
+use Rattle.nv_runner.specs.Calls.{IsUnbarred, IsUnbarredWrite, call_on, fd_of}
 use Rattle.nv_runner.specs.EndedRuns.{HasOutcome, HasRunOut, IsOutcomeOf, IsRefusedSo, batch_of}
-use Rattle.nv_runner.specs.Faithful.{not_later}
+use Rattle.nv_runner.specs.Faithful.{IsWrite, not_later}
 use Rattle.nv_runner.specs.Histories.{RoundsRise}
 use Rattle.nv_runner.specs.Lists.{MadeCall, calls_made}
 use Rattle.nv_runner.specs.OpenRuns.{OpenInRun}
 use Rattle.nv_runner.specs.OpenWrites.{KeepsFaults}
-use Rattle.nv_runner.specs.Refusals.{IsOpenWrite, early_of_call, unless_file, word_seen}
+use Rattle.nv_runner.specs.Refusals.{early_of_call, unless_file, word_seen}
 use Rattle.nv_runner.specs.Rounds.{AreCallsOf}
-use Rattle.nv_runner.specs.RunRefusals.{DrawsHaveRoom, IsRefusedInRun, IsRunOfPasses, RefusalsInRunsHaveCauses, drawing_calls, entries_of_calls}
+use Rattle.nv_runner.specs.RunNumbers.{HaveDrawn, RunsDrawInARow}
+use Rattle.nv_runner.specs.RunRefusals.{DrawsHaveRoom, HeadsCountCalls, IsRefusedInRun, IsRunOfPasses, RefusalsInRunsHaveCauses, drawing_calls, entries_of_calls}
 use Rattle.nv_runner.specs.Runs.{CleansNothing}
 use Rattle.nv_runner.specs.Shifts.{HasRun, IsShift, Shift}
-use Rattle.nv_runner.specs.Sorted.{AreSortedOut}
+use Rattle.nv_runner.specs.Sorted.{AreSortedOut, HaveOwnLines}
 use Rattle.nv_runner.specs.Workers.{IsZeroStill}
-use Rattle.nv_runner.proofs.AllTaken.{all_taken, not_made, taken_then}
 use Rattle.nv_runner.proofs.HistoryMembers.{of_one, one_mapped, one_moved, one_of_joined, one_of_mapped}
 use Rattle.nv_runner.proofs.NewcomerLaws.{unmade_own}
 use Rattle.nv_runner.proofs.PassLaws.{unplaced_on}
@@ -73,7 +74,7 @@ stop_was_seen sound tell view mount is_run zero_is knows all set =
           inr (
             taken.0,
             taken.1,
-            sym (ap (λ (p : Pass). p.stopped) (taken_then sound view mount is_run zero_is knows all tell taken.0 taken.1)) ∙ subst Stopped (sym taken.2) known.2,
+            sym (ap (λ (p : Pass). p.stopped) (joined_then sound view mount is_run zero_is knows all tell taken.0 taken.1)) ∙ subst Stopped (sym taken.2) known.2,
           ))
     ]
 
@@ -85,10 +86,17 @@ early_none sizes fds (Pread fd at len) file file_is unbarred = unbarred
 early_none sizes fds (Pwrite fd at bytes) file file_is unbarred = unbarred
 early_none sizes fds (Fsync fd) file file_is unbarred = ap unless_file file_is
 
-open_write : (sizes : Sizes) (fds : List Fd) (call : TraceCall) → IsUnbarredWrite sizes fds call → IsOpenWrite sizes fds call
-open_write sizes fds (Pread fd at len) unbarred = unbarred
-open_write sizes fds (Pwrite fd at bytes) unbarred = unbarred
-open_write sizes fds (Fsync fd) unbarred = unbarred
+-- a write that a fault ended is one of some bytes
+of_some_bytes : (call : TraceCall) (file : ℕ) → is_write (call_on call file) ≡ true → IsWrite call
+of_some_bytes (Pread fd at len) file write = absurd (true≢false (sym write))
+of_some_bytes (Pwrite fd at bytes) file write = ltb-true 0 (length bytes) write
+of_some_bytes (Fsync fd) file write = absurd (true≢false (sym write))
+
+-- and nothing bars it
+bars_nothing : (sizes : Sizes) (fds : List Fd) (call : TraceCall) → IsUnbarredWrite sizes fds call → early_of_call sizes fds call ≡ None
+bars_nothing sizes fds (Pread fd at len) unbarred = absurd unbarred
+bars_nothing sizes fds (Pwrite fd at bytes) unbarred = unbarred
+bars_nothing sizes fds (Fsync fd) unbarred = absurd unbarred
 
 -- ---- pass 0 after its log was cleaned, or where it was not
 
@@ -101,6 +109,7 @@ pub record IsCleaned (zero now : PassState) : Type 0 where
   pub keeps : KeepsFaults zero now
   pub more : List Event
   pub run : now.view.run ≡ zero.view.run ++ more
+  pub drawn : drawn_of now.view.opened.sizes (pass_of now.view) ≡ drawn_of zero.view.opened.sizes (pass_of zero.view)
   pub idle : IsIdle now
   pub taken : KnowsTaken now.view
   pub alone : IsAlone now.view
@@ -114,6 +123,7 @@ not_cleaned zero idle taken alone = record {
   keeps = record { opens = refl; stays = λ seen. seen };
   more = [];
   run = sym (append-nil zero.view.run);
+  drawn = refl;
   idle = idle;
   taken = taken;
   alone = alone;
@@ -197,6 +207,21 @@ module _ (fds : List Fd) (plan : Plan) (calls : List TracedCall) (made : List Ma
       alone = cleaned.alone;
     }
 
+    -- what the calls drew HEAD counts
+    drawn_now : RunsAreSound → HeadsCountCalls → AreDistinctNumbers (numbers zero.view.ended) → IsRunOf now.view.opened now.view.run
+        → word_then now.view HEAD ≡ now.view.opened.next + entries_of_calls now.view.opened.sizes (drawing_calls made)
+    drawn_now sound heads distinct is_run_now =
+        let mount_now = subst (λ (o : Opened). IsMount (mount_of o)) (sym cleaned.opened) mount in
+        heads fds worker made now run_now mount_now
+        record {
+          is_run = is_run_now;
+          joined = cleaned.taken.behind;
+          others = λ number ne none.
+              unmade_own now.view.opened.sizes number now.view.run (opening (mount_of now.view.opened)) is_run_now
+              (not_made sound now.view mount_now is_run_now cleaned.alone.zero cleaned.taken cleaned.alone.all number ne none);
+        }
+        (subst (λ (l : List Past). AreDistinctNumbers (numbers l)) (sym cleaned.ended) distinct) (cleaned.drawn ∙ undrawn)
+
     saw_now : SawStop zero.view → SawStop now.view
     saw_now saw = elim saw [
       | inl own ↦ inl (cleaned.keeps.stays own)
@@ -234,13 +259,15 @@ module _ (fds : List Fd) (plan : Plan) (calls : List TracedCall) (made : List Ma
         let same = told.opened ∙ old_opened (record { call = call; answer = Placed place reply }) has ∙ sym cleaned.opened in
         ap (λ (o : Opened). early_of_call o.sizes fds call.call) (sym same) ∙ early_none has.at.now.view.opened.sizes fds call.call told.told.0 told.told.1 told.admitted
 
-    open_stopped : (call : TracedCall) (number : ℕ) → IsOneOf made (record { call = call; answer = Open number }) → SawStop now.view × IsOpenWrite now.view.opened.sizes fds call.call
+    open_stopped : (call : TracedCall) (number : ℕ) → IsOneOf made (record { call = call; answer = Open number }) → SawStop now.view × IsWrite call.call × (early_of_call now.view.opened.sizes fds call.call ≡ None)
     open_stopped call number one =
         let m : MadeCall = record { call = call; answer = Open number } in
         let has = has_made m one in
-        let told = has.at.told.told in (
+        let told = has.at.told.told in
+        let unbarred = subst (λ (o : Opened). IsUnbarredWrite o.sizes fds call.call) (old_opened m has ∙ sym cleaned.opened) told.unbarred in (
           saw_now (seen_at m has told.seen),
-          subst (λ (o : Opened). IsOpenWrite o.sizes fds call.call) (old_opened m has ∙ sym cleaned.opened) (open_write has.at.old.view.opened.sizes fds call.call told.unbarred),
+          of_some_bytes call.call told.file told.write,
+          bars_nothing now.view.opened.sizes fds call.call unbarred,
         )
 
     -- ---- what is answered
@@ -258,7 +285,7 @@ module _ (fds : List Fd) (plan : Plan) (calls : List TracedCall) (made : List Ma
     emptied_in (Err error) (Ok sorted) emptied is = absurd is
     emptied_in (Err error) (Err other) emptied is = tt
 
-    fault_in : {T : Type 0} (result : Result T RunError) (outcome : Result SortedCalls RunError) → (result ≡ Err Fault → SawStop now.view) → IsOutcomeOf result made outcome → outcome ≡ Err Fault → SawStop now.view
+    fault_in : {T : Type 0} (result : Result T RunError) (outcome : Result SortedCalls RunError) → (result ≡ Err Fault → (is_none plan.stop ≡ true) × SawStop now.view) → IsOutcomeOf result made outcome → outcome ≡ Err Fault → (is_none plan.stop ≡ true) × SawStop now.view
     fault_in (Ok done) (Ok sorted) saw is fault = absurd (cc)
     fault_in (Ok done) (Err error) saw is fault = absurd (cc)
     fault_in (Err error) (Ok sorted) saw is fault = absurd is
@@ -270,10 +297,10 @@ module _ (fds : List Fd) (plan : Plan) (calls : List TracedCall) (made : List Ma
     without : plan.worker ≡ false → worker ≡ None
     without none = ap (λ b. if b then Some plan.batch else None) none
 
-    pub outcome_is : {T : Type 0} → RunsAreSound → HistoriesGoOn → RefusalsInRunsHaveCauses → DrawsHaveRoom → OpenInRun → RoundsRise (calls_made made) → AreDistinctNumbers (numbers zero.view.ended)
+    pub outcome_is : {T : Type 0} → RunsAreSound → HistoriesGoOn → RefusalsInRunsHaveCauses → HeadsCountCalls → DrawsHaveRoom → RunsDrawInARow → OpenInRun → AreCallsOf calls made → HaveOwnLines (calls_made made) → RoundsRise (calls_made made) → AreDistinctNumbers (numbers zero.view.ended)
         → IsRunOf now.view.opened now.view.run → (result : Result T RunError) → OnOk result (IsPermutation (calls_made made) calls) → (is_none plan.stop ≡ true → OnOk result (HasEmptiedLog now.view))
-        → (result ≡ Err Fault → SawStop now.view) → (outcome : Result SortedCalls RunError) → IsOutcomeOf result made outcome → HasOutcome fds plan calls start outcome now
-    outcome_is sound goes_on causes has_room are_open rise distinct is_run_now result all emptied fault outcome is = record {
+        → (result ≡ Err Fault → (is_none plan.stop ≡ true) × SawStop now.view) → (outcome : Result SortedCalls RunError) → IsOutcomeOf result made outcome → HasOutcome fds plan calls start outcome now
+    outcome_is sound goes_on causes heads has_room draw are_open within own rise distinct is_run_now result all emptied fault outcome is = record {
       made = made;
       run_out = run_out;
       sorted = sorted_in result outcome all is;
@@ -283,6 +310,10 @@ module _ (fds : List Fd) (plan : Plan) (calls : List TracedCall) (made : List Ma
       not_barred = not_barred;
       left_open = are_open fds worker made now run_now (cleaned.keeps.opens ∙ unopened);
       open_stopped = open_stopped;
+      drawn = subst (λ (o : Opened). HaveDrawn o.sizes o.next made) (sym cleaned.opened) (draw fds worker made zero run mount (whole sound) distinct undrawn rise);
+      within = within;
+      own = own;
+      counted = drawn_now sound heads distinct is_run_now;
       room = λ none. subst (λ (o : Opened). entries_of_calls o.sizes (drawing_calls made) ≤ o.sizes.entries) (sym cleaned.opened)
           (has_room fds worker made zero run mount (whole sound) distinct (without none) (uncleaned (without none)));
     }

@@ -12,6 +12,7 @@ use Rattle.nv_core.specs.invariant.InvariantLaws.{RunsAreSound}
 use Rattle.nv_core.specs.invariant.OneHistory.{IsPrefix}
 use Rattle.nv_core.specs.invariant.Sound.{Sound}
 use Rattle.nv_core.proofs.steps.RunLaws.{run_parts}
+use Rattle.nv_core.proofs.invariant.KeepsHistory.{begins_more}
 use Rattle.nv_table.specs.invariant.BetweenSteps.{KnowsTaken}
 use Rattle.nv_table.specs.invariant.Idle.{IsIdle}
 use Rattle.nv_table.specs.passes.PassesMade.{IsSplit, IsTakenIn, PutsBack}
@@ -21,7 +22,6 @@ use Rattle.nv_table.specs.state.States.{BoardState, IsOf, PassState}
 use Rattle.nv_table.specs.state.Views.{AreDistinctNumbers, Past, PassView, SeesAll, numbers, pass_of, past_pass}
 use Rattle.nv_table.proofs.invariant.Going.{after_one, told_of}
 use Rattle.nv_table.proofs.passes.BetweenLaws.{distinct_run}
-use Rattle.nv_table.proofs.state.ViewLaws.{begins_on}
 use Rattle.nv_table.proofs.steps.CallLaws.{child_number}
 use Rattle.nv_table.proofs.steps.TakenLaws.{behind_on}
 use Rattle.nv_mirror.specs.Answers.{IsUnplaced}
@@ -143,7 +143,7 @@ module _ (own : OwnEventsTell) (covers : NewcomersCover) (sound : RunsAreSound) 
       (sound_then.history.seen ((state_of opened (is.made.run ++ event ∷ [])).made)))
 
   history_on : IsPrefix before.history history
-  history_on = subst (λ (c : Core). IsPrefix before.history c.history) (sym (after_one opened is.made.run event)) (begins_on before.history before.history _ ([], sym (append-nil before.history)))
+  history_on = subst (λ (c : Core). IsPrefix before.history c.history) (sym (after_one opened is.made.run event)) (begins_more before.history before.history _ ([], sym (append-nil before.history)))
 
   past_seen : (past : Past) → IsOneOf old.view.ended past → IsPrefix (past_pass opened past).seen history
   past_seen past one =

@@ -4,6 +4,7 @@ use Rattle.std.specs.Prelude.{Option, None}
 use Rattle.std.specs.List.{AllPairs, flat_map}
 use Rattle.std.proofs.lemmas.List.Sorted.{IsPermutation-sym}
 use Rattle.std.proofs.lemmas.Bool.{cases_eq, cases_lt, ne_eqb, le-ltb}
+use Rattle.std.proofs.lemmas.List.{append-nil}
 use Rattle.std.proofs.lemmas.List.Elements.{All-append}
 use Rattle.std.proofs.lemmas.List.Kept.{AllPairs-from_increasing}
 use Rattle.nv_core.specs.state.Passes.{IsOneOf}
@@ -123,21 +124,21 @@ module _ (words : WordLaws) (counts : RunsCountDraws) (draws : DrawnLaws) (fds :
   abbrev all : List Event
   all = zero.view.run
 
-  made_there : (shift : Shift) (m : MadeCall) → IsOneOf run.shifts shift → IsOneOf shift.made m → IsOneOf made m
+  pub made_there : (shift : Shift) (m : MadeCall) → IsOneOf run.shifts shift → IsOneOf shift.made m → IsOneOf made m
   made_there shift m there one =
       one_moved (flat_map (λ (s : Shift). s.made) run.shifts) made m (IsPermutation-sym made (flat_map (λ (s : Shift). s.made) run.shifts) run.listed)
       (one_in_joined (λ (s : Shift). s.made) run.shifts shift m there one)
 
-  call_there : (m : MadeCall) → IsOneOf made m → IsOneOf (calls_made made) m.call
+  pub call_there : (m : MadeCall) → IsOneOf made m → IsOneOf (calls_made made) m.call
   call_there m one = one_mapped (λ (c : MadeCall). c.call) made m one
 
-  past_there : (shift : Shift) → IsOneOf run.shifts shift → IsOneOf zero.view.ended (past_of shift.now.view)
+  pub past_there : (shift : Shift) → IsOneOf run.shifts shift → IsOneOf zero.view.ended (past_of shift.now.view)
   past_there shift there = subst (λ l. IsOneOf l (past_of shift.now.view)) run.pasts (one_mapped (λ (s : Shift). past_of s.now.view) run.shifts shift there)
 
-  sees_all : (shift : Shift) → IsOneOf run.shifts shift → SeesAll shift.now.view.number shift.now.view.run all
+  pub sees_all : (shift : Shift) → IsOneOf run.shifts shift → SeesAll shift.now.view.number shift.now.view.run all
   sees_all shift there = whole.joined (past_of shift.now.view) (past_there shift there)
 
-  shift_is : (shift : Shift) → IsOneOf run.shifts shift → IsShift fds worker opened shift
+  pub shift_is : (shift : Shift) → IsOneOf run.shifts shift → IsShift fds worker opened shift
   shift_is shift there = of_one (IsShift fds worker opened) run.shifts shift run.each there
 
   draws_of : (shift : Shift) → IsOneOf run.shifts shift → ShiftDraws draws opened mount shift all
@@ -157,7 +158,7 @@ module _ (words : WordLaws) (counts : RunsCountDraws) (draws : DrawnLaws) (fds :
   ]
 
   -- and where there is none no event of that pass comes
-  nobody_there : (number : ℕ) → number ≢ zero.view.number → ((shift : Shift) → IsOneOf run.shifts shift → shift.now.view.number ≢ number) → own number all ≡ []
+  pub nobody_there : (number : ℕ) → number ≢ zero.view.number → ((shift : Shift) → IsOneOf run.shifts shift → shift.now.view.number ≢ number) → own number all ≡ []
   nobody_there number ne none = whole.others number ne absent
     where
       absent : (past : Past) → IsOneOf zero.view.ended past → past.number ≢ number
@@ -217,6 +218,36 @@ module _ (words : WordLaws) (counts : RunsCountDraws) (draws : DrawnLaws) (fds :
       mapped_twice : (shifts : List Shift) → numbers (map (λ (s : Shift). past_of s.now.view) shifts) ≡ map (λ (s : Shift). s.now.view.number) shifts
       mapped_twice [] = refl
       mapped_twice (first ∷ rest) = ap (λ l. first.now.view.number ∷ l) (mapped_twice rest)
+
+  -- ---- HEAD
+
+  pub head_counts : UnmadeHaveDrawnNothing → AreDistinctNumbers (numbers zero.view.ended) → drawn_of zero.view.opened.sizes (pass_of zero.view) ≡ 0
+      → (state_of opened all).words HEAD ≡ opened.next + entries_of_calls opened.sizes (drawing_calls made)
+  head_counts unmade distinct idle =
+      let core = state_of opened all in
+      let counted = counts (mount_of opened) all mount whole.is_run in
+      let drawn_now : ℕ → ℕ = λ number. drawn draws opened mount number all in
+      let shift_number : Shift → ℕ = λ s. s.now.view.number in
+      let names : numbers zero.view.ended ≡ map shift_number run.shifts = ap numbers (sym run.pasts) ∙ mapped_twice run.shifts in
+      let least = listed_total (map shift_number run.shifts) (core.made + 1) drawn_now (subst AreDistinctNumbers names distinct)
+      (λ n past. unmade (mount_of opened) n all mount whole.is_run (omega (arith, past))) in
+      let most = total_listed (map shift_number run.shifts) (core.made + 1) drawn_now nothing in
+      let by_shift = added_mapped drawn_now shift_number run.shifts in
+      let ends = added_same (λ (s : Shift). drawn_now s.now.view.number) (λ (s : Shift). drawn_in opened.sizes s.made) run.shifts (λ s there. (draws_of s there).ends) in
+      let joined_calls = added_joined (drew opened.sizes) (λ (s : Shift). s.made) run.shifts in
+      let moved = added_moved (drew opened.sizes) made (flat_map (λ (s : Shift). s.made) run.shifts) run.listed in
+      let entries = drew_total opened.sizes made in
+      omega (arith, counted, least, most, by_shift, ends, joined_calls, moved, entries)
+    where
+      mapped_twice : (shifts : List Shift) → numbers (map (λ (s : Shift). past_of s.now.view) shifts) ≡ map (λ (s : Shift). s.now.view.number) shifts
+      mapped_twice [] = refl
+      mapped_twice (first ∷ rest) = ap (λ l. first.now.view.number ∷ l) (mapped_twice rest)
+
+      nothing : (n : ℕ) → (IsOneOf (map (λ (s : Shift). s.now.view.number) run.shifts) n → ⊥) → drawn draws opened mount n all ≡ 0
+      nothing n absent = elim (cases_eq n zero.view.number) [
+        | inl is ↦ ap (λ k. drawn draws opened mount k all) is ∙ idle
+        | inr ne ↦ drawn_absent draws opened mount n all all ([], sym (append-nil all)) whole.is_run (nobody_there n ne (λ s there is. absent (subst (IsOneOf (map (λ (s : Shift). s.now.view.number) run.shifts)) is (one_mapped (λ (s : Shift). s.now.view.number) run.shifts s there))))
+      ]
 
   -- ---- a refused call
 

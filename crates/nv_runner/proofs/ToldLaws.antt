@@ -47,7 +47,7 @@ calls_listed calls made placed refused opened all listed =
 -- ---- the history
 
 -- where pass 0 made no call itself
-history_of_others : (view : PassView) (placed : ℕ) → IsRunOf view.opened view.run → KnowsTaken view → (pass_of view).mine ≡ [] → HasOneHistory view placed → IsHistoryOfPasses view (history_then view)
+pub history_of_others : (view : PassView) (placed : ℕ) → IsRunOf view.opened view.run → KnowsTaken view → (pass_of view).mine ≡ [] → HasOneHistory view placed → IsHistoryOfPasses view (history_then view)
 history_of_others view placed is_run taken none one = record {
   distinct = subst AreDistinctNumbers taken.same (distinct_run view.opened.sizes (opening (mount_of view.opened)) view.run is_run tt);
   joined = one.joined;

@@ -3,10 +3,7 @@ use Rattle.std.proofs.Common.{ℕ, ◌+◌, ◌<◌, ◌≤◌, List, [], ◌∷
 use Rattle.std.specs.Prelude.{All}
 use Rattle.std.proofs.Math.Nat.{le-max_left, le-max_right}
 use Rattle.nv_core.specs.state.Passes.{IsOneOf}
-use Rattle.nv_trace.specs.Forms.{last_thread}
 use Rattle.nv_trace.specs.Traced.{with_thread}
-use Rattle.nv_trace.specs.declared.trace.Form.{Form}
-use Rattle.nv_trace.specs.declared.trace.Form.TheVariants.{Run, Sched, Alone}
 use Rattle.nv_trace.specs.declared.trace_call.TracedCall.{TracedCall}
 use Rattle.nv_runner.proofs.HistoryMembers.{of_each}
 
@@ -27,9 +24,3 @@ thread_below (first ∷ rest) count call (inr later) = thread_below rest (with_t
 -- each call's thread is one of so many
 pub threads_below : (calls : List TracedCall) (count : ℕ) → All (λ call. call.thread < fold with_thread count calls) calls
 threads_below calls count = of_each (λ (call : TracedCall). call.thread < fold with_thread count calls) calls (thread_below calls count)
-
--- no form has more than 8
-pub few_threads : (form : Form) → last_thread form ≤ 7
-few_threads Run = omega arith
-few_threads Sched = omega arith
-few_threads Alone = omega arith

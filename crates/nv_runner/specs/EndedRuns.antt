@@ -13,6 +13,7 @@ use Rattle.nv_table.specs.invariant.Idle.{IsIdle}
 use Rattle.nv_table.specs.passes.Alone.{IsAlone}
 use Rattle.nv_table.specs.state.States.{PassState}
 use Rattle.nv_mount.specs.ClosedAtRest.{HasEmptiedLog, RestsWhereEmpty}
+use Rattle.nv_mount.specs.LoneWords.{word_then}
 use Rattle.nv_mount.specs.OneHistories.{HasOneHistory}
 use Rattle.nv_mount.specs.RisenCounts.{SawStop, failed_before}
 use Rattle.nv_mount.specs.Telling.{DevicesGoOnTelling, KeepLines}
@@ -29,13 +30,15 @@ use Rattle.nv_runner.specs.declared.run_error.RunError.{RunError}
 use Rattle.nv_runner.specs.declared.run_error.RunError.TheVariants.{Fault, NoMemory}
 use Rattle.nv_runner.specs.declared.sorted.SortedCalls.{SortedCalls}
 use Rattle.nv_runner.specs.declared.answer.Answer.TheVariants.{Placed, Refused, Open}
-use Rattle.nv_runner.specs.Faithful.{not_later}
+use Rattle.nv_runner.specs.Faithful.{IsWrite, not_later}
 use Rattle.nv_runner.specs.Lists.{MadeCall, calls_made}
 use Rattle.nv_runner.specs.OpenRuns.{open_of}
-use Rattle.nv_runner.specs.Refusals.{HasCause, IsOpenWrite, early_of_call, word_seen}
+use Rattle.nv_runner.specs.Refusals.{HasCause, early_of_call, word_seen}
+use Rattle.nv_runner.specs.RunNumbers.{HaveDrawn}
 use Rattle.nv_runner.specs.RunRefusals.{drawing_calls, entries_of_calls}
 use Rattle.nv_runner.specs.Shifts.{HasRun}
-use Rattle.nv_runner.specs.Sorted.{AreSortedOut, OpenedCall, opened_calls}
+use Rattle.nv_runner.specs.Rounds.{AreCallsOf}
+use Rattle.nv_runner.specs.Sorted.{AreSortedOut, HaveOwnLines, OpenedCall, opened_calls}
 
 -- the entries of a batch, where a worker runs any
 abbrev pub batch_of : Plan → Option ℕ
@@ -75,18 +78,22 @@ pub record IsRefusedSo (fds : List Fd) (worker : Option ℕ) (made : List MadeCa
   pub tail : worker ≡ None → word_seen now TAIL ≡ zero.view.opened.next
 
 -- What became of the calls of a trace: passes made them, and pass 0 came to this. All of them were made, and are sorted out, where the run was brought to its end; then the log is empty, unless the
--- run is one that is stopped. A fault is answered only where a pass has seen STOP set. Each refusal has its cause; the writes that faults ended are the calls that were left open, which came only where
--- a pass has seen STOP set; and without a worker the calls drew no more numbers than the log has entries.
+-- run is one that is stopped. Each is a call of the trace, and no two are of one line. A fault is answered only of a run that isn't, and where a pass has seen STOP set. Each refusal has its cause; the writes that faults ended are the calls that were left open, each of some bytes, which came only where
+-- a pass has seen STOP set; and without a worker the calls drew no more numbers than the log has entries. They drew them in a row, from the number that came next at opening, and HEAD counts their entries.
 pub record HasOutcome (fds : List Fd) (plan : Plan) (calls : List TracedCall) (start : PassState) (outcome : Result SortedCalls RunError) (zero : PassState) : Type 0 where
   pub made : List MadeCall
   pub run_out : HasRunOut fds (batch_of plan) made start zero
   pub sorted : IfOk outcome (λ sorted. AreSortedOut made sorted × IsPermutation calls (calls_made made))
   pub emptied : is_none plan.stop ≡ true → OnOk outcome (HasEmptiedLog zero.view)
-  pub fault : outcome ≡ Err Fault → SawStop zero.view
+  pub fault : outcome ≡ Err Fault → (is_none plan.stop ≡ true) × SawStop zero.view
   pub causes : (call : TracedCall) (refusal : Refusal) → IsOneOf made (record { call = call; answer = Refused refusal }) → IsRefusedSo fds (batch_of plan) made zero call refusal
   pub not_barred : (call : TracedCall) (place : ℕ) (reply : Reply) → IsOneOf made (record { call = call; answer = Placed place reply }) → early_of_call zero.view.opened.sizes fds call.call ≡ None
   pub left_open : (left : List OpenedCall) → IsPermutation (opened_calls made) left → IsPermutation (flat_map (open_of fds) left) (open_in (faults_then zero.view))
-  pub open_stopped : (call : TracedCall) (number : ℕ) → IsOneOf made (record { call = call; answer = Open number }) → SawStop zero.view × IsOpenWrite zero.view.opened.sizes fds call.call
+  pub open_stopped : (call : TracedCall) (number : ℕ) → IsOneOf made (record { call = call; answer = Open number }) → SawStop zero.view × IsWrite call.call × (early_of_call zero.view.opened.sizes fds call.call ≡ None)
+  pub within : AreCallsOf calls made
+  pub own : HaveOwnLines (calls_made made)
+  pub drawn : HaveDrawn zero.view.opened.sizes zero.view.opened.next made
+  pub counted : word_then zero.view HEAD ≡ zero.view.opened.next + entries_of_calls zero.view.opened.sizes (drawing_calls made)
   pub room : plan.worker ≡ false → entries_of_calls zero.view.opened.sizes (drawing_calls made) ≤ zero.view.opened.sizes.entries
 
 -- What is answered of a run that came to this: its error; or its calls, sorted out, or that memory was wanting for that.

@@ -142,9 +142,10 @@ IsReadCall (Pread fd at len) = Unit {0}
 IsReadCall (Pwrite fd at bytes) = ⊥
 IsReadCall (Fsync fd) = ⊥
 
+-- a write of some bytes
 abbrev pub IsWrite : TraceCall → Type 0
 IsWrite (Pread fd at len) = ⊥
-IsWrite (Pwrite fd at bytes) = Unit {0}
+IsWrite (Pwrite fd at bytes) = 0 < length bytes
 IsWrite (Fsync fd) = ⊥
 
 -- Why a call was refused that its arguments don't bar: no number was left, or no room in the log, where no worker makes any; or, where devices failed, it was
@@ -164,7 +165,7 @@ abbrev pub IsAllowedRefusal : (failed : Type 0) → (worker : Bool) → Basis �
 IsAllowedRefusal failed worker basis descriptors drew call refusal =
     MatchOption (barred basis.sizes descriptors call.call) (WasRefused failed worker basis drew call refusal) (λ cause. refusal ≡ cause)
 
--- a call that may be left open: a write that nothing bars, where devices failed
+-- a call that may be left open: a write of some bytes that nothing bars, where devices failed
 pub record IsLeftOpen (failed : Type 0) (basis : Basis) (descriptors : List Descriptor) (call : TracedCall) : Type 0 where
   pub is_write : IsWrite call.call
   pub failed_so : failed

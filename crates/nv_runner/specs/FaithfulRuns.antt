@@ -1,10 +1,11 @@
 -- Faithful runs: the mount of a run of a trace, and the report that shows its sorted calls.
-use Rattle.std.specs.Prelude.{◌≡◌, ℕ, ◌^◌, ◌<◌, List, [], ◌∷◌, length, map, Option, Some, None, is_none, true, Ok}
+use Rattle.std.specs.Prelude.{◌≡◌, ℕ, ◌+◌, ◌^◌, ◌<◌, List, [], ◌∷◌, length, map, Option, Some, None, is_none, true, Ok, All}
 use Rattle.std.specs.List.{flat_map}
 use Rattle.std.specs.List.Sorted.{IsStrictlyIncreasing}
 use Rattle.nv_plain.specs.Histories.{after}
 use Rattle.nv_pmem.specs.Steps.{PartHistory}
 use Rattle.nv_store.specs.Steps.{StoreHistory}
+use Rattle.nv_core.specs.state.Passes.{IsOneOf}
 use Rattle.nv_core.specs.state.Values.{Value}
 use Rattle.nv_core.specs.steps.Opening.{IsMount}
 use Rattle.nv_core.specs.content.Content.{Opens}
@@ -12,7 +13,7 @@ use Rattle.nv_core.specs.log.LogContent.{OpensLog}
 use Rattle.nv_table.specs.state.Opened.{IsRunOf, Opened, mount_of}
 use Rattle.nv_table.specs.state.States.{PassState}
 use Rattle.nv_table.specs.state.Views.{first_view}
-use Rattle.nv_mount.specs.ClosedAtRest.{files_then}
+use Rattle.nv_mount.specs.ClosedAtRest.{HasEmptiedLog, files_then}
 use Rattle.nv_mount.specs.RisenCounts.{SawStop}
 use Rattle.nv_mount.specs.declared.fds.Fd.{Fd}
 use Rattle.nv_mirror.specs.declared.answers.Refusal as mirror
@@ -26,8 +27,9 @@ use Rattle.nv_trace.specs.declared.trace_call.TracedCall.{TracedCall}
 use Rattle.nv_runner.specs.declared.plan.Plan.{Plan}
 use Rattle.nv_runner.specs.declared.shown.Shown.{Shown}
 use Rattle.nv_runner.specs.declared.sorted.SortedCalls.{SortedCalls}
+use Rattle.nv_runner.specs.DrawnNumbers.{DrewInARow}
 use Rattle.nv_runner.specs.EndedRuns.{HasOutcome, IsClosedBy}
-use Rattle.nv_runner.specs.Faithful.{Basis, IsFaithful, descriptors_in, files_shown, history_of, named, open_calls_of}
+use Rattle.nv_runner.specs.Faithful.{Basis, IsFaithful, descriptors_in, drawing_calls, entries_of, entries_taken, files_shown, history_of, named, open_calls_of}
 use Rattle.nv_runner.specs.Reports.{Report, ShownRefusal}
 use Rattle.nv_runner.specs.Sorted.{RefusedCall, opened_call, placed_call, refused_call}
 
@@ -98,6 +100,22 @@ RunsAreFaithful =
     → IsWellFormed trace → length trace.calls < 2 ^ 60 → IsStrictlyIncreasing (lines_in trace) → IsMountOf basis trace start.view.opened fds → start.view ≡ first_view start.view.opened
     → HasOutcome fds plan trace.calls start (Ok sorted) zero → IsClosedBy zero part_values store_values parts stores faults placed tail
     → ShowsCalls basis trace sorted report → IsFaithful (SawStop zero.view) plan.worker basis trace report
+
+-- The calls of such a report that drew numbers did so in a row, from the basis' next one on; and each of those that were left open drew the number that its answer told.
+abbrev pub RunsAreNumbered : Type 0
+RunsAreNumbered =
+    (basis : Basis) (trace : Traced) (fds : List Fd) (plan : Plan) (start zero : PassState) (sorted : SortedCalls) (report : Report)
+    → IsMountOf basis trace start.view.opened fds → HasOutcome fds plan trace.calls start (Ok sorted) zero → ShowsCalls basis trace sorted report
+    → (drew : DrewInARow (entries_taken basis.sizes) basis.next (drawing_calls report))
+    × All (λ o. IsOneOf drew.drawn (record { call = o.call; number = o.number })) (map opened_call sorted.open_calls.items)
+
+-- Where the log was left empty it goes on with the number that came first, and the entries of the calls of such a report that drew some.
+abbrev pub EmptiedLogsGoOn : Type 0
+EmptiedLogsGoOn =
+    (basis : Basis) (trace : Traced) (fds : List Fd) (plan : Plan) (start zero : PassState) (sorted : SortedCalls) (part_values store_values : List Value) (parts : List PartHistory)
+    (stores : List StoreHistory) (faults placed tail : ℕ) (report : Report)
+    → IsMountOf basis trace start.view.opened fds → HasOutcome fds plan trace.calls start (Ok sorted) zero → IsClosedBy zero part_values store_values parts stores faults placed tail
+    → ShowsCalls basis trace sorted report → HasEmptiedLog zero.view → tail ≡ basis.next + entries_of basis.sizes (drawing_calls report)
 
 -- The files after the history that such a report shows are those that the mount's stores have then.
 abbrev pub FilesAreOfTheHistory : Type 0

@@ -17,3 +17,6 @@ pub mod TryLaws
 pub mod Told
 pub mod OpenRuns
 pub mod FaithfulRuns
+pub mod DrawnNumbers
+pub mod RunNumbers
+pub mod Lives

@@ -30,12 +30,6 @@ early_of_call sizes fds (Pread fd at len) = early_refusal can_read sizes fds fd 
 early_of_call sizes fds (Pwrite fd at bytes) = early_refusal can_write sizes fds fd at (length bytes)
 early_of_call sizes fds (Fsync fd) = unless_file (file_of_fd fds fd)
 
--- a write that nothing bars
-abbrev pub IsOpenWrite : Sizes → List Fd → TraceCall → Type 0
-IsOpenWrite sizes fds (Pread fd at len) = ⊥
-IsOpenWrite sizes fds (Pwrite fd at bytes) = early_refusal can_write sizes fds fd at (length bytes) ≡ None
-IsOpenWrite sizes fds (Fsync fd) = ⊥
-
 -- ---- what its pass has seen
 
 -- a word in the state that the run leads to, as far as the pass has seen it

@@ -8,6 +8,7 @@ use Rattle.nv_core.specs.invariant.Draws.{drawn_of}
 use Rattle.nv_table.specs.state.Opened.{IsRunOf, mount_of}
 use Rattle.nv_table.specs.state.States.{PassState}
 use Rattle.nv_table.specs.state.Views.{AreDistinctNumbers, Past, PassView, SeesAll, numbers, pass_of}
+use Rattle.nv_mount.specs.LoneWords.{word_then}
 use Rattle.nv_mount.specs.RisenCounts.{SawStop}
 use Rattle.nv_mount.specs.WholeRuns.{history_then}
 use Rattle.nv_mount.specs.declared.fds.Fd.{Fd}
@@ -60,6 +61,15 @@ RefusalsInRunsHaveCauses =
     → IsMount (mount_of zero.view.opened) → IsRunOfPasses zero.view → drawn_of zero.view.opened.sizes (pass_of zero.view) ≡ 0
     → RoundsRise (calls_made made)
     → (call : TracedCall) (refusal : Refusal) → IsOneOf made (record { call = call; answer = Refused refusal }) → IsRefusedInRun fds worker made zero call refusal
+
+-- ---- HEAD
+
+-- HEAD is the number that came next at opening and the entries of the calls of a run that drew some, where pass 0 drew nothing.
+abbrev pub HeadsCountCalls : Type 0
+HeadsCountCalls =
+    (fds : List Fd) (worker : Option ℕ) (made : List MadeCall) (zero : PassState) (run : HasRun fds worker made zero)
+    → IsMount (mount_of zero.view.opened) → IsRunOfPasses zero.view → AreDistinctNumbers (numbers zero.view.ended) → drawn_of zero.view.opened.sizes (pass_of zero.view) ≡ 0
+    → word_then zero.view HEAD ≡ zero.view.opened.next + entries_of_calls zero.view.opened.sizes (drawing_calls made)
 
 -- ---- room
 

@@ -1,12 +1,15 @@
 //! Laws of the calls that passes made in their order.
-ghost use Rattle.nv_runner.specs.FaithfulRuns.{FilesAreOfTheHistory, RunsAreFaithful, UnstoppedRunsLeaveNothingOpen};
+ghost use Rattle.nv_runner.specs.DrawnNumbers.{OneThreadDrawsByLine};
+ghost use Rattle.nv_runner.specs.FaithfulRuns.{EmptiedLogsGoOn, FilesAreOfTheHistory, RunsAreFaithful, RunsAreNumbered, UnstoppedRunsLeaveNothingOpen};
 ghost use Rattle.nv_runner.specs.Histories.{SortedAreHistory, ThreadsAreLegal};
 ghost use Rattle.nv_runner.specs.Lists.{PlacedAreMine, PlacedStand};
 ghost use Rattle.nv_runner.specs.OpenRuns.{LeftOpenAreKept, OpenInRun};
+ghost use Rattle.nv_runner.specs.Lives.{RunsLeaveLives};
 ghost use Rattle.nv_runner.specs.Newcomers.{JoinsGoOn, NewcomersAreUnborn, NewcomersBeginBehind, SplitsGoOn};
 ghost use Rattle.nv_runner.specs.OpenWrites.{KeptAreOpen, OpenAreFaults};
 ghost use Rattle.nv_runner.specs.Refusals.{RefusalsHaveCauses};
-ghost use Rattle.nv_runner.specs.RunRefusals.{DrawsHaveRoom, RefusalsInRunsHaveCauses};
+ghost use Rattle.nv_runner.specs.RunNumbers.{RunsDrawInARow};
+ghost use Rattle.nv_runner.specs.RunRefusals.{DrawsHaveRoom, HeadsCountCalls, RefusalsInRunsHaveCauses};
 ghost use Rattle.nv_runner.specs.Sorted.{LinesTellRounds, OpenInLines, RefusedInLines};
 ghost use Rattle.nv_runner.specs.Told.{DescriptorsSayFiles, RunsAreTold, ShiftsStand};
 ghost use Rattle.nv_runner.specs.TryLaws.{BatchesGoOn, ReadsGoOn, SyncsGoOn, WritesGoOn};
@@ -84,12 +87,24 @@ pub fn open_calls_are_the_faults()
 {}
 
 /// A call of a whole run is refused by such a cause; and its pass had seen HEAD no higher than the number that came next at opening and the entries of the calls that drew some and don't come later than it.
-/// Where no batch may be run TAIL was that number, and the calls of the run have drawn no more than the log has entries.
+/// At the end of the run HEAD is just what the calls drew. Where no batch may be run TAIL was that number, and the calls of the run have drawn no more than the log has entries.
 pub fn refusals_in_runs_have_causes()
     ensures causes { RefusalsInRunsHaveCauses }
+    ensures heads { HeadsCountCalls }
     ensures room { DrawsHaveRoom }
 {
     refusals_have_causes();
+    runs_are_sound();
+    histories_go_on();
+    heads_count_draws();
+}
+
+/// The calls of a whole run that drew their entries did so one after another, from the number that came next at opening, in an order that keeps each thread's lines and the rounds; and each call that was
+/// left open was answered with the number that it drew so. Of one thread that order is the one of its lines.
+pub fn runs_draw_in_a_row()
+    ensures draws { RunsDrawInARow }
+    ensures alone { OneThreadDrawsByLine }
+{
     runs_are_sound();
     histories_go_on();
     heads_count_draws();
@@ -105,8 +120,11 @@ pub fn newcomers_begin_behind()
 
 /// A report that shows the sorted calls of a run of a trace that was brought to its end, over a new mount that was closed then, is faithful to the trace: its history is
 /// legal, each call stands in it once, in the order of lines and rounds, each refusal has its cause, and it shows the files that the stores have then, with those of the calls left open that are kept.
+/// The calls that drew numbers did so in a row, and a log that was left empty goes on with the number behind the last of them.
 pub fn runs_are_faithful()
     ensures faithful { RunsAreFaithful }
+    ensures numbers { RunsAreNumbered }
+    ensures tails { EmptiedLogsGoOn }
     ensures files { FilesAreOfTheHistory }
 {}
 
@@ -117,6 +135,12 @@ pub fn unstopped_runs_leave_nothing_open()
     runs_are_sound();
     passes_are_left_alone();
 }
+
+/// Whatever a run came to, parts and stores that come out of its mount are left so: the calls that have their place are a legal history of calls of the trace, and each image recovers to the files after it and
+/// then some other calls, each whole.
+pub fn runs_leave_lives()
+    ensures { RunsLeaveLives }
+{}
 
 /// The calls that a pass made in a run stand in the mount's one history one behind the other, each behind all that its pass had seen before it was made, whatever the run came to.
 pub fn calls_stand_behind_what_was_seen()

@@ -27,8 +27,8 @@ pub use laws::{
     calls_stand_behind_what_was_seen, history_of_threads_is_legal, lines_keep_order,
     made_calls_stand_in_order, newcomers_begin_behind, open_answers_are_faults,
     open_calls_are_the_faults, refusals_have_causes, refusals_in_runs_have_causes,
-    runs_are_faithful, runs_are_told, sorted_calls_are_the_history, tries_go_on,
-    unstopped_runs_leave_nothing_open,
+    runs_are_faithful, runs_are_told, runs_draw_in_a_row, runs_leave_lives,
+    sorted_calls_are_the_history, tries_go_on, unstopped_runs_leave_nothing_open,
 };
 pub use list::make_all;
 pub use make::make_call;
@@ -36,6 +36,6 @@ pub use plan::Plan;
 pub use round::run_round;
 pub use rounds::run_rounds;
 pub use run_error::RunError;
-pub use running::{Ended, run_calls};
+pub use running::{Ended, MOST_CALLS, run_calls};
 pub use shown::{Shown, show_refusal, show_refusals};
 pub use sorted::{Open, Placed, Refused, SortedCalls, sort_out};

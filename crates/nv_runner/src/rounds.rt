@@ -1,6 +1,7 @@
 //! All rounds of a trace, one behind the other.
 ghost use Rattle.std.specs.Prelude.{◌≡◌, ◌<◌, ◌≤◌, [], All, IsPermutation, OnOk, length};
 ghost use Rattle.nv_table.specs.state.Views.{AreDistinctNumbers, made_of, numbers};
+ghost use Rattle.nv_runner.specs.declared.running.TheConstants.{MOST_CALLS};
 ghost use Rattle.nv_runner.specs.Lists.{calls_made, made_calls};
 ghost use Rattle.nv_runner.specs.Rounds.{AreCallsOf, AreInLineOrder, AreInRoundOrder, IsRoundLong};
 ghost use Rattle.nv_runner.specs.Shifts.{HasRun};
@@ -57,7 +58,7 @@ pub fn run_rounds<
     requires none_made { made_of zero.old.view ≡ 0 }
     requires none { answered.old.items ≡ [] }
     requires threads { threads ≤ 8 }
-    requires few { length calls.now ≤ 67108864 }
+    requires few { length calls.now ≤ MOST_CALLS }
     requires below { All (λ call. call.thread < threads) calls.now }
     requires line_order { AreInLineOrder calls.now }
     requires round_order { AreInRoundOrder calls.now }
@@ -100,7 +101,7 @@ fn run_all<
     requires none_made { made_of zero.old.view ≡ 0 }
     requires none { answered.old.items ≡ [] }
     requires threads { threads ≤ 8 }
-    requires few { length calls.now ≤ 67108864 }
+    requires few { length calls.now ≤ MOST_CALLS }
     requires below { All (λ call. call.thread < threads) calls.now }
     requires line_order { AreInLineOrder calls.now }
     requires round_order { AreInRoundOrder calls.now }

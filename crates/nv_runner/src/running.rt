@@ -12,11 +12,14 @@ ghost use Rattle.nv_trace.specs.Traced.{lines_in};
 ghost use Rattle.nv_runner.specs.EndedRuns.{HasOutcome, IsClosedBy, IsOutcomeOf, batch_of};
 ghost use Rattle.nv_runner.specs.Lists.{made_calls};
 ghost use Rattle.nv_runner.specs.declared.run_error.RunError.{RunError as AnyError};
+ghost use Rattle.nv_runner.specs.declared.running.TheConstants.{MOST_CALLS};
 ghost use Rattle.nv_runner.specs.declared.sorted.SortedCalls.{SortedCalls as AnySorted};
 
 use crate::cleaning::clean_all;
 use crate::closing::close_alone;
-use crate::laws::{lines_keep_order, open_calls_are_the_faults, refusals_in_runs_have_causes};
+use crate::laws::{
+    lines_keep_order, open_calls_are_the_faults, refusals_in_runs_have_causes, runs_draw_in_a_row,
+};
 use crate::{AnsweredCall, Gate, Plan, RunError, SortedCalls, run_rounds, sort_out};
 use nv_core::{histories_go_on, passes_are_left_alone, runs_are_sound};
 use nv_mount::Mount;
@@ -29,7 +32,7 @@ use std::sync::Wait;
 use std::thread::Threads;
 
 /// The most calls of a trace that is run.
-pub const MOST_CALLS: u64 = 67_108_864;
+pub const MOST_CALLS: usize = 67_108_864;
 
 /// What is left of a mount over which a trace was run.
 #[derive(Drop)]
@@ -70,7 +73,7 @@ fn run_out<
     requires none { answered.old.items ≡ [] }
     requires well_formed { IsWellFormed trace.now }
     requires lines { IsStrictlyIncreasing (lines_in trace.now) }
-    requires few { length trace.now.calls ≤ 67108864 }
+    requires few { length trace.now.calls ≤ MOST_CALLS }
     ensures board { IsOf mount.now.board pass.new }
     ensures idle { IsIdle pass.new }
     ensures alone { IsAlone pass.new.view }
@@ -81,6 +84,7 @@ fn run_out<
     histories_go_on();
     lines_keep_order();
     refusals_in_runs_have_causes();
+    runs_draw_in_a_row();
     open_calls_are_the_faults();
     let rounds = run_rounds(
         rt,
@@ -140,7 +144,7 @@ pub fn run_calls<
     requires bare { pass.now ≡ [] }
     requires well_formed { IsWellFormed trace.now }
     requires lines { IsStrictlyIncreasing (lines_in trace.now) }
-    requires few { length trace.now.calls ≤ 67108864 }
+    requires few { length trace.now.calls ≤ MOST_CALLS }
     ensures ran { (zero : PassState)
         × HasOutcome mount.fds plan trace.now.calls pass result.outcome zero
         × IsClosed L.device B.device

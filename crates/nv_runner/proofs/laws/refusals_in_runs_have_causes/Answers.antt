@@ -1,6 +1,6 @@
 -- By what each shift had drawn where the call was refused.
 use Rattle.nv_runner.proofs.RefusalWords.{WordLaws}
-use Rattle.nv_runner.proofs.RunRefusalLaws.{refusals_in_runs, room}
+use Rattle.nv_runner.proofs.RunRefusalLaws.{head_counts, refusals_in_runs, room}
 use Rattle.nv_runner.proofs.ShiftRuns.{DrawnLaws}
 use Rattle.nv_runner.proofs.laws.refusals_in_runs_have_causes.Goals as goal
 
@@ -13,6 +13,7 @@ returns c =
     record {
       causes = λ fds worker made zero run mount whole idle rise call refusal one.
           refusals_in_runs words draws.runs grow fds worker made zero run mount whole c.refusals_have_causes.ensures idle rise call refusal one;
+      heads = λ fds worker made zero run mount whole distinct idle. head_counts words draws.runs grow fds worker made zero run mount whole draws.unmade distinct idle;
       room = λ fds worker made zero run mount whole distinct none own_clean.
           room words draws.runs grow fds worker made zero run mount whole draws.unmade distinct none own_clean;
     }
