@@ -1,5 +1,6 @@
-//! NVCache over a folder. The first word names it; the words behind it are the command. A trace comes on standard input; the
-//! report, or one line that says why there is none, goes to standard output, and the exit status is that of `nv_main`.
+//! Trusted edge: the program over a folder, which the first word names; the words behind it are the command. A trace comes on
+//! standard input; the report, or one line that says why there is none, goes to standard output, and the exit status is that of
+//! `nv_main`.
 #![tactic(auto)]
 
 use nv_bench::FolderBench;

@@ -1,5 +1,5 @@
-//! NVCache over fresh devices in memory. A trace comes on standard input; the report, or one line that says why there
-//! is none, goes to standard output, and the exit status is that of `nv_main`.
+//! Trusted edge: the program over fresh devices in memory. A trace comes on standard input; the report, or one line that says why
+//! there is none, goes to standard output, and the exit status is that of `nv_main`.
 #![tactic(auto)]
 
 use nv_bench::MemBench;

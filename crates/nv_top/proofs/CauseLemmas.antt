@@ -47,6 +47,16 @@ may_end first parts mid last Device grew never cause = record { never_falls = om
 may_end first parts mid last (Region refusal) grew never cause = never refusal refl
 may_end first parts mid last NoMemory grew never cause = omega (arith, grew, cause)
 
+-- what isn't a refusal of the region may end a run
+pub stop_ends : (before now : ℕ) (stop : Stop) → ((why : Refusal) → stop ≡ Region why → ⊥) → StopHasCause before now stop → MayEndRun before now stop
+stop_ends before now Usage never cause = cause
+stop_ends before now (BadLine bad) never cause = cause
+stop_ends before now InputLong never cause = cause
+stop_ends before now Read never cause = cause
+stop_ends before now Device never cause = cause
+stop_ends before now (Region refusal) never cause = never refusal refl
+stop_ends before now NoMemory never cause = omega (arith, cause)
+
 -- a run that was told of its stores, whose count is part of one that didn't fall
 pub told_cause : {T : Type 0} (first parts mid last : ℕ) (result : Result T Stop) → first ≤ parts + mid → ((why : Refusal) → result ≡ Err (Region why) → ⊥) → CountHasCause mid last result
     → RunHasCause first (parts + last) result

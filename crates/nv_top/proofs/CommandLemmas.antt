@@ -37,13 +37,13 @@ module _ (old mid : BenchState) (names : List (List ℕ)) (holding : Holding) (l
   mid_lent : mid.lent ≡ names
   mid_lent = ap (λ (state : BenchState). state.lent) lent ∙ ap (λ (front : List (List ℕ)). front ++ names) home
 
-  back_is : (now : List Part) (disks : List Store) → told_back now disks mid ≡ Some (record { parts = now; stores = without_stores names holding.stores ++ named_stores names disks })
+  pub back_is : (now : List Part) (disks : List Store) → told_back now disks mid ≡ Some (record { parts = now; stores = without_stores names holding.stores ++ named_stores names disks })
   back_is now disks =
       let back : List (List ℕ) → Holding → Holding = λ lent holding. record { parts = now; stores = holding.stores ++ named_stores lent disks } in
       ap (λ (one : Option Holding). option_map (back mid.lent) one) mid_told
       ∙ ap (λ lent. Some (back lent (record { parts = []; stores = without_stores names holding.stores }))) mid_lent
 
-  pub leaves : {X Y : Type 0} (want : Option Geometry) (history : X → lines.PartHistory) (held : Y → stores.StoreHistory) (files : Files) (parts : List X) (backing : List Y) (then : Option Holding)
+  abbrev pub leaves : {X Y : Type 0} (want : Option Geometry) (history : X → lines.PartHistory) (held : Y → stores.StoreHistory) (files : Files) (parts : List X) (backing : List Y) (then : Option Holding)
       → length parts ≡ length (opened want holding.parts)
       → AreLeft history held names files parts backing
       → ((now : List Part) (disks : List Store) → AreNow (map history parts) now → AreNow (map held backing) disks → then ≡ told_back now disks mid)

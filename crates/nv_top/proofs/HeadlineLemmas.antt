@@ -1,30 +1,32 @@
 -- What a command shows and why it is refused, from what its run does.
-use Rattle.std.proofs.Common.{◌≡◌, ◌++◌, ℕ, ◌≤◌, Bool, true, false, List, [], ◌∷◌, if◌then◌else◌, Option, Some, None, refl, ap, subst, ◌∙◌}
-use Rattle.std.specs.Prelude.{All, IfSome, option_map}
+use Rattle.std.proofs.Common.{◌≡◌, ◌++◌, ℕ, ◌≤◌, Bool, true, false, List, [], if◌then◌else◌, Option, Some, None, refl, ap, subst, ◌∙◌}
+use Rattle.std.specs.Prelude.{IfSome, option_map}
 use Rattle.std.proofs.lemmas.List.{append-nil}
-use Rattle.std.proofs.lemmas.List.Elements.{All-nil, All-cons, All-head, All-tail}
 use Rattle.nv_bench.specs.Benches.{BenchState}
-use Rattle.nv_bench.specs.Holding.{Holding, IsQuietHolding, NamedStore, is_named, without_store}
+use Rattle.nv_bench.specs.Holding.{Holding, IsQuietHolding, NamedStore}
 use Rattle.nv_bench.specs.Naming.{AreDistinct, HasDistinctStores, names_of}
-use Rattle.nv_bench.proofs.NameLaws.{distinct_without, none_left}
-use Rattle.nv_open.specs.Lending.{without_named, without_stores}
+use Rattle.nv_open.specs.Lending.{without_named}
+use Rattle.nv_open.proofs.Homes.{kept_in_all}
 use Rattle.nv_open.specs.Held.{told_after}
 use Rattle.nv_open.specs.Refusals.{IsRefusedFor}
 use Rattle.nv_open.specs.declared.error.Refusal.{Refusal}
 use Rattle.nv_open.specs.declared.error.Refusal.TheVariants as refusals
 use Rattle.nv_pmem.specs.Laws.{BlankIsQuiet}
 use Rattle.nv_store.specs.Store.{IsQuietStore}
+use Rattle.nv_load.specs.Generated.{IsLoad, generated}
+use Rattle.nv_load.specs.declared.load.Load.{Load}
 use Rattle.nv_trace.specs.Reading.{ending_of, Whole}
 use Rattle.nv_trace.specs.declared.trace.Form.TheVariants as forms
 use Rattle.nv_trace.specs.Traced.{Traced}
 use Rattle.nv_top.specs.Commands.{IsNotRun}
 use Rattle.nv_top.specs.Headline.{IsCommandRefused, IsShown, IsShownOf, IsRegionUnwritten, command_over, may_stop, possible}
+use Rattle.nv_top.specs.Loads.{load_options}
 use Rattle.nv_top.specs.Words.{AreInLimits, command_of}
 use Rattle.nv_top.specs.declared.words.Command.{Command}
-use Rattle.nv_top.specs.declared.words.Command.TheVariants.{Run, Recover, Look}
+use Rattle.nv_top.specs.declared.words.Command.TheVariants.{Run, Recover, Look, Gen}
 use Rattle.nv_top.specs.declared.words.RunOptions.{RunOptions}
 use Rattle.nv_top.proofs.CommandLemmas.{if_told, told_at}
-use Rattle.nv_top.proofs.WordLemmas.{and_then_some, run_in_limits, stop_from_one}
+use Rattle.nv_top.proofs.WordLemmas.{and_then_some, load_in_limits, run_in_limits, stop_from_one}
 
 -- ---- words
 
@@ -38,6 +40,7 @@ runs_on images (Run one) options is = by_test (may_stop images one.stop) refl is
   by_test false may is = cc
 runs_on images Recover options is = cc
 runs_on images (Look files) options is = cc
+runs_on images (Gen load) options is = cc
 
 run_over : (images : Bool) (words : List (List ℕ)) (options : RunOptions) → command_over images words ≡ Some (Run options)
     → (command_of words ≡ Some (Run options)) × (may_stop images options.stop ≡ true)
@@ -59,6 +62,21 @@ stop_possible images words options run =
 -- a run that a bench can follow has sizes within their limits
 pub run_limits : (images : Bool) (words : List (List ℕ)) (options : RunOptions) → command_over images words ≡ Some (Run options) → AreInLimits options
 run_limits images words options run = run_in_limits words options (run_over images words options run).0
+
+loads_on : (images : Bool) (command : Command) (load : Load) → possible images command ≡ Some (Gen load) → command ≡ Gen load
+loads_on images (Run one) load is = by_test (may_stop images one.stop) is where
+  by_test : (test : Bool) → (if test then Some (Run one) else None) ≡ Some (Gen load) → Run one ≡ Gen load
+  by_test true is = cc
+  by_test false is = cc
+loads_on images Recover load is = cc
+loads_on images (Look files) load is = cc
+loads_on images (Gen one) load is = cc
+
+-- a load that words ask for is within its limits
+pub load_limits : (images : Bool) (words : List (List ℕ)) (load : Load) → command_over images words ≡ Some (Gen load) → IsLoad load
+load_limits images words load is =
+    let command = and_then_some (possible images) (command_of words) (Gen load) is in
+    load_in_limits words load (command.1 ∙ ap Some (loads_on images command.0 load command.2))
 
 -- ---- what is shown, and refused
 
@@ -102,29 +120,6 @@ where_unarmed old new P unarmed holds =
 
 -- ---- stores that are away
 
-abbrev NotNamed : List ℕ → NamedStore → Type 0
-NotNamed name named = is_named name named ≡ false
-
-kept_by : (P : NamedStore → Type 0) (is : Bool) (first : NamedStore) (rest others : List NamedStore) → P first → All P rest → All P others → All P (if is then rest else first ∷ others)
-kept_by P true first rest others one all_rest all_others = all_rest
-kept_by P false first rest others one all_rest all_others = All-cons P first others one all_others
-
-kept_in : (P : NamedStore → Type 0) (name : List ℕ) (stores : List NamedStore) → All P stores → All P (without_store name stores)
-kept_in P name [] all = all
-kept_in P name (first ∷ rest) all =
-    kept_by P (is_named name first) first rest (without_store name rest) (All-head P first rest all) (All-tail P first rest all) (kept_in P name rest (All-tail P first rest all))
-
-kept_in_all : (P : NamedStore → Type 0) (names : List (List ℕ)) (stores : List NamedStore) → All P stores → All P (without_stores names stores)
-kept_in_all P [] stores all = all
-kept_in_all P (name ∷ names) stores all = kept_in_all P names (without_store name stores) (kept_in P name stores all)
-
--- of stores whose names differ none has a name any more whose store is away
-pub all_away : (names : List (List ℕ)) (stores : List NamedStore) → AreDistinct (names_of stores) → All (λ name. All (NotNamed name) (without_stores names stores)) names
-all_away [] stores distinct = All-nil (λ (name : List ℕ). All (NotNamed name) (without_stores [] stores))
-all_away (name ∷ names) stores distinct =
-    All-cons (λ other. All (NotNamed other) (without_stores names (without_store name stores))) name names
-    (kept_in_all (NotNamed name) names (without_store name stores) (none_left name stores distinct)) (all_away names (without_store name stores) (distinct_without name stores distinct))
-
 -- the names of the stores of a bench differ, where none is lent
 pub home_distinct : (old : BenchState) (holding : Holding) → HasDistinctStores old → old.told ≡ Some holding → old.lent ≡ [] → AreDistinct (names_of holding.stores)
 home_distinct old holding named told home =
@@ -160,3 +155,9 @@ pub recovery_refused : (left : Option (List ℕ)) (old new : BenchState) (why : 
 recovery_refused left old new why refused unwritten =
     if_told old.told (λ holding. IsCommandRefused Recover left old new holding why) (λ holding told.
     (told_at old.told (λ holding. IsRefusedFor holding.parts why) holding told refused, λ not_many. unwritten))
+
+-- why a run of generated calls is refused
+pub load_refused : (load : Load) (left : Option (List ℕ)) (old new : BenchState) (why : Refusal) → IfSome old.told (λ holding. IsNotRun load_options holding (generated load).names why)
+    → (¬ (why ≡ refusals.TooManyFiles) → IfSome old.told (λ holding. new.told ≡ told_after why old.told))
+    → IfSome old.told (λ holding. IsCommandRefused (Gen load) left old new holding why)
+load_refused load left old new why refused unwritten = both_told load_options old new (generated load).names why refused unwritten

@@ -1,9 +1,8 @@
 -- Stores at home: which one a name finds, before power goes off and after it.
 use Rattle.std.proofs.Common.{◌≡◌, ◌≢◌, ℕ, ◌<◌, Bool, true, false, cond, zero, suc, All, List, [], ◌∷◌, ◌++◌, length, map, get_or, slice_index, slice_index_or, refl, sym, ap, subst, ◌∙◌, arith}
 use Rattle.std.specs.Prelude.{nat_eq}
-use Rattle.std.specs.Cmp.Lexicographic.{same_text, other_text}
 use Rattle.std.proofs.lemmas.List.{ext_get_or, length-map}
-use Rattle.std.proofs.lemmas.List.Elements.{All-nil, All-cons, All-head, All-tail}
+use Rattle.std.proofs.lemmas.List.Elements.{All-head, All-tail}
 use lib.Pointwise.{pointwise}
 use Rattle.nv_store.specs.Images.{IsStoreImage}
 use Rattle.nv_store.specs.Store.{Store, IsQuietStore}
@@ -11,20 +10,7 @@ use Rattle.nv_bench.specs.Holding.{Holding, NamedStore, is_named, named_stores, 
 use Rattle.nv_bench.specs.Laws.{IsHoldingImage}
 use Rattle.nv_open.specs.Lending.{stores_named}
 use Rattle.nv_recover.specs.Standing.{AreStoreImages, files_of}
-
-true_unless : (b : Bool) → ¬ (false ≡ b) → b ≡ true
-true_unless true never = refl
-true_unless false never = absurd (never refl)
-
-false_unless : (b : Bool) → ¬ (true ≡ b) → b ≡ false
-false_unless false never = refl
-false_unless true never = absurd (never refl)
-
-own_name : (name : List ℕ) → pointwise nat_eq name name ≡ true
-own_name name = true_unless (pointwise nat_eq name name) (λ other. other_text name name other refl)
-
-other_name : (one other : List ℕ) → one ≢ other → pointwise nat_eq one other ≡ false
-other_name one other differ = false_unless (pointwise nat_eq one other) (λ same. differ (same_text one other same))
+use Rattle.nv_open.proofs.Homes.{all_behind, own_stores}
 
 -- the bytes of an image of a quiet store are its own
 seen_again : (store : Store) (bytes : List ℕ) → IsQuietStore store → IsStoreImage store bytes → bytes ≡ store.seen
@@ -71,43 +57,6 @@ all_again [] was now images quiet = refl
 all_again (name ∷ names) was now images quiet =
     ap (λ bytes. bytes ∷ map (λ (store : Store). store.seen) (stores_named names now)) (found_again name was now images quiet)
     ∙ ap (λ others. (store_of name was).seen ∷ others) (all_again names was now images quiet)
-
--- ---- stores that came back stand behind those that were at home
-
-behind : (name : List ℕ) (home given : List NamedStore) → All (λ named. is_named name named ≡ false) home → store_of name (home ++ given) ≡ store_of name given
-behind name [] given away = refl
-behind name (first ∷ home) given away =
-    ap (λ is. cond is first.store (store_of name (home ++ given))) (All-head (λ named. is_named name named ≡ false) first home away)
-    ∙ behind name home given (All-tail (λ named. is_named name named ≡ false) first home away)
-
-all_behind : (names : List (List ℕ)) (home given : List NamedStore) → All (λ name. All (λ named. is_named name named ≡ false) home) names
-    → stores_named names (home ++ given) ≡ stores_named names given
-all_behind [] home given away = refl
-all_behind (name ∷ names) home given away =
-    ap (λ store. store ∷ stores_named names (home ++ given)) (behind name home given (All-head (λ name. All (λ named. is_named name named ≡ false) home) name names away))
-    ∙ ap (λ others. store_of name given ∷ others) (all_behind names home given (All-tail (λ name. All (λ named. is_named name named ≡ false) home) name names away))
-
--- a store under one name is no store of other ones
-away_from : (first : List ℕ) (names : List (List ℕ)) (store : Store) → ((j : ℕ) → j < length names → first ≢ slice_index_or names j [])
-    → All (λ name. All (λ named. is_named name named ≡ false) (record { name = first; store = store } ∷ [])) names
-away_from first [] store differ = All-nil (λ name. All (λ named. is_named name named ≡ false) (record { name = first; store = store } ∷ []))
-away_from first (name ∷ names) store differ =
-    All-cons (λ name. All (λ named. is_named name named ≡ false) (record { name = first; store = store } ∷ [])) name names
-    (All-cons (λ named. is_named name named ≡ false) (record { name = first; store = store }) [] (other_name first name (differ zero (omega arith)))
-    (All-nil (λ named. is_named name named ≡ false)))
-    (away_from first names store (λ j below. differ (suc j) (omega arith)))
-
-own_stores : (names : List (List ℕ)) (stores : List Store) → length names ≡ length stores
-    → ((i j : ℕ) → i < j → j < length names → slice_index_or names i [] ≢ slice_index_or names j []) → stores_named names (named_stores names stores) ≡ stores
-own_stores [] [] long distinct = refl
-own_stores [] (store ∷ stores) long distinct = absurd (omega (arith, long))
-own_stores (name ∷ names) [] long distinct = absurd (omega (arith, long))
-own_stores (name ∷ names) (store ∷ stores) long distinct =
-    let first : NamedStore = record { name = name; store = store } in
-    let given = named_stores names stores in
-    ap (λ is. cond is store (store_of name given) ∷ stores_named names (first ∷ given)) (own_name name)
-    ∙ ap (λ others. store ∷ others) (all_behind names (first ∷ []) given (away_from name names store (λ j below. distinct zero (suc j) (omega arith) (omega (arith, below)))))
-    ∙ ap (λ others. store ∷ others) (own_stores names stores (omega (arith, long)) (λ i j less below. distinct (suc i) (suc j) (omega (arith, less)) (omega (arith, below))))
 
 -- After power went off the stores of these names hold what those held that came back.
 pub files_again : (names : List (List ℕ)) (home : List NamedStore) (stores : List Store) (was now : Holding) → was.stores ≡ home ++ named_stores names stores → length names ≡ length stores
@@ -160,3 +109,11 @@ images_again names home stores was now back long distinct away image =
       count = length-map (stores_named names now.stores) (λ (store : Store). store.seen) ∙ length-map names (λ name. store_of name now.stores) ∙ long;
       each = subst Images same (images_named names was.stores now.stores images);
     }
+
+-- So do the stores of any names.
+pub any_images : (names : List (List ℕ)) (was now : Holding) → IsHoldingImage was now → AreStoreImages (stores_named names was.stores) (files_of (stores_named names now.stores))
+any_images names was now image = record {
+  count =
+      length-map (stores_named names now.stores) (λ (store : Store). store.seen) ∙ length-map names (λ name. store_of name now.stores) ∙ sym (length-map names (λ name. store_of name was.stores));
+  each = λ i none inside. images_named names was.stores now.stores (record { names = image.names; images = image.stores }) i none inside;
+}

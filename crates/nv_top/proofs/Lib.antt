@@ -4,6 +4,7 @@ pub mod EndingLemmas
 pub mod FateLemmas
 pub mod HeadlineLemmas
 pub mod HomeLemmas
+pub mod LoadLemmas
 pub mod NameLemmas
 pub mod NumberLemmas
 pub mod ReadingLemmas
@@ -15,3 +16,6 @@ pub mod StoppingLemmas
 pub mod TestBenches
 pub mod UnrefusedLemmas
 pub mod WordLemmas
+pub mod LifeLemmas
+pub mod CompleteLemmas
+pub mod NextLemmas

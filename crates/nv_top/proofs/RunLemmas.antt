@@ -54,20 +54,22 @@ use Rattle.nv_mount.proofs.LastStateLaws.{LastLog, last_log, none_hold}
 use Rattle.nv_mount.proofs.WholeRunLaws.{there}
 use Rattle.nv_trace.specs.Shape.{IsWellFormed}
 use Rattle.nv_trace.specs.Traced.{Traced, lines_in}
+use Rattle.nv_runner.specs.declared.running.TheConstants.{MOST_CALLS}
 use Rattle.nv_runner.specs.declared.plan.Plan.{Plan}
 use Rattle.nv_runner.specs.declared.sorted.Open.{Open}
 use Rattle.nv_runner.specs.declared.sorted.SortedCalls.{SortedCalls}
 use Rattle.nv_runner.specs.EndedRuns.{HasOutcome, IsClosedBy}
 use Rattle.nv_runner.specs.Faithful.{Basis, IsFaithful, descriptors_in, file_call, files_shown, named}
-use Rattle.nv_runner.specs.FaithfulRuns.{IsMountOf, UnstoppedRunsLeaveNothingOpen}
+use Rattle.nv_runner.specs.FaithfulRuns.{IsMountOf, ShowsCalls, UnstoppedRunsLeaveNothingOpen}
 use Rattle.nv_runner.specs.Reports.{Report}
 use Rattle.nv_runner.specs.Sorted.{OpenedCall, opened_call, placed_call}
-use Rattle.nv_runner.proofs.FaithfulLaws.{calls_on_files, faithful_where}
+use Rattle.nv_runner.proofs.FaithfulLaws.{calls_on_files, emptied_logs_go_on, faithful_where}
 use Rattle.nv_runner.proofs.HistoryThreads.{threads_are_legal}
 use Rattle.nv_runner.proofs.ToldLaws.{runs_are_told}
 use Rattle.nv_open.proofs.LogLaws.{states_many}
 use Rattle.nv_top.specs.Outcomes.{shown_report}
-use Rattle.nv_top.specs.Reports.{report_text}
+use Rattle.nv_top.specs.Shows.{text_as}
+use Rattle.nv_top.specs.declared.show.Show.{Show}
 use Rattle.nv_top.specs.Runs.{HasRunOver, IsQuietSpare}
 use Rattle.nv_top.proofs.NameLemmas.{each_allowed, names_plain}
 use Rattle.nv_top.proofs.RestLemmas.{all_rest, first_states, is_longer, now_of, same_state, state_at}
@@ -105,6 +107,14 @@ quiet_states (history ∷ row) (now ∷ states) are quiet =
     All-cons IsQuietStore now states (tells_at history IsQuietStore now are.0 (All-head (λ history. Tells history IsQuietStore) history row quiet))
     (quiet_states row states are.1 (All-tail (λ history. Tells history IsQuietStore) history row quiet))
 
+pub quiet_stores : {Y : Type 0} (held : Y → StoreHistory) (stores : List Y) (states : List Store) → AreNow (map held stores) states → All (λ store. Tells (held store) IsQuietStore) stores → AreQuietStores states
+quiet_stores held [] [] are quiet = λ k d inside. absurd (omega (arith, inside))
+quiet_stores held [] (now ∷ states) are quiet = absurd are
+quiet_stores held (store ∷ stores) [] are quiet = absurd are
+quiet_stores held (store ∷ stores) (now ∷ states) are quiet =
+    All-cons IsQuietStore now states (tells_at (held store) IsQuietStore now are.0 (All-head (λ store. Tells (held store) IsQuietStore) store stores quiet))
+    (quiet_stores held stores states are.1 (All-tail (λ store. Tells (held store) IsQuietStore) store stores quiet))
+
 -- ---- what goes in
 
 -- the parts of a quiet row behind the first so many show that they are quiet
@@ -125,7 +135,7 @@ module _ {L B : Type 0} (device : L → ℕ) (history : L → PartHistory) (faul
     (basis : Basis) (trace : Traced) (fds : List Fd) (plan : Plan) (start ended : PassState) (sorted : SortedCalls) (board : BoardState) (parts : List L) (stores : List B) (placed tail : ℕ)
     (sound : RunsAreSound) (tell : OwnEventsTell) (keeps : RunsKeepTheLog) (region_stays : RunsKeepRegion) (rests : EmptyLogsRest) (unstopped : UnstoppedRunsLeaveNothingOpen)
     (same_board : ended.view.opened ≡ board.opened) (new : start.view ≡ first_view start.view.opened) (mount : IsMount (mount_of ended.view.opened)) (stop : plan.stop ≡ None)
-    (formed : IsWellFormed trace) (few : length trace.calls ≤ 67108864) (lines : IsStrictlyIncreasing (lines_in trace)) (allowed : AreFileNames version_1 basis.names)
+    (formed : IsWellFormed trace) (few : length trace.calls ≤ MOST_CALLS) (lines : IsStrictlyIncreasing (lines_in trace)) (allowed : AreFileNames version_1 basis.names)
     (is : IsMountOf basis trace start.view.opened fds) (region : OpensRegion (mount_of ended.view.opened) basis.names) (spare : All IsQuietSpare ended.spare)
     (out : HasOutcome fds plan trace.calls start (Ok sorted) ended)
     (closed : IsClosed device store_device (slot_value (part_value device history faults room) (store_value store_device store_history store_faults)) board ended parts stores placed tail)
@@ -274,22 +284,23 @@ module _ {L B : Type 0} (device : L → ℕ) (history : L → PartHistory) (faul
   files_are : files_of store_states.states ≡ files_shown basis trace report
   files_are = stores_hold ∙ shown_is
 
+  shows : ShowsCalls basis trace sorted report
+  shows = record {
+    history = refl;
+    refused = refl;
+    open_calls = sym (ap (λ (l : List Open). map (λ (o : OpenedCall). o.call) (map opened_call l)) nothing.1);
+    files = ap (named basis.names) files_are;
+  }
+
   is_faithful : IsFaithful ⊥ plan.worker basis trace report
   is_faithful =
       faithful_where ⊥ basis trace fds plan start ended sorted (map (part_value device history faults room) parts) (map (store_value store_device store_history store_faults) stores) (map history parts)
-      (map store_history stores) (sum_by faults parts + sum_by store_faults stores) placed tail report formed (omega (arith, few)) lines is new out by
-      record {
-        history = refl;
-        refused = refl;
-        open_calls = sym (ap (λ (l : List Open). map (λ (o : OpenedCall). o.call) (map opened_call l)) nothing.1);
-        files = ap (named basis.names) files_are;
-      }
-      nothing.0
+      (map store_history stores) (sum_by faults parts + sum_by store_faults stores) placed tail report formed (omega (arith, few)) lines is new out by shows nothing.0
 
-  pub has_run : (text : List ℕ) (backing : List B) → map store_history backing ≡ map store_history stores
-      → ((now : List Store) → AreNow (map store_history stores) now → text ≡ report_text (shown_report sorted [] basis.names (files_of now)))
-      → HasRunOver history store_history plan.worker basis trace text parts backing
-  has_run text backing same text_of = record {
+  pub has_run : (show : Show) (text : List ℕ) (backing : List B) → map store_history backing ≡ map store_history stores
+      → ((now : List Store) → AreNow (map store_history stores) now → text ≡ text_as show (shown_report sorted [] basis.names (files_of now)))
+      → HasRunOver history store_history show plan.worker basis trace text parts backing
+  has_run show text backing same text_of = record {
     report = report;
     faithful = is_faithful;
     plain = names_plain version_1.name_limit basis.names (files_of store_states.states).contents (each_allowed basis.names allowed);
@@ -306,4 +317,9 @@ module _ {L B : Type 0} (device : L → ℕ) (history : L → PartHistory) (faul
       files_are = files_are;
       synced = quiet_states (map store_history stores) store_states.states store_states.are rest.durable;
     };
+    page_is = sym here.page;
+    entries_is = sym here.entries;
+    next_is =
+        emptied_logs_go_on basis trace fds plan start ended sorted (map (part_value device history faults room) parts) (map (store_value store_device store_history store_faults) stores) (map history parts)
+        (map store_history stores) (sum_by faults parts + sum_by store_faults stores) placed tail report is out by shows emptied;
   }

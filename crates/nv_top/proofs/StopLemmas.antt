@@ -1,13 +1,27 @@
 -- Stops: which error a refusal of the region came of.
-use Rattle.std.proofs.Common.{◌≡◌, ℕ, Result, Err, refl, subst}
+use Rattle.std.proofs.Common.{◌≡◌, ◌≢◌, ◌⊎◌, ℕ, Result, Ok, Err, inl, inr, refl, sym, subst, ◌∙◌, arith}
+use Rattle.std.specs.Prelude.{IfErr}
 use Rattle.std.specs.Result.{IsErrAnd}
 use Rattle.nv_open.specs.declared.error.OpenError.{OpenError}
 use Rattle.nv_open.specs.declared.error.OpenError.TheVariants as open_errors
 use Rattle.nv_open.specs.declared.error.Refusal.{Refusal}
 use Rattle.nv_recover.specs.declared.error.RecoverError.{RecoverError}
 use Rattle.nv_recover.specs.declared.error.RecoverError.TheVariants as recover_errors
-use Rattle.nv_top.specs.Stops.{stop_of_opening, stop_of_recovery}
-use Rattle.nv_top.specs.declared.ending.Stop.TheVariants.{Region}
+use Rattle.nv_top.specs.Stops.{ComesBeforeOpening, CountHasCause, SaidAs, stop_of_opening, stop_of_recovery, stop_status}
+use Rattle.nv_top.specs.Stopping.{IsSettledStop}
+use Rattle.nv_top.specs.declared.ending.Stop.{Stop}
+use Rattle.nv_top.specs.declared.ending.TheConstants.{USAGE, BAD_INPUT, READ_FAULT, DEVICE_FAULT, NO_MEMORY, BAD_REGION}
+use Rattle.nv_top.specs.declared.ending.Stop.TheVariants.{Usage, BadLine, InputLong, Read, Device, Region, NoMemory}
+
+-- no other status is one of these
+other : {A : Type 0} (result status : ℕ) (takes : Type 0) → SaidAs result status takes → (result ≡ USAGE) ⊎ ((result ≡ BAD_INPUT) ⊎ (result ≡ READ_FAULT)) → status ≢ USAGE → status ≢ BAD_INPUT → status ≢ READ_FAULT → A
+other {A} result status takes said is one two three = absurd (elim said [
+  | inl same ↦ elim is [ inl a ↦ one (sym same ∙ a) | inr rest ↦ elim rest [ inl a ↦ two (sym same ∙ a) | inr a ↦ three (sym same ∙ a) ] ]
+  | inr rest ↦ elim rest [
+    | inl fault ↦ elim is [ inl a ↦ omega (arith, fault, a) | inr rest ↦ elim rest [ inl a ↦ omega (arith, fault, a) | inr a ↦ omega (arith, fault, a) ] ]
+    | inr memory ↦ let same = memory.0 in elim is [ inl a ↦ omega (arith, same, a) | inr rest ↦ elim rest [ inl a ↦ omega (arith, same, a) | inr a ↦ omega (arith, same, a) ] ]
+  ]
+])
 
 pub opening_refused : (error : OpenError) (why : Refusal) → stop_of_opening error ≡ Region why → error ≡ open_errors.Refused why
 opening_refused (open_errors.Refused refusal) why is = cc
@@ -27,3 +41,34 @@ pub err_has : {T E : Type 0} (result : Result T E) (P : E → Type 0) (error : E
 err_has result P error is has =
     let Of : Result _ _ → Type 0 = λ result. IsErrAnd result P in
     subst Of is has
+
+-- a stop that a bench gives comes after its opening
+pub settled_opened : {T : Type 0} (settled now : ℕ) (result : Result T Stop) (P : Type 0) → IsSettledStop settled now result → IfErr result (λ stop. ComesBeforeOpening stop → P)
+settled_opened settled now (Ok value) P cause = tt
+settled_opened settled now (Err Usage) P cause = absurd cause
+settled_opened settled now (Err (BadLine bad)) P cause = absurd cause
+settled_opened settled now (Err InputLong) P cause = absurd cause
+settled_opened settled now (Err Read) P cause = absurd cause
+settled_opened settled now (Err Device) P cause = λ none. absurd none
+settled_opened settled now (Err (Region refusal)) P cause = λ none. absurd none
+settled_opened settled now (Err NoMemory) P cause = λ none. absurd none
+
+pub counted_opened : {T : Type 0} (before now : ℕ) (result : Result T Stop) (P : Type 0) → CountHasCause before now result → IfErr result (λ stop. ComesBeforeOpening stop → P)
+counted_opened before now (Ok value) P cause = tt
+counted_opened before now (Err Usage) P cause = absurd cause
+counted_opened before now (Err (BadLine bad)) P cause = absurd cause
+counted_opened before now (Err InputLong) P cause = absurd cause
+counted_opened before now (Err Read) P cause = absurd cause
+counted_opened before now (Err Device) P cause = λ none. absurd none
+counted_opened before now (Err (Region refusal)) P cause = λ none. absurd none
+counted_opened before now (Err NoMemory) P cause = λ none. absurd none
+
+-- the statuses of those that come before it
+pub said_before : (result : ℕ) (stop : Stop) (takes : Type 0) → SaidAs result (stop_status stop) takes → (result ≡ USAGE) ⊎ ((result ≡ BAD_INPUT) ⊎ (result ≡ READ_FAULT)) → ComesBeforeOpening stop
+said_before result Usage takes said is = tt
+said_before result (BadLine bad) takes said is = tt
+said_before result InputLong takes said is = tt
+said_before result Read takes said is = tt
+said_before result Device takes said is = other result DEVICE_FAULT takes said is (omega arith) (omega arith) (omega arith)
+said_before result (Region refusal) takes said is = other result BAD_REGION takes said is (omega arith) (omega arith) (omega arith)
+said_before result NoMemory takes said is = other result NO_MEMORY takes said is (omega arith) (omega arith) (omega arith)

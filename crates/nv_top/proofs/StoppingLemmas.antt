@@ -1,7 +1,7 @@
 -- A run that was stopped, after power went off and the region was recovered: its report is faithful.
 use Rattle.std.proofs.Common.{◌<◌, ◌≡◌, ◌^◌, ℕ, ◌+◌, ◌≤◌, All, List, [], ◌∷◌, ◌++◌, Option, Some, None, IfSome, Result, Ok, Err, option_map, map, length, sum_by, true, refl, sym, ap, subst, ◌∙◌, arith, IsPermutation}
 use Rattle.std.specs.Prelude.{MatchOption}
-use Rattle.std.specs.List.{AllZip, flat_map}
+use Rattle.std.specs.List.{flat_map}
 use Rattle.std.specs.List.Sorted.{IsStrictlyIncreasing}
 use Rattle.std.proofs.lemmas.List.{get_or_default, length-map}
 use Rattle.std.proofs.lemmas.List.Elements.{All-nil, All-cons, All-head, All-tail, All-weaker}
@@ -19,9 +19,10 @@ use Rattle.nv_pmem.specs.Rows.{InEachRowImage, IsRowImage, RowTells, row_words}
 use Rattle.nv_pmem.specs.Steps as lines
 use Rattle.nv_pmem.specs.declared.picker.Pick.{Pick}
 use Rattle.nv_store.specs.Steps as stores
-use Rattle.nv_store.specs.Store.{Store}
+use Rattle.nv_open.proofs.Homes.{kept_in_all}
+use Rattle.nv_store.specs.Store.{IsQuietStore, Store}
 use Rattle.nv_bench.specs.Benches.{BenchState, armed_with, told_back, with_faults}
-use Rattle.nv_bench.specs.Holding.{Holding, IsQuietHolding, named_stores}
+use Rattle.nv_bench.specs.Holding.{Holding, IsQuietHolding, NamedStore, named_stores}
 use Rattle.nv_bench.specs.Laws.{AreWholeStores, PowerLeavesAnImage}
 use Rattle.nv_bench.specs.Powered.{powered}
 use Rattle.nv_header.specs.FileNames.{AreFileNames}
@@ -36,6 +37,7 @@ use Rattle.nv_core.specs.content.Content.{Opens}
 use Rattle.nv_core.specs.crash.CommutingWrites.{after_calls}
 use Rattle.nv_core.specs.crash.CrashImages.{OpensRegion}
 use Rattle.nv_core.specs.log.LogContent.{OpensLog}
+use Rattle.nv_core.specs.state.Passes.{IsOneOf}
 use Rattle.nv_core.specs.state.Values.{Value, faults_of}
 use Rattle.nv_core.proofs.content.PatchLaws.{history_after}
 use Rattle.nv_table.specs.state.Opened.{Opened, mount_of}
@@ -58,9 +60,10 @@ use Rattle.nv_trace.specs.declared.trace_call.TracedCall.{TracedCall}
 use Rattle.nv_runner.specs.declared.plan.Plan.{Plan}
 use Rattle.nv_runner.specs.declared.sorted.Open.{Open}
 use Rattle.nv_runner.specs.declared.sorted.SortedCalls.{SortedCalls}
+use Rattle.nv_runner.specs.DrawnNumbers.{DrawnCall}
 use Rattle.nv_runner.specs.EndedRuns.{HasOutcome, IsClosedBy}
 use Rattle.nv_runner.specs.Faithful.{Basis, IsAllowedRefusal, IsFaithful, IsLeftOpen, WasRefused, after_open, barred, descriptors_in, drawing_calls, file_call, files_shown, history_of, named, open_calls_of, placed_in}
-use Rattle.nv_runner.specs.FaithfulRuns.{IsMountOf, RunsAreFaithful, as_fd}
+use Rattle.nv_runner.specs.FaithfulRuns.{IsMountOf, RunsAreFaithful, RunsAreNumbered, ShowsCalls, as_fd}
 use Rattle.nv_runner.specs.Histories.{CallsOnFiles, ThreadsAreLegal}
 use Rattle.nv_runner.specs.OpenRuns.{LeftOpenAreKept, open_of}
 use Rattle.nv_runner.specs.OpenWrites.{kept_open}
@@ -70,7 +73,7 @@ use Rattle.nv_runner.specs.Told.{AreTold, DescriptorsSayFiles, RunsAreTold}
 use Rattle.nv_top.specs.Fates.{fate_of, fated, fated_report}
 use Rattle.nv_top.specs.Reports.{report_text}
 use Rattle.nv_top.specs.Runs.{BeginsMount}
-use Rattle.nv_top.specs.Stopping.{HasFate, HasStoppedOn, IsAway, RestsWith, ShowsRecovered}
+use Rattle.nv_top.specs.Stopping.{HasFate, HaveFates, HasStoppedOn, IsAway, RestsWith, ShowsRecovered}
 use Rattle.nv_top.specs.Stops.{CountHasCause, StopHasCause}
 use Rattle.nv_top.specs.declared.ending.Stop.{Stop}
 use Rattle.nv_top.specs.declared.ending.Stop.TheVariants.{Usage, BadLine, InputLong, Read, Device, Region, NoMemory}
@@ -114,14 +117,14 @@ told_again old lent holding names now disks told_is home lent_is =
 -- a recovery's report shows what the bench stood for
 pub shows : (old lent : BenchState) (new_told : Option Holding) (holding : Holding) (sorted : SortedCalls) (text : List ℕ) (found : recover.Recovered) (page entries next : ℕ) (names shown : List (List ℕ))
     (parts_row : List lines.PartHistory) (row : List stores.StoreHistory)
-    → old.told ≡ Some holding → old.lent ≡ [] → lent ≡ with_faults lent.faults (all_lent names old) → names ≡ shown
+    → old.told ≡ Some holding → IsQuietHolding holding → old.lent ≡ [] → lent ≡ with_faults lent.faults (all_lent names old) → names ≡ shown
     → ((now : List Store) → AreNow row now → text ≡ report_text (fated_report sorted found shown (files_of now)))
     → IsRecovered holding.parts page entries names next found
     → HoldFiles row (files_named holding.parts names holding.stores)
     → All (λ history. 0 < length history) parts_row → RowTells parts_row (IsAtRest version_1 page entries names next)
     → ((now : List Part) (disks : List Store) → AreNow parts_row now → AreNow row disks → new_told ≡ told_back now disks lent)
     → ShowsRecovered holding sorted new_told text
-shows old lent new_told holding sorted text found page entries next names shown parts_row row told_is home lent_is same text_of recovered holds tell rest gives =
+shows old lent new_told holding sorted text found page entries next names shown parts_row row told_is quiet home lent_is same text_of recovered holds tell rest gives =
     let now = present parts_row tell in
     let Rests : List (List ℕ) → Type 0 = λ names. RestsWith names (files_named holding.parts names holding.stores) new_told in
     record {
@@ -140,6 +143,7 @@ shows old lent new_told holding sorted text found page entries next names shown 
         next = next;
         rest = row_tells_at parts_row (IsAtRest version_1 page entries names next) now.states now.are rest;
         others = without_stores names holding.stores;
+        still = kept_in_all (λ (named : NamedStore). IsQuietStore named.store) names holding.stores quiet.stores;
         disks = holds.held;
         stores_are = refl;
         files_are = holds.files_are;
@@ -223,18 +227,21 @@ names_read parts = refl
 
 -- ---- fates
 
--- each drew a number, and has its fate by what was found
-have_fates : (parts : List Part) (files : Files) (found : recover.Recovered) (open_calls : List Open) → HasFoundAll (row_words parts) found → All (λ (o : Open). found.first ≤ o.number) open_calls
-    → AllZip (HasFate parts files) (map (λ (o : Open). o.number) open_calls) (map (fated found.first found.groups) open_calls)
-have_fates parts files found [] all low = tt
-have_fates parts files found (one ∷ later) all low =
-    let Low : Open → Type 0 = λ o. found.first ≤ o.number in (
-      (
-        subst (λ first. first ≤ one.number) (all.first files) (All-head Low one later low),
-        ap (λ first. fate_of first found.groups one.number) (all.first files) ∙ ap (λ groups. fate_of (recovered (row_words parts) files).first groups one.number) (all.groups files),
-      ),
-      have_fates parts files found later all (All-tail Low one later low),
-    )
+-- each has its fate by what was found
+have_fates : (parts : List Part) (files : Files) (found : recover.Recovered) (drawn : List DrawnCall) (open_calls : List Open) → HasFoundAll (row_words parts) found → All (λ (o : Open). found.first ≤ o.number) open_calls
+    → All (λ (o : OpenedCall). IsOneOf drawn (record { call = o.call; number = o.number })) (map opened_call open_calls) → All (HasFate parts files drawn) (map (fated found.first found.groups) open_calls)
+have_fates parts files found drawn [] all low told = All-nil (HasFate parts files drawn)
+have_fates parts files found drawn (one ∷ later) all low told =
+    let Low : Open → Type 0 = λ o. found.first ≤ o.number in
+    let Told : OpenedCall → Type 0 = λ o. IsOneOf drawn (record { call = o.call; number = o.number }) in
+    let here : HasFate parts files drawn (fated found.first found.groups one) = (
+      one.number,
+      All-head Told (opened_call one) (map opened_call later) told,
+      subst (λ first. first ≤ one.number) (all.first files) (All-head Low one later low),
+      ap (λ first. fate_of first found.groups one.number) (all.first files) ∙ ap (λ groups. fate_of (recovered (row_words parts) files).first groups one.number) (all.groups files),
+    ) in
+    All-cons (HasFate parts files drawn) (fated found.first found.groups one) (map (fated found.first found.groups) later) here
+    (have_fates parts files found drawn later all (All-tail Low one later low) (All-tail Told (opened_call one) (map opened_call later) told))
 
 -- ---- what a run tells whose mount was closed
 
@@ -336,8 +343,9 @@ module _ (basis : Basis) (trace : Traced) (mount : MountState) (pass zero : Pass
 
     -- ---- the report
 
-    module _ (faithful_so : RunsAreFaithful) (stand_so : ReadableStandsForRecovered) (failed : Type 0) (saw : SawStop zero.view → failed) (allowed : AreFileNames version_1 basis.names)
-        (bench : BenchState) (text : List ℕ) (after_power : Holding) (shows_so : ShowsRecovered after_power sorted bench.told text) (power_left : bench.left ≡ Some after_power.parts)
+    module _ (faithful_so : RunsAreFaithful) (numbered_so : RunsAreNumbered) (stand_so : ReadableStandsForRecovered) (failed : Type 0) (saw : SawStop zero.view → failed) (allowed : AreFileNames version_1 basis.names)
+        (bench : BenchState) (text : List ℕ) (after_power : Holding) (shows_so : ShowsRecovered after_power sorted bench.told text) (power_left : bench.left ≡ Some after_power.parts) (before : List Pick)
+        (picked : bench.picked ≡ plan.image ∷ before)
         (left : LeavesWholeWrites zero.view basis.files basis.names (row_words after_power.parts) (files_of (stores_named basis.names after_power.stores))) where
       abbrev found : recover.Recovered
       found = shows_so.found
@@ -361,14 +369,26 @@ module _ (basis : Basis) (trace : Traced) (mount : MountState) (pass zero : Pass
           ∙ recovered_files image (files_of (stores_named basis.names after_power.stores)) left found shows_so.log
           ∙ ap (after_open descriptors (map (fated found.first found.groups) items)) (sym history_files)
 
+      is_mount : IsMountOf basis trace pass.view.opened mount.fds
+      is_mount = subst (λ (o : Opened). IsMountOf basis trace o mount.fds) (sym (ap (λ (v : PassView). v.opened) run.new)) run.begins.is_mount
+
+      shows_calls : ShowsCalls basis trace sorted report
+      shows_calls = record { history = refl; refused = refl; open_calls = calls_again found.first found.groups items; files = ap (named basis.names) files_are }
+
       is_faithful : IsFaithful failed plan.worker basis trace report
       is_faithful =
           faithful_while (SawStop zero.view) failed plan.worker basis trace report saw
-          (faithful_so basis trace mount.fds plan pass zero sorted part_values store_values parts held faults placed tail report run.well_formed run.few run.rise
-          (subst (λ (o : Opened). IsMountOf basis trace o mount.fds) (sym (ap (λ (v : PassView). v.opened) run.new)) run.begins.is_mount) begins_so run.out run.closed
-          record { history = refl; refused = refl; open_calls = calls_again found.first found.groups items; files = ap (named basis.names) files_are })
+          (faithful_so basis trace mount.fds plan pass zero sorted part_values store_values parts held faults placed tail report run.well_formed run.few run.rise is_mount begins_so run.out run.closed shows_calls)
 
-      pub has_stopped : HasStoppedOn failed plan.worker basis trace bench text
+      fates : HaveFates basis after_power.parts report
+      fates =
+          let numbered = numbered_so basis trace mount.fds plan pass zero sorted report is_mount run.out shows_calls in
+          record {
+            drew = numbered.0;
+            each = have_fates after_power.parts basis.files found numbered.0.drawn items shows_so.log (low image (files_of (stores_named basis.names after_power.stores)) left found shows_so.log) numbered.1;
+          }
+
+      pub has_stopped : HasStoppedOn failed plan.worker plan.image before basis trace bench text
       has_stopped =
           let NamesRest : List (List ℕ) → Type 0 = λ names. RestsWith names shown_files bench.told in
           let FilesRest : Files → Type 0 = λ files. RestsWith basis.names files bench.told in
@@ -377,12 +397,10 @@ module _ (basis : Basis) (trace : Traced) (mount : MountState) (pass zero : Pass
             faithful = is_faithful;
             plain = names_plain version_1.name_limit basis.names shown_files.contents (each_allowed basis.names allowed);
             text_is = shows_so.text_is ∙ ap (λ names. report_text (fated_report sorted found names shown_files)) names_so;
+            picked = picked;
             parts = after_power.parts;
             power_left = power_left;
-            fated = record {
-              numbers = map (λ (o : Open). o.number) items;
-              each = have_fates after_power.parts basis.files found items shows_so.log (low image (files_of (stores_named basis.names after_power.stores)) left found shows_so.log);
-            };
+            fated = fates;
             rests = subst FilesRest files_are (subst NamesRest names_so shows_so.left);
           }
 

@@ -1,13 +1,14 @@
 -- What a command leaves of a bench in memory of which nothing was lent.
 use Rattle.std.proofs.Common.{◌≡◌, ◌⊎◌, inl, inr, ℕ, ◌+◌, ◌≤◌, true, false, sym, ap, [], ◌∙◌, arith, refl}
 use Rattle.std.specs.Prelude.{Option, Some, None}
+use Rattle.nv_pmem.specs.declared.picker.Pick.{Pick}
 use Rattle.nv_bench.specs.Benches.{BenchState, with_faults}
 use Rattle.nv_bench.specs.Holding.{Holding}
 use Rattle.nv_top.specs.Commands.{IsGivenBack}
 use Rattle.nv_top.specs.Headline.{IsLeftAfter, IsLeftBy}
 use Rattle.nv_top.specs.Stopping.{IsPoweredBack}
 use Rattle.nv_top.specs.declared.words.Command.{Command}
-use Rattle.nv_top.specs.declared.words.Command.TheVariants.{Run, Recover, Look}
+use Rattle.nv_top.specs.declared.words.Command.TheVariants.{Run, Recover, Look, Gen}
 
 pub record IsFree (old new : BenchState) : Type 0 where
   pub closed : new.is_open ≡ false
@@ -43,15 +44,16 @@ module _ (old new : BenchState) (closed : old.is_open ≡ false) (home : old.len
   either_back k (inl is) = powered_back k is
   either_back k (inr is) = given is
 
-  left_after : (stop : Option ℕ) → IsLeftAfter stop old new → IsFree old new
-  left_after None is = given is
-  left_after (Some k) is = either_back k is
+  left_after : (stop : Option ℕ) (pick : Pick) → IsLeftAfter stop pick old new → IsFree old new
+  left_after None pick is = given is
+  left_after (Some k) pick is = either_back k is.0
 
   left : (command : Command) → IsLeftBy command old new → IsFree old new
-  left (Run options) is = left_after options.stop is
+  left (Run options) is = left_after options.stop options.image is
   left Recover is = given is
   left (Look false) is = given (unchanged is)
   left (Look true) is = given is.0
+  left (Gen load) is = given is
 
   pub is_free : {A B : Type 0} (command : Option Command) → ((one : Command) → command ≡ Some one → IsLeftBy one old new)
       → (command ≡ None → A × B × (new ≡ old)) → IsFree old new

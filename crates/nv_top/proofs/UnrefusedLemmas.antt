@@ -15,7 +15,6 @@ use Rattle.nv_pmem.specs.Rows.{row_words}
 use Rattle.nv_pmem.specs.Steps as lines
 use Rattle.nv_pmem.specs.declared.picker.Pick.{Pick}
 use Rattle.nv_pmem.proofs.PickedLaws.{length-picked}
-use Rattle.nv_store.specs.Images.{IsStoreImage}
 use Rattle.nv_store.specs.Steps as stores
 use Rattle.nv_store.specs.Store.{IsWholeStore, Store}
 use Rattle.nv_store.proofs.RowReads.{length_now}
@@ -28,7 +27,7 @@ use Rattle.nv_header.specs.Regions.{ReadsAs, part_lines}
 use Rattle.nv_header.specs.declared.head.HeadError.{HeadError}
 use Rattle.nv_header.specs.declared.head.HeadError.TheVariants as head
 use Rattle.nv_recover.specs.Groups.{FittingHasNoBad}
-use Rattle.nv_recover.specs.Standing.{AreStoreImages}
+use Rattle.nv_open.proofs.Stands.{durable_images}
 use Rattle.nv_core.specs.state.Values.{Value}
 use Rattle.nv_table.specs.state.Opened.{Opened, mount_of}
 use Rattle.nv_table.specs.state.States.{PassState}
@@ -109,14 +108,6 @@ module _ (good_so : FittingHasNoBad) (read_so : ReadIsNotRefused) (page entries 
   not_refused TooManyFiles is = is
 
 -- ---- an image that stores may be left with
-
-durable_images : (disks : List Store) → All IsWholeStore disks → AreStoreImages disks (record { contents = map (λ (store : Store). store.durable) disks })
-durable_images disks whole = record {
-  count = length-map disks (λ (store : Store). store.durable);
-  each = λ i none less.
-      subst (λ bytes. IsStoreImage (get_or disks i none) bytes) (sym (get_or-map (λ (store : Store). store.durable) disks i none [] less))
-      record { no_shorter = omega arith; no_longer = (whole i none less).no_longer; synced = λ j not. refl };
-}
 
 whole_named : (names : List (List ℕ)) (disks : List Store) → length names ≡ length disks → All (λ (named : NamedStore). IsWholeStore named.store) (named_stores names disks) → All IsWholeStore disks
 whole_named names [] long all = All-nil IsWholeStore

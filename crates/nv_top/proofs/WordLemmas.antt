@@ -7,10 +7,12 @@ use Rattle.std.specs.Str.{bytes_eq}
 use Rattle.std.specs.List.{list_any}
 use Rattle.clap.specs.Kinds.{Kinds}
 use Rattle.clap.specs.Words.{App, Row, built, fault_of, first_of, is_simple, is_simple_and_free, matches_of}
+use Rattle.nv_load.specs.Generated.{IsLoad}
+use Rattle.nv_load.specs.declared.load.Load.{Load}
 use Rattle.nv_pmem.specs.Limits.{IsEntryCount, IsPageSize}
-use Rattle.nv_top.specs.Words.{AreInLimits, command_of, if_lines, image_in, is_dashes, largest_number, look_in, number_in, number_or, options_in, page_of_words, run_app, run_in, stop_in, unless_refused}
+use Rattle.nv_top.specs.Words.{AreInLimits, command_of, if_lines, image_in, is_dashes, largest_number, load_in, look_in, number_in, number_or, options_in, page_of_words, run_app, run_in, stop_in, unless_refused}
 use Rattle.nv_top.specs.declared.words.Command.{Command}
-use Rattle.nv_top.specs.declared.words.Command.TheVariants.{Look, Recover, Run}
+use Rattle.nv_top.specs.declared.words.Command.TheVariants.{Gen, Look, Recover, Run}
 use Rattle.nv_top.specs.declared.words.RunOptions.{RunOptions}
 use Rattle.nv_top.proofs.NumberLemmas.{number_between, option_between}
 
@@ -134,12 +136,26 @@ no_look : (words : List (List ℕ)) (options : RunOptions) → look_in words ≡
 no_look [] options is = cc
 no_look (word ∷ rest) options is = looks_on (bytes_eq word (codes "--files") && length rest == 0) options is
 
-is_run : (run recover look : Bool) (said other : Option Command) (options : RunOptions) → (other ≡ Some (Run options) → ⊥)
-    → (if run then said else if recover then Some Recover else if look then other else None) ≡ Some (Run options) → said ≡ Some (Run options)
-is_run true recover look said other options none is = is
-is_run false true look said other options none is = cc
-is_run false false true said other options none is = absurd (none is)
-is_run false false false said other options none is = cc
+-- nor is a load
+no_load : (words : List (List ℕ)) (options : RunOptions) → load_in words ≡ Some (Run options) → ⊥
+no_load [] options is = cc
+no_load (seed ∷ []) options is = cc
+no_load (seed ∷ calls ∷ []) options is = cc
+no_load (seed ∷ calls ∷ threads ∷ []) options is =
+    let one = and_then_some _ (number_in 0 largest_number seed) (Run options) is in
+    let two = and_then_some _ (number_in 0 100000 calls) (Run options) one.2 in
+    let three = map_some _ (number_in 1 8 threads) (Run options) two.2 in
+    let last = three.2 in
+    cc
+no_load (seed ∷ calls ∷ threads ∷ one ∷ more) options is = cc
+
+is_run : (run recover look gen : Bool) (said other last : Option Command) (options : RunOptions) → (other ≡ Some (Run options) → ⊥) → (last ≡ Some (Run options) → ⊥)
+    → (if run then said else if recover then Some Recover else if look then other else if gen then last else None) ≡ Some (Run options) → said ≡ Some (Run options)
+is_run true recover look gen said other last options none also is = is
+is_run false true look gen said other last options none also is = cc
+is_run false false true gen said other last options none also is = absurd (none is)
+is_run false false false true said other last options none also is = absurd (also is)
+is_run false false false false said other last options none also is = cc
 
 run_allowed : (words : List (List ℕ)) (options : RunOptions) → command_of words ≡ Some (Run options) → AreInLimits options × IfSome options.stop (λ k. 1 ≤ k)
 unfolding command_of
@@ -147,7 +163,8 @@ run_allowed [] options is = cc
 run_allowed (word ∷ words) options is =
     options_allowed (matches_of run_app (word ∷ words)) options
     (run_said (list_any is_dashes (word ∷ words)) (fault_of run_app (word ∷ words)) (options_in (matches_of run_app (word ∷ words))) options
-    (is_run (bytes_eq word (codes "run")) (bytes_eq word (codes "recover") && length words == 0) (bytes_eq word (codes "look")) (run_in (word ∷ words)) (look_in words) options (no_look words options) is))
+    (is_run (bytes_eq word (codes "run")) (bytes_eq word (codes "recover") && length words == 0) (bytes_eq word (codes "look")) (bytes_eq word (codes "gen")) (run_in (word ∷ words)) (look_in words) (load_in words) options
+    (no_look words options) (no_load words options) is))
 
 -- the sizes of a run are within their limits
 pub run_in_limits : (words : List (List ℕ)) (options : RunOptions) → command_of words ≡ Some (Run options) → AreInLimits options
@@ -156,3 +173,54 @@ run_in_limits words options is = (run_allowed words options is).0
 -- a run that words stop is stopped at a device call from the first one on
 pub stop_from_one : (words : List (List ℕ)) (options : RunOptions) → command_of words ≡ Some (Run options) → IfSome options.stop (λ k. 1 ≤ k)
 stop_from_one words options is = (run_allowed words options is).1
+
+-- ---- a load
+
+load_said : (words : List (List ℕ)) (load : Load) → load_in words ≡ Some (Gen load) → IsLoad load
+load_said [] load is = cc
+load_said (seed ∷ []) load is = cc
+load_said (seed ∷ calls ∷ []) load is = cc
+load_said (seed ∷ calls ∷ threads ∷ []) load is =
+    let one = and_then_some _ (number_in 0 largest_number seed) (Gen load) is in
+    let two = and_then_some _ (number_in 0 100000 calls) (Gen load) one.2 in
+    let three = map_some _ (number_in 1 8 threads) (Gen load) two.2 in
+    let seeded = number_between 0 largest_number seed one.0 one.1 in
+    let called = number_between 0 100000 calls two.0 two.1 in
+    let made = number_between 1 8 threads three.0 three.1 in
+    subst IsLoad (same_load three.2) (record { seed = seeded.1; calls = called.1; some_threads = made.0; few_threads = made.1 })
+  where
+    same_load : {one : Load} → Gen one ≡ Gen load → one ≡ load
+    same_load {one} is = cc
+load_said (seed ∷ calls ∷ threads ∷ one ∷ more) load is = cc
+
+no_run_load : (words : List (List ℕ)) (load : Load) → run_in words ≡ Some (Gen load) → ⊥
+no_run_load words load is = by_dashes (list_any is_dashes words) (fault_of run_app words) (options_in (matches_of run_app words)) is where
+  by_dashes : (dashes : Bool) (faults : Kinds) (found : Option RunOptions) → (if dashes then None else unless_refused faults (option_map Run found)) ≡ Some (Gen load) → ⊥
+  by_dashes true faults found is = cc
+  by_dashes false (first ∷ rest) found is = cc
+  by_dashes false [] None is = cc
+  by_dashes false [] (Some one) is = cc
+
+look_no_load : (words : List (List ℕ)) (load : Load) → look_in words ≡ Some (Gen load) → ⊥
+look_no_load [] load is = cc
+look_no_load (word ∷ rest) load is = by_test (bytes_eq word (codes "--files") && length rest == 0) is where
+  by_test : (asked : Bool) → (if asked then Some (Look true) else None) ≡ Some (Gen load) → ⊥
+  by_test true is = cc
+  by_test false is = cc
+
+is_load : (run recover look gen : Bool) (first other last : Option Command) (load : Load) → (first ≡ Some (Gen load) → ⊥) → (other ≡ Some (Gen load) → ⊥)
+    → (if run then first else if recover then Some Recover else if look then other else if gen then last else None) ≡ Some (Gen load) → last ≡ Some (Gen load)
+is_load true recover look gen first other last load none also is = absurd (none is)
+is_load false true look gen first other last load none also is = cc
+is_load false false true gen first other last load none also is = absurd (also is)
+is_load false false false true first other last load none also is = is
+is_load false false false false first other last load none also is = cc
+
+-- a load that words ask for is within its limits
+pub load_in_limits : (words : List (List ℕ)) (load : Load) → command_of words ≡ Some (Gen load) → IsLoad load
+unfolding command_of
+load_in_limits [] load is = cc
+load_in_limits (word ∷ words) load is =
+    load_said words load
+    (is_load (bytes_eq word (codes "run")) (bytes_eq word (codes "recover") && length words == 0) (bytes_eq word (codes "look")) (bytes_eq word (codes "gen")) (run_in (word ∷ words)) (look_in words) (load_in words)
+    load (no_run_load (word ∷ words) load) (look_no_load words load) is)

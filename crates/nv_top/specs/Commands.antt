@@ -19,7 +19,10 @@ use Rattle.nv_runner.specs.Faithful.{Basis, IsFaithful, files_shown, named}
 use Rattle.nv_runner.specs.Reports.{Report}
 use Rattle.nv_top.specs.Leaving.{Leaves}
 use Rattle.nv_top.specs.Readings.{HavePlainNames}
-use Rattle.nv_top.specs.Reports.{RecoveryReport, recovery_text, report_text}
+use Rattle.nv_top.specs.Reports.{RecoveryReport, recovery_text}
+use Rattle.nv_top.specs.Runs.{next_behind}
+use Rattle.nv_top.specs.Shows.{text_as}
+use Rattle.nv_top.specs.declared.show.Show.{Show}
 use Rattle.nv_top.specs.declared.words.RunOptions.{RunOptions}
 
 -- the bench is as it was, but for what it holds and its count of faults
@@ -47,15 +50,19 @@ pub record IsNotRun (options : RunOptions) (holding : Holding) (wanted : List (L
   pub entries_are : geometry.entries ≡ options.entries
   pub not_opened : IsNotOpened holding.parts geometry wanted why
 
--- The text is that of a faithful report of a run of the trace, and the bench is left with the files that it shows.
-pub record HasRunOn (options : RunOptions) (holding : Holding) (told : Option Holding) (trace : Traced) (text : List ℕ) : Type 0 where
+-- The text shows a faithful report of a run of the trace, as itself or by its summary, and the bench is left with the files of the report: its region has the sizes that it began with, and its log goes on
+-- behind what was drawn.
+pub record HasRunOn (show : Show) (options : RunOptions) (holding : Holding) (told : Option Holding) (trace : Traced) (text : List ℕ) : Type 0 where
   pub basis : Basis
   pub begun : IsBasis options holding trace.names basis
   pub report : Report
   pub faithful : IsFaithful ⊥ options.worker basis trace report
   pub plain : HavePlainNames report.files
-  pub text_is : text ≡ report_text report
+  pub text_is : text ≡ text_as show report
   pub left : Leaves (Some begun.geometry) basis.names (files_shown basis trace report) holding told
+  pub page_is : left.left.page ≡ basis.sizes.page
+  pub entries_is : left.left.entries ≡ basis.sizes.entries
+  pub next_is : left.left.next ≡ next_behind basis report
 
 -- ---- a recovery
 

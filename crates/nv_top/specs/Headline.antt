@@ -2,6 +2,7 @@
 use Rattle.std.specs.Prelude.{◌≡◌, ◌⊎◌, ℕ, Bool, List, true, if◌then◌else◌, Option, Some, None, IfSome, max}
 use Rattle.std.specs.Option.{option_and_then}
 use Rattle.nv_plain.specs.Faults.{Rose}
+use Rattle.nv_pmem.specs.declared.picker.Pick.{Pick}
 use Rattle.nv_bench.specs.Benches.{BenchState}
 use Rattle.nv_bench.specs.Holding.{Holding}
 use Rattle.nv_open.specs.Held.{told_after}
@@ -13,10 +14,14 @@ use Rattle.nv_trace.specs.declared.trace.Form.TheVariants as forms
 use Rattle.nv_trace.specs.Traced.{Traced}
 use Rattle.nv_top.specs.Commands.{HasLooked, HasRecovered, HasRunOn, IsBasis, IsGivenBack, IsLookedAt, IsNotRun, IsNotShown}
 use Rattle.nv_runner.specs.Faithful.{Basis}
-use Rattle.nv_top.specs.Stopping.{HasStoppedOn, IsPoweredBack}
+use Rattle.nv_load.specs.Generated.{generated}
+use Rattle.nv_top.specs.Loads.{HasGenerated, load_options}
+use Rattle.nv_top.specs.declared.show.Show.TheVariants.{Report}
+use Rattle.nv_top.specs.Endings.{IsTrace}
+use Rattle.nv_top.specs.Stopping.{HasStoppedOn, IsPickedOnce, IsPoweredBack}
 use Rattle.nv_top.specs.Words.{command_of}
 use Rattle.nv_top.specs.declared.words.Command.{Command}
-use Rattle.nv_top.specs.declared.words.Command.TheVariants.{Run, Recover, Look}
+use Rattle.nv_top.specs.declared.words.Command.TheVariants.{Run, Recover, Look, Gen}
 use Rattle.nv_top.specs.declared.words.RunOptions.{RunOptions}
 
 -- a bench may stop a run, if it is to be stopped: only one whose devices can be armed and powered off does
@@ -29,36 +34,38 @@ abbrev pub possible : (images : Bool) → Command → Option Command
 possible images (Run options) = if may_stop images options.stop then Some (Run options) else None
 possible images Recover = Some Recover
 possible images (Look files) = Some (Look files)
+possible images (Gen load) = Some (Gen load)
 
 -- the command that words are over such a bench
 abbrev pub command_over : (images : Bool) → List (List ℕ) → Option Command
 command_over images words = option_and_then (possible images) (command_of words)
 
--- how a run leaves a bench: all that was lent is back; a stop armed it once more, unless the log wasn't opened
-abbrev pub IsLeftAfter : (stop : Option ℕ) → (old new : BenchState) → Type 0
-IsLeftAfter None old new = IsGivenBack old new
-IsLeftAfter (Some k) old new = IsPoweredBack k old new ⊎ IsGivenBack old new
+-- how a run leaves a bench: all that was lent is back; a stop armed it once more, unless the log wasn't opened, and then power went off with this pick alone
+abbrev pub IsLeftAfter : (stop : Option ℕ) → Pick → (old new : BenchState) → Type 0
+IsLeftAfter None pick old new = IsGivenBack old new
+IsLeftAfter (Some k) pick old new = (IsPoweredBack k old new ⊎ IsGivenBack old new) × IsPickedOnce pick old new
 
 -- how a command leaves it
 abbrev pub IsLeftBy : Command → (old new : BenchState) → Type 0
-IsLeftBy (Run options) old new = IsLeftAfter options.stop old new
+IsLeftBy (Run options) old new = IsLeftAfter options.stop options.image old new
 IsLeftBy Recover old new = IsGivenBack old new
 IsLeftBy (Look files) old new = IsLookedAt files old new
+IsLeftBy (Gen load) old new = IsGivenBack old new
 
 -- the count of faults that a fault's status stands above: that at entry, and that when power went off
 abbrev pub expected_faults : (old new : BenchState) → ℕ
 expected_faults old new = max old.faults new.settled
 
--- The text is that of a faithful report of a run of the trace that was stopped, on a bench that held this and is that now.
-pub record HasStopped (failed : Type 0) (options : RunOptions) (holding : Holding) (bench : BenchState) (trace : Traced) (text : List ℕ) : Type 0 where
+-- The text is that of a faithful report of a run of the trace that was stopped, on a bench that held this, and had lost power with those picks, and is that now.
+pub record HasStopped (failed : Type 0) (options : RunOptions) (before : List Pick) (holding : Holding) (bench : BenchState) (trace : Traced) (text : List ℕ) : Type 0 where
   pub basis : Basis
   pub begun : IsBasis options holding trace.names basis
-  pub stopped : HasStoppedOn failed options.worker basis trace bench text
+  pub stopped : HasStoppedOn failed options.worker options.image before basis trace bench text
 
 -- what the report of a run of a trace, stopped or not, shows of a bench that held this
 abbrev pub IsShownOf : (stop : Option ℕ) → RunOptions → (old new : BenchState) → Holding → Traced → (text : List ℕ) → Type 0
-IsShownOf None options old new holding trace text = HasRunOn options holding new.told trace text
-IsShownOf (Some k) options old new holding trace text = HasStopped (Rose old.faults new.faults) options holding new trace text
+IsShownOf None options old new holding trace text = HasRunOn Report options holding new.told trace text
+IsShownOf (Some k) options old new holding trace text = HasStopped (Rose old.faults new.faults) options old.picked holding new trace text
 
 -- what the report of a command shows of a bench that held this, and of the input that it had
 abbrev pub IsShown : Command → (input : Option (List ℕ)) → (old new : BenchState) → Holding → (text : List ℕ) → Type 0
@@ -66,6 +73,28 @@ IsShown (Run options) input old new holding text =
     IfSome input (λ input. (trace : Traced) × (ending_of forms.Run input ≡ Whole trace) × IsShownOf options.stop options old new holding trace text)
 IsShown Recover input old new holding text = HasRecovered holding new.told text
 IsShown (Look files) input old new holding text = HasLooked files holding text
+IsShown (Gen load) input old new holding text = HasGenerated load holding new.told text
+
+-- what a command reads is a trace, or it reads nothing
+abbrev pub HasInput : Command → (input : Option (List ℕ)) → Type 0
+HasInput (Run options) input = (bytes : List ℕ) × (input ≡ Some bytes) × IsTrace bytes
+HasInput Recover input = Unit {0}
+HasInput (Look files) input = Unit {0}
+HasInput (Gen load) input = Unit {0}
+
+-- why a command is refused by the region of a bench that held this
+abbrev pub HasRefusal : Command → (input : Option (List ℕ)) → Holding → Refusal → Type 0
+HasRefusal (Run options) input holding why = IfSome input (λ input. (trace : Traced) × (ending_of forms.Run input ≡ Whole trace) × IsNotRun options holding trace.names why)
+HasRefusal Recover input holding why = IsRefusedFor holding.parts why
+HasRefusal (Look files) input holding why = IsNotShown files holding why
+HasRefusal (Gen load) input holding why = IsNotRun load_options holding (generated load).names why
+
+-- Nothing stands in the way of a command: it has its input, the region of the bench that held this isn't refused, and neither the source's count nor the bench's rose.
+pub record IsUnhindered (command : Command) (input : Option (List ℕ)) (holding : Holding) (read_failed device_failed : Type 0) : Type 0 where
+  pub has_input : HasInput command input
+  pub not_refused : (why : Refusal) → ¬ (HasRefusal command input holding why)
+  pub read : ¬ read_failed
+  pub devices : ¬ device_failed
 
 -- A region that was refused is as it was, unless it was refused for its files.
 abbrev pub IsRegionUnwritten : (old new : BenchState) → Refusal → Type 0
@@ -77,3 +106,4 @@ IsCommandRefused (Run options) input old new holding why =
     IfSome input (λ input. (trace : Traced) × (ending_of forms.Run input ≡ Whole trace) × IsNotRun options holding trace.names why × IsRegionUnwritten old new why)
 IsCommandRefused Recover input old new holding why = IsRefusedFor holding.parts why × IsRegionUnwritten old new why
 IsCommandRefused (Look files) input old new holding why = IsNotShown files holding why
+IsCommandRefused (Gen load) input old new holding why = IsNotRun load_options holding (generated load).names why × IsRegionUnwritten old new why

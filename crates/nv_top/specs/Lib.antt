@@ -3,6 +3,7 @@ pub mod RegionTexts
 pub mod Endings
 pub mod Reports
 pub mod Readings
+pub mod Shows
 pub mod Runs
 pub mod Leaving
 pub mod Fates
@@ -10,4 +11,7 @@ pub mod Outcomes
 pub mod Stopping
 pub mod Stops
 pub mod Commands
+pub mod Loads
 pub mod Headline
+pub mod Lives
+pub mod NextCommands

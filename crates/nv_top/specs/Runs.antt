@@ -1,5 +1,5 @@
 -- Runs: what one over a region begins with, and what it leaves.
-use Rattle.std.specs.Prelude.{◌≡◌, ℕ, Bool, List, All}
+use Rattle.std.specs.Prelude.{◌≡◌, ℕ, ◌+◌, Bool, List, All}
 use Rattle.nv_pmem.specs.Images.{IsQuietPart}
 use Rattle.nv_pmem.specs.Part.{Part}
 use Rattle.nv_pmem.specs.Steps as lines
@@ -14,12 +14,13 @@ use Rattle.nv_table.specs.state.States.{PassState}
 use Rattle.nv_mount.specs.Mounts.{MountState}
 use Rattle.nv_mount.specs.Telling.{HasLongParts, IsTelling}
 use Rattle.nv_trace.specs.Traced.{Traced}
-use Rattle.nv_runner.specs.Faithful.{Basis, IsFaithful, files_shown}
+use Rattle.nv_runner.specs.Faithful.{Basis, IsFaithful, drawing_calls, entries_of, files_shown}
 use Rattle.nv_runner.specs.FaithfulRuns.{IsMountOf}
 use Rattle.nv_runner.specs.Reports.{Report}
 use Rattle.nv_top.specs.Leaving.{AreLeft}
 use Rattle.nv_top.specs.Readings.{HavePlainNames}
-use Rattle.nv_top.specs.Reports.{report_text}
+use Rattle.nv_top.specs.Shows.{text_as}
+use Rattle.nv_top.specs.declared.show.Show.{Show}
 
 -- the basis that a region is, with files of so many pages, and with these
 abbrev pub basis_over : {L : Type 0} {g : _} → Region L g → (pages : ℕ) → Files → Basis
@@ -41,11 +42,18 @@ pub record BeginsMount (basis : Basis) (trace : Traced) (mount : MountState) (pa
   pub spare : All IsTelling pass.spare
   pub long : HasLongParts (mount_of mount.board.opened)
 
--- A trace was run from a basis, with a worker or not, by which no device failed: the text is that of a faithful report, and the devices
--- are left with the files that it shows.
-pub record HasRunOver {X Y : Type 0} (history : X → lines.PartHistory) (held : Y → stores.StoreHistory) (worker : Bool) (basis : Basis) (trace : Traced) (text : List ℕ) (parts : List X) (backing : List Y) : Type 0 where
+-- the number behind the last that the calls of a report drew
+abbrev pub next_behind : Basis → Report → ℕ
+next_behind basis report = basis.next + entries_of basis.sizes (drawing_calls report)
+
+-- A trace was run from a basis, with a worker or not, by which no device failed: the text shows a faithful report, and the devices are
+-- left with the files of it, the region with its sizes, and its log goes on behind what was drawn.
+pub record HasRunOver {X Y : Type 0} (history : X → lines.PartHistory) (held : Y → stores.StoreHistory) (show : Show) (worker : Bool) (basis : Basis) (trace : Traced) (text : List ℕ) (parts : List X) (backing : List Y) : Type 0 where
   pub report : Report
   pub faithful : IsFaithful ⊥ worker basis trace report
   pub plain : HavePlainNames report.files
-  pub text_is : text ≡ report_text report
+  pub text_is : text ≡ text_as show report
   pub left : AreLeft history held basis.names (files_shown basis trace report) parts backing
+  pub page_is : left.page ≡ basis.sizes.page
+  pub entries_is : left.entries ≡ basis.sizes.entries
+  pub next_is : left.next ≡ next_behind basis report

@@ -1,13 +1,13 @@
 -- Stopping: a run that is stopped at a device call, and what it leaves.
-use Rattle.std.specs.Prelude.{◌≡◌, ℕ, ◌+◌, ◌≤◌, Bool, false, List, [], ◌++◌, All, Option, Some, Result, Ok, Err}
-use Rattle.std.specs.List.{AllZip}
+use Rattle.std.specs.Prelude.{◌≡◌, ◌⊎◌, ℕ, ◌+◌, ◌≤◌, Bool, false, List, [], ◌∷◌, ◌++◌, All, Option, Some, Result, Ok, Err}
 use Rattle.nv_plain.specs.Faults.{Rose}
 use Rattle.nv_plain.specs.Files.{Files}
 use Rattle.nv_plain.specs.Layouts.{version_1}
 use Rattle.nv_plain.specs.Recovered.{recovered}
 use Rattle.nv_pmem.specs.Part.{Part}
 use Rattle.nv_pmem.specs.Rows.{row_words}
-use Rattle.nv_store.specs.Store.{Store}
+use Rattle.nv_pmem.specs.declared.picker.Pick.{Pick}
+use Rattle.nv_store.specs.Store.{IsQuietStore, Store}
 use Rattle.nv_header.specs.Regions.{IsAtRest}
 use Rattle.nv_recover.specs.Standing.{AreQuietStores, files_of}
 use Rattle.nv_bench.specs.Benches.{BenchState}
@@ -17,7 +17,9 @@ use Rattle.nv_recover.specs.Recovering.{HasFoundAll}
 use Rattle.nv_recover.specs.declared.recovering.Recovered as recover
 use Rattle.nv_trace.specs.Traced.{Traced}
 use Rattle.nv_trace.specs.declared.report.Fate.{Fate}
-use Rattle.nv_runner.specs.Faithful.{Basis, IsFaithful, files_shown}
+use Rattle.nv_core.specs.state.Passes.{IsOneOf}
+use Rattle.nv_runner.specs.DrawnNumbers.{DrawnCall, DrewInARow}
+use Rattle.nv_runner.specs.Faithful.{Basis, IsFaithful, drawing_calls, entries_taken, files_shown}
 use Rattle.nv_top.specs.Fates.{fate_of, fated_report}
 use Rattle.nv_top.specs.Readings.{HavePlainNames}
 use Rattle.nv_runner.specs.Reports.{OpenCall, Report}
@@ -31,7 +33,7 @@ abbrev pub IsBack : (old new : BenchState) → Type 0
 IsBack old new = new ≡ record old { told = new.told; faults = new.faults }
 
 -- All that was lent came back to a bench that was armed with this number once more; and it is as it was, but for what it tells, its
--- counts, and what power left.
+-- counts, and what power left, with which picks.
 abbrev pub IsPoweredBack : ℕ → (old new : BenchState) → Type 0
 IsPoweredBack k old new =
     new ≡ record old {
@@ -43,7 +45,12 @@ IsPoweredBack k old new =
       armed = k;
       settled = new.settled;
       left = new.left;
+      picked = new.picked;
     }
+
+-- Power went off once more, with this pick; or, for want of memory, it did not.
+abbrev pub IsPickedOnce : Pick → (old new : BenchState) → Type 0
+IsPickedOnce pick old new = (new.picked ≡ pick ∷ old.picked) ⊎ (new.picked ≡ old.picked)
 
 -- All that was lent came back to a bench that wasn't armed: it is as it was, but for what it tells and its count of faults.
 abbrev pub IsBackUnarmed : (old new : BenchState) → Type 0
@@ -68,7 +75,7 @@ abbrev pub IsAway : List (List ℕ) → Holding → Type 0
 IsAway names holding = All (λ name. All (λ named. is_named name named ≡ false) holding.stores) names
 
 -- A bench tells that it holds a region with these names, at rest with an empty log, and behind its other stores those of these names,
--- which hold these files, durable.
+-- which hold these files, durable; the others are quiet.
 pub record RestsWith (names : List (List ℕ)) (files : Files) (told : Option Holding) : Type 0 where
   pub now : Holding
   pub told_is : told ≡ Some now
@@ -77,6 +84,7 @@ pub record RestsWith (names : List (List ℕ)) (files : Files) (told : Option Ho
   pub next : ℕ
   pub rest : IsAtRest version_1 page entries names next now.parts
   pub others : List NamedStore
+  pub still : All (λ named. IsQuietStore named.store) others
   pub disks : List Store
   pub stores_are : now.stores ≡ others ++ named_stores names disks
   pub files_are : files_of disks ≡ files
@@ -96,22 +104,25 @@ fate_in parts files number =
     let log = recovered (row_words parts) files in
     fate_of log.first log.groups number
 
--- a number that a write drew, and its fate: it is no lower than the first number that the log recovers to that stands in these parts, which says what became of the write
-abbrev pub HasFate : List Part → Files → ℕ → OpenCall → Type 0
-HasFate parts files number o = ((recovered (row_words parts) files).first ≤ number) × (o.fate ≡ fate_in parts files number)
+-- A write that was left open is one of these calls that drew, and has its fate by its number: that is no lower than the first one that the log recovers to that stands in these parts, which says what became of
+-- the write.
+abbrev pub HasFate : List Part → Files → List DrawnCall → OpenCall → Type 0
+HasFate parts files drawn o =
+    (number : ℕ) × IsOneOf drawn (record { call = o.call; number = number }) × ((recovered (row_words parts) files).first ≤ number) × (o.fate ≡ fate_in parts files number)
 
--- Each write that was left open drew a number, by which it is kept or lost as the log says that stands in these parts.
+-- The placed and the open calls drew their numbers in a row, from the basis' next one on; and each open one is kept or lost by its number, as the log says that stands in these parts.
 pub record HaveFates (basis : Basis) (parts : List Part) (report : Report) : Type 0 where
-  pub numbers : List ℕ
-  pub each : AllZip (HasFate parts basis.files) numbers report.open_calls
+  pub drew : DrewInARow (entries_taken basis.sizes) basis.next (drawing_calls report)
+  pub each : All (HasFate parts basis.files drew.drawn) report.open_calls
 
 -- The text is that of a faithful report of a run of the trace, whose fates are those of the parts as power left them, and the bench rests
--- with the files that it shows.
-pub record HasStoppedOn (failed : Type 0) (worker : Bool) (basis : Basis) (trace : Traced) (bench : BenchState) (text : List ℕ) : Type 0 where
+-- with the files that it shows. Power went off once more than with those picks, with this one.
+pub record HasStoppedOn (failed : Type 0) (worker : Bool) (pick : Pick) (before : List Pick) (basis : Basis) (trace : Traced) (bench : BenchState) (text : List ℕ) : Type 0 where
   pub report : Report
   pub faithful : IsFaithful failed worker basis trace report
   pub plain : HavePlainNames report.files
   pub text_is : text ≡ report_text report
+  pub picked : bench.picked ≡ pick ∷ before
   pub parts : List Part
   pub power_left : bench.left ≡ Some parts
   pub fated : HaveFates basis parts report

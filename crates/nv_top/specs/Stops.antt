@@ -113,6 +113,16 @@ IsCauseOf Device input = Unit {0}
 IsCauseOf (Region refusal) input = Unit {0}
 IsCauseOf NoMemory input = Unit {0}
 
+-- the stop comes before anything is opened
+abbrev pub ComesBeforeOpening : Stop → Type 0
+ComesBeforeOpening Usage = Unit {0}
+ComesBeforeOpening (BadLine bad) = Unit {0}
+ComesBeforeOpening InputLong = Unit {0}
+ComesBeforeOpening Read = Unit {0}
+ComesBeforeOpening Device = ⊥
+ComesBeforeOpening (Region refusal) = ⊥
+ComesBeforeOpening NoMemory = ⊥
+
 -- the line of the stop takes memory
 abbrev pub TakesMemory : Stop → Type 0
 TakesMemory (BadLine bad) = Unit {0}

@@ -12,7 +12,7 @@ use Rattle.nv_pmem.specs.Limits.{IsEntryCount, IsPageSize}
 use Rattle.nv_pmem.specs.declared.picker.Pick.{Pick}
 use Rattle.nv_pmem.specs.declared.picker.Pick.TheVariants.{Old, New, Torn, Seed}
 use Rattle.nv_top.specs.declared.words.Command.{Command}
-use Rattle.nv_top.specs.declared.words.Command.TheVariants.{Run, Recover, Look}
+use Rattle.nv_top.specs.declared.words.Command.TheVariants.{Run, Recover, Look, Gen}
 use Rattle.nv_top.specs.declared.words.RunOptions.{RunOptions}
 
 -- ---- the options of a run, as `clap` reads them
@@ -124,11 +124,21 @@ abbrev pub look_in : List (List ℕ) → Option Command
 look_in [] = Some (Look false)
 look_in (word ∷ rest) = if bytes_eq word (codes "--files") && length rest == 0 then Some (Look true) else None
 
--- the command that words are: `run` or `look` with its options, or `recover` alone
+-- the load that words ask for: a seed, how many calls, and by how many threads
+abbrev pub load_in : List (List ℕ) → Option Command
+load_in (seed ∷ calls ∷ threads ∷ []) =
+    option_and_then (λ seed. option_and_then (λ calls. option_map (λ threads. Gen (record { seed = seed; calls = calls; threads = threads }))
+    (number_in 1 8 threads))
+    (number_in 0 100000 calls))
+    (number_in 0 largest_number seed)
+load_in words = None
+
+-- the command that words are: `run` or `look` with its options, `gen` with its load, or `recover` alone
 unfoldable pub command_of : List (List ℕ) → Option Command
 command_of [] = None
 command_of (first ∷ rest) =
     if bytes_eq first (codes "run") then run_in (first ∷ rest)
     else if bytes_eq first (codes "recover") && length rest == 0 then Some Recover
     else if bytes_eq first (codes "look") then look_in rest
+    else if bytes_eq first (codes "gen") then load_in rest
     else None

@@ -12,10 +12,11 @@ ghost use Rattle.nv_trace.specs.Shape.{IsWellFormed};
 ghost use Rattle.nv_trace.specs.Streams.{Appends};
 ghost use Rattle.nv_top.specs.Commands.{IsGivenBack, IsNotRun};
 ghost use Rattle.nv_top.specs.Endings.{IsErrorLine, AppendsFront, usage_line, read_line, device_line, memory_line, input_line, region_line, IsTrace};
-ghost use Rattle.nv_top.specs.Headline.{HasStopped, IsLeftBy, IsCommandRefused, IsShown, IsShownOf, command_over, expected_faults, possible};
+ghost use Rattle.nv_top.specs.Headline.{HasStopped, IsLeftBy, IsCommandRefused, IsUnhindered, IsShown, IsShownOf, command_over, expected_faults, possible};
 ghost use Rattle.nv_trace.specs.Traced.{lines_in};
-ghost use Rattle.nv_top.specs.Stopping.{IsPoweredBack, IsSettledStop};
-ghost use Rattle.nv_top.specs.Stops.{IsCauseOf};
+ghost use Rattle.nv_top.specs.Lives.{LeavesLife, LeavesRun};
+ghost use Rattle.nv_top.specs.Stopping.{IsPickedOnce, IsPoweredBack, IsSettledStop};
+ghost use Rattle.nv_top.specs.Stops.{ComesBeforeOpening, IsCauseOf};
 ghost use Rattle.nv_top.specs.Words.{AreInLimits};
 ghost use Rattle.nv_top.specs.declared.ending.Stop.TheVariants as stops;
 ghost use Rattle.nv_top.specs.declared.ending.TheConstants.{DONE, USAGE, BAD_INPUT, READ_FAULT, WRITE_FAULT, DEVICE_FAULT, NO_MEMORY, BAD_REGION};
@@ -24,10 +25,12 @@ ghost use Rattle.nv_top.specs.declared.words.Command.TheVariants as commands;
 ghost use Rattle.nv_top.specs.declared.words.WordsError.TheVariants as words_errors;
 
 use crate::ending::{DONE, Stop, say, say_stop};
+use crate::loading::run_load;
 use crate::looking::look;
 use crate::names::copy_names;
 use crate::recovery::recover;
 use crate::run::run;
+use crate::show::Show;
 use crate::stopping::run_to_stop;
 use crate::words::{Command, RunOptions, WordsError, parse_command};
 use nv_bench::Bench;
@@ -40,8 +43,8 @@ use std::sync::Wait;
 use std::thread::Threads;
 
 /// Follows a command over a bench: `run` reads a trace, makes its calls and writes the report, `recover` recovers the region and writes
-/// what it found, and `look` writes what the region holds and changes nothing. `words` are the words behind the program's name. The
-/// result is the program's status.
+/// what it found, `look` writes what the region holds and changes nothing, and `gen` makes calls of its own and writes what is counted of them. `words` are the words
+/// behind the program's name. The result is the program's status.
 pub fn nv_main<R: Threads + Wait + Sync, I: Source, O: Sink, B: Bench, G: Gate + Sync>(
     rt: &R,
     alloc: Global,
@@ -67,12 +70,14 @@ pub fn nv_main<R: Threads + Wait + Sync, I: Source, O: Sink, B: Bench, G: Gate +
     ensures command { command_over B.can_lose_power (map string_bytes words.now) ≡ None
         → ((result ≡ USAGE) ⊎ ((result ≡ NO_MEMORY) ⊎ (result ≡ WRITE_FAULT))) × (I.left src.new ≡ I.left src.old) × (B.state bench.new ≡ B.state bench.old) }
 
-    // The input of a run is a trace, or not; a recovery and a look have none.
+    // The input of a run is a trace, or not; the other commands have none.
     ensures bad_input { result ≡ BAD_INPUT → IfSome (I.left src.old) (λ input. ¬ (IsTrace input)) }
     ensures good_input { (options : _) → command_over B.can_lose_power (map string_bytes words.now) ≡ Some (commands.Run options)
         → result ≡ DONE → IfSome (I.left src.old) (λ input. IsTrace input × (I.left src.new ≡ Some [])) }
     ensures unread { command_over B.can_lose_power (map string_bytes words.now) ≡ Some commands.Recover → I.left src.new ≡ I.left src.old }
     ensures unread_look { (files : _) → command_over B.can_lose_power (map string_bytes words.now) ≡ Some (commands.Look files)
+        → I.left src.new ≡ I.left src.old }
+    ensures unread_load { (load : _) → command_over B.can_lose_power (map string_bytes words.now) ≡ Some (commands.Gen load)
         → I.left src.new ≡ I.left src.old }
 
     // A fault of the outside is answered exactly where its count rose; that of the sink comes before all others. A stop's own faults,
@@ -101,6 +106,18 @@ pub fn nv_main<R: Threads + Wait + Sync, I: Source, O: Sink, B: Bench, G: Gate +
         IsCommandRefused command (I.left src.old) (B.state bench.old) (B.state bench.new) holding why)) }
     ensures unarmed { result ≡ BAD_REGION → IfSome (I.left src.old) (λ input. IfSome (B.state bench.old).told (λ holding.
         (B.state bench.new).arms ≡ (B.state bench.old).arms)) }
+
+    // Where nothing stands in its way a command is followed to its end, unless memory is wanting. Then no device has failed, but for a stop's own faults.
+    ensures complete { (command : Command) → command_over B.can_lose_power (map string_bytes words.now) ≡ Some command → IfSome (B.state bench.old).told (λ holding. IsUnhindered command (I.left src.old) holding (Rose (I.fault_count src.old) (I.fault_count src.new))
+        (Rose (expected_faults (B.state bench.old) (B.state bench.new)) (B.state bench.new).faults)
+        → ¬ (Rose (O.fault_count out.old) (O.fault_count out.new)) → (result ≡ DONE) ⊎ (result ≡ NO_MEMORY)) }
+    ensures counts { result ≡ DONE → (B.state bench.new).faults ≡ expected_faults (B.state bench.old) (B.state bench.new) }
+
+    // Whatever the status is, a bench that stood for files stands for them still, or for those after a legal history of calls of the trace and some other calls, each whole, in whatever state power leaves it; and with
+    // status 1, 2 or 3 it is as it was.
+    ensures life { (command : Command) → command_over B.can_lose_power (map string_bytes words.now) ≡ Some command
+        → IfSome (B.state bench.old).told (λ was. LeavesLife command (I.left src.old) was (B.state bench.new).told) }
+    ensures unopened { (result ≡ USAGE) ⊎ ((result ≡ BAD_INPUT) ⊎ (result ≡ READ_FAULT)) → B.state bench.new ≡ B.state bench.old }
 
     // With status 4 a front of such a line, or of the report, is written.
     ensures write_said { result ≡ WRITE_FAULT → ((text : List ℕ) × IsErrorLine text × AppendsFront (O.written out.old) (O.written out.new) text)
@@ -151,21 +168,32 @@ fn report<R: Threads + Wait + Sync, I: Source, B: Bench, G: Gate + Sync>(
     ensures unread { command_over B.can_lose_power (map string_bytes words.now) ≡ Some commands.Recover → I.left src.new ≡ I.left src.old }
     ensures unread_look { (files : _) → command_over B.can_lose_power (map string_bytes words.now) ≡ Some (commands.Look files)
         → I.left src.new ≡ I.left src.old }
+    ensures unread_load { (load : _) → command_over B.can_lose_power (map string_bytes words.now) ≡ Some (commands.Gen load)
+        → I.left src.new ≡ I.left src.old }
     ensures region { (why : _) → result ≡ Err (stops.Region why)
         → (command : Command) → command_over B.can_lose_power (map string_bytes words.now) ≡ Some command
         → IfSome (B.state bench.old).told (λ holding.
         IsCommandRefused command (I.left src.old) (B.state bench.old) (B.state bench.new) holding why) }
     ensures unarmed { (why : _) → result ≡ Err (stops.Region why) → IfSome (I.left src.old) (λ input.
         IfSome (B.state bench.old).told (λ holding. (B.state bench.new).arms ≡ (B.state bench.old).arms)) }
+    ensures complete { (command : Command) → command_over B.can_lose_power (map string_bytes words.now) ≡ Some command → IfSome (B.state bench.old).told (λ holding. IsUnhindered command (I.left src.old) holding (Rose (I.fault_count src.old) (I.fault_count src.new))
+        (Rose (expected_faults (B.state bench.old) (B.state bench.new)) (B.state bench.new).faults)
+        → IfErr result (λ stop. stop ≡ stops.NoMemory)) }
+    ensures counts { OnOk result ((B.state bench.new).faults ≡ expected_faults (B.state bench.old) (B.state bench.new)) }
+    ensures life { (command : Command) → command_over B.can_lose_power (map string_bytes words.now) ≡ Some command
+        → IfSome (B.state bench.old).told (λ was. LeavesLife command (I.left src.old) was (B.state bench.new).told) }
+    ensures unopened { IfErr result (λ stop. ComesBeforeOpening stop → B.state bench.new ≡ B.state bench.old) }
     ensures report { IfOk result (λ text. (command : Command) → command_over B.can_lose_power (map string_bytes words.now) ≡ Some command
         → IfSome (B.state bench.old).told (λ holding.
         IsShown command (I.left src.old) (B.state bench.old) (B.state bench.new) holding text.items)) }
 {
+    images_follow_calls();
     let command = command_over::<B>(alloc, words)?;
     match command {
         Command::Run(options) => run_input(rt, alloc, gate, src, bench, options),
         Command::Recover => recover(alloc, bench),
         Command::Look { files } => look(alloc, bench, files),
+        Command::Gen(load) => run_load(rt, alloc, gate, bench, load),
     }
 }
 
@@ -218,9 +246,16 @@ fn run_input<R: Threads + Wait + Sync, I: Source, B: Bench, G: Gate + Sync>(
         IsCommandRefused (commands.Run options) (I.left src.old) (B.state bench.old) (B.state bench.new) holding why) }
     ensures unarmed { (why : _) → result ≡ Err (stops.Region why) → IfSome (I.left src.old) (λ input.
         IfSome (B.state bench.old).told (λ holding. (B.state bench.new).arms ≡ (B.state bench.old).arms)) }
+    ensures complete { IfSome (B.state bench.old).told (λ holding. IsUnhindered (commands.Run options) (I.left src.old) holding (Rose (I.fault_count src.old) (I.fault_count src.new))
+        (Rose (expected_faults (B.state bench.old) (B.state bench.new)) (B.state bench.new).faults)
+        → IfErr result (λ stop. stop ≡ stops.NoMemory)) }
+    ensures counts { OnOk result ((B.state bench.new).faults ≡ expected_faults (B.state bench.old) (B.state bench.new)) }
+    ensures life { IfSome (B.state bench.old).told (λ was. LeavesLife (commands.Run options) (I.left src.old) was (B.state bench.new).told) }
+    ensures unopened { IfErr result (λ stop. ComesBeforeOpening stop → B.state bench.new ≡ B.state bench.old) }
     ensures report { IfOk result (λ text. IfSome (B.state bench.old).told (λ holding.
         IsShown (commands.Run options) (I.left src.old) (B.state bench.old) (B.state bench.new) holding text.items)) }
 {
+    images_follow_calls();
     let trace = read_trace(alloc, Form::Run, src)?;
     run_trace(rt, alloc, gate, bench, options, &trace)
 }
@@ -245,6 +280,7 @@ fn run_trace<R: Threads + Wait + Sync, T: Bench, G: Gate + Sync>(
     requires lines { IsStrictlyIncreasing (lines_in trace.now) }
     ensures back { IsLeftBy (commands.Run options) (T.state bench.old) (T.state bench.new) }
     ensures cause { IsSettledStop (expected_faults (T.state bench.old) (T.state bench.new)) (T.state bench.new).faults result }
+    ensures life { IfSome (T.state bench.old).told (λ was. LeavesRun options was trace.now (T.state bench.new).told) }
     ensures ran { IfOk result (λ text. IfSome (T.state bench.old).told (λ holding.
         IsShownOf options.stop options (T.state bench.old) (T.state bench.new) holding trace.now text.items)) }
     ensures refused { (why : _) → result ≡ Err (stops.Region why)
@@ -255,7 +291,7 @@ fn run_trace<R: Threads + Wait + Sync, T: Bench, G: Gate + Sync>(
         → IfSome (T.state bench.old).told (λ holding. (T.state bench.new).arms ≡ (T.state bench.old).arms) }
 {
     match options.stop {
-        None => run(rt, alloc, gate, bench, options, trace),
+        None => run(rt, alloc, gate, bench, options, Show::Report, trace),
         Some(k) => stop_run(rt, alloc, gate, bench, options, trace, k),
     }
 }
@@ -281,9 +317,11 @@ fn stop_run<R: Threads + Wait + Sync, T: Bench, G: Gate + Sync>(
     requires well_formed { IsWellFormed trace.now }
     requires lines { IsStrictlyIncreasing (lines_in trace.now) }
     ensures back { IsPoweredBack k (T.state bench.old) (T.state bench.new) ⊎ IsGivenBack (T.state bench.old) (T.state bench.new) }
+    ensures picked { IsPickedOnce options.image (T.state bench.old) (T.state bench.new) }
     ensures cause { IsSettledStop (expected_faults (T.state bench.old) (T.state bench.new)) (T.state bench.new).faults result }
+    ensures life { IfSome (T.state bench.old).told (λ was. LeavesRun options was trace.now (T.state bench.new).told) }
     ensures ran { IfOk result (λ text. IfSome (T.state bench.old).told (λ holding.
-        HasStopped (Rose (T.state bench.old).faults (T.state bench.new).faults) options holding (T.state bench.new) trace.now text.items)) }
+        HasStopped (Rose (T.state bench.old).faults (T.state bench.new).faults) options (T.state bench.old).picked holding (T.state bench.new) trace.now text.items)) }
     ensures refused { (why : _) → result ≡ Err (stops.Region why) → (T.state bench.new).arms ≡ (T.state bench.old).arms
         → IfSome (T.state bench.old).told (λ holding. IsNotRun options holding trace.now.names why) }
     ensures unwritten { (why : _) → result ≡ Err (stops.Region why) → (T.state bench.new).arms ≡ (T.state bench.old).arms

@@ -1,4 +1,5 @@
-//! A law of reports.
+//! Laws of reports, and of commands one behind the other.
+ghost use Rattle.nv_top.specs.NextCommands.{NextBeginsBehind, NextIsReady};
 ghost use Rattle.nv_top.specs.Readings.{OneNumber, OneReading, OneRecoveryReading};
 
 /// The text of a report has one reading: reports of one text list the same lines, field by field, those of runs and those of
@@ -7,4 +8,13 @@ pub fn report_has_one_reading()
     ensures lines { OneReading }
     ensures recoveries { OneRecoveryReading }
     ensures numbers { OneNumber }
+{}
+
+/// A second command may follow on the same bench, whatever the first one was: where that ended with status 0, and the bench tells,
+/// all that [`nv_main`](crate::nv_main) asks of a bench follows from its clauses `back`, `counts` and `report`, but that it was armed
+/// less than 2^63 - 1 times before. A run behind a run begins with the region that the first one left, at the number behind the last
+/// that its calls drew.
+pub fn a_next_command_may_follow()
+    ensures ready { NextIsReady }
+    ensures begins { NextBeginsBehind }
 {}

@@ -6,6 +6,7 @@ mod ending;
 mod fates;
 mod files;
 mod laws;
+mod loading;
 mod looking;
 mod mounting;
 mod names;
@@ -14,7 +15,9 @@ mod program;
 mod recovery;
 mod region_text;
 mod run;
+mod show;
 mod stopping;
+mod summary;
 mod text;
 mod words;
 
@@ -22,6 +25,6 @@ pub use command::nv_main;
 pub use ending::{
     BAD_INPUT, BAD_REGION, DEVICE_FAULT, DONE, NO_MEMORY, READ_FAULT, USAGE, WRITE_FAULT, say,
 };
-pub use laws::report_has_one_reading;
+pub use laws::{a_next_command_may_follow, report_has_one_reading};
 pub use nv_runner::{Gate, OpenGate, Point};
 pub use program::program_words;

@@ -59,6 +59,8 @@ pub(crate) fn mount_over<L: Lines + Drop, B: Backing + Drop>(
     ensures spare { IfOk result (λ made. (parts : List Part) → AreNow (map L.history region.parts.items) parts → All IsQuietSpare made.1.spare) }
     ensures many { IfErr result (λ failed. length failed.parts.items ≡ length region.parts.items) }
     ensures count { IfErr result (λ failed. length failed.stores.items ≡ length stores.items) }
+    ensures same_parts { IfErr result (λ failed. map L.history failed.parts.items ≡ map L.history region.parts.items) }
+    ensures same_stores { IfErr result (λ failed. map B.history failed.stores.items ≡ map B.history stores.items) }
     ensures never { IfErr result (λ failed. (why : _) → ¬ (failed.stop ≡ stops.Region why)) }
     ensures cause { IfErr result (λ failed. StopHasCause (sum_by L.fault_count region.parts.items + sum_by B.fault_count stores.items)
         (sum_by L.fault_count failed.parts.items + sum_by B.fault_count failed.stores.items) failed.stop) }

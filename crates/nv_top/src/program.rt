@@ -1,4 +1,4 @@
-//! The words that a program is given.
+//! Trusted edge: the words that a program is given.
 use nv_plain::NoMemory;
 use std::env;
 use std::io::ErrorKind;

@@ -6,6 +6,7 @@ ghost use Rattle.nv_bench.specs.Holding.{IsQuietHolding};
 ghost use Rattle.nv_recover.specs.Standing.{files_of};
 ghost use Rattle.nv_open.specs.Held.{told_after};
 ghost use Rattle.nv_open.specs.Refusals.{IsRefusedFor};
+ghost use Rattle.nv_open.specs.Unopened.{HasHeader, StandsAsBefore, TellsOf};
 ghost use Rattle.nv_top.specs.Commands.{HasRecovered, IsGivenBack};
 ghost use Rattle.nv_runner.specs.Faithful.{named};
 ghost use Rattle.nv_top.specs.Reports.{recovery_text};
@@ -18,7 +19,7 @@ use crate::text::recovery_text_of;
 use nv_bench::Bench;
 use nv_header::Names;
 use nv_open::{Opened, recover_region};
-use nv_recover::Recovered;
+use nv_recover::{Recovered, images_stand_for_files};
 use nv_store::Backing;
 use std::alloc::Global;
 
@@ -32,8 +33,10 @@ pub(crate) fn recover<T: Bench>(alloc: Global, bench: &mut T) -> Result<Vec<u8>,
         HasRecovered holding (T.state bench.new).told text.items)) }
     ensures refused { (why : _) → result ≡ Err (stops.Region why) → IfSome (T.state bench.old).told (λ holding. IsRefusedFor holding.parts why) }
     ensures unwritten { (why : _) → result ≡ Err (stops.Region why) → (T.state bench.new).told ≡ told_after why (T.state bench.old).told }
+    ensures standing { IfSome (T.state bench.old).told (λ was. HasHeader was.parts → TellsOf (StandsAsBefore was) (T.state bench.new).told) }
     ensures cause { CountHasCause (T.state bench.old).faults (T.state bench.new).faults result }
 {
+    images_stand_for_files();
     let (opened, found) = recover_region(alloc, bench)?;
     let Opened { region, stores } = opened;
     let mut stores = stores;

@@ -16,13 +16,15 @@ ghost use Rattle.nv_open.specs.Held.{told_after};
 ghost use Rattle.nv_open.specs.declared.error.Refusal.TheVariants as refusals;
 ghost use Rattle.nv_runner.specs.Faithful.{Basis};
 ghost use Rattle.nv_runner.specs.Sorted.{placed_call};
+ghost use Rattle.nv_runner.specs.declared.running.TheConstants.{MOST_CALLS};
 ghost use Rattle.nv_trace.specs.Said.{said_place};
 ghost use Rattle.nv_trace.specs.Shape.{IsWellFormed};
 ghost use Rattle.nv_trace.specs.Traced.{lines_in};
 ghost use Rattle.nv_top.specs.Commands.{HasRunOn, IsGivenBack, IsNotRun};
+ghost use Rattle.nv_top.specs.Lives.{AreLeftSo, LeavesRun};
 ghost use Rattle.nv_top.specs.Outcomes.{shown_report};
-ghost use Rattle.nv_top.specs.Reports.{report_text};
 ghost use Rattle.nv_top.specs.Runs.{BeginsMount, HasRunOver, IsQuietSpare, basis_over};
+ghost use Rattle.nv_top.specs.Shows.{text_as};
 ghost use Rattle.nv_top.specs.Stops.{CountHasCause, RunHasCause};
 ghost use Rattle.nv_top.specs.Words.{AreInLimits};
 ghost use Rattle.nv_top.specs.declared.ending.Stop.TheVariants as stops;
@@ -31,6 +33,8 @@ use crate::ending::Stop;
 use crate::files::read_files;
 use crate::mounting::{Unmounted, mount_over};
 use crate::names::copy_names;
+use crate::show::Show;
+use crate::summary::show_summary;
 use crate::text::text_of;
 use crate::words::RunOptions;
 use nv_bench::Bench;
@@ -41,9 +45,11 @@ use nv_core::{
 use nv_header::{Names, Region};
 use nv_mount::Mount;
 use nv_open::{Opened, open};
-use nv_pmem::{Geometry, Lines};
+use nv_plain::{Bytes, NoMemory};
+use nv_pmem::{Geometry, Lines, images_follow_calls};
 use nv_runner::{
-    Gate, Plan, SortedCalls, run_calls, show_refusals, unstopped_runs_leave_nothing_open,
+    Gate, MOST_CALLS, Plan, SortedCalls, run_calls, runs_leave_lives, show_refusals,
+    unstopped_runs_leave_nothing_open,
 };
 use nv_store::Backing;
 use nv_table::Pass;
@@ -52,17 +58,15 @@ use std::alloc::Global;
 use std::sync::Wait;
 use std::thread::Threads;
 
-/// The most calls of a trace that is run.
-const MOST_CALLS: usize = 67_108_864;
-
 /// Runs a trace over a bench: opens its region, of these sizes where it is blank, with the files of the trace, has its threads make their calls over a mount of
-/// them, brings the stores to the files, and gives all back. The text of the report, unless a device failed meanwhile.
+/// them, brings the stores to the files, and gives all back. The text that shows it, unless a device failed meanwhile.
 pub(crate) fn run<R: Threads + Wait + Sync, T: Bench, G: Gate + Sync>(
     rt: &R,
     alloc: Global,
     gate: &G,
     bench: &mut T,
     options: RunOptions,
+    show: Show,
     trace: &Trace,
 ) -> Result<Vec<u8>, Stop>
     requires closed { (T.state bench.old).is_open ≡ false }
@@ -73,13 +77,15 @@ pub(crate) fn run<R: Threads + Wait + Sync, T: Bench, G: Gate + Sync>(
     requires lines { IsStrictlyIncreasing (lines_in trace.now) }
     ensures back { IsGivenBack (T.state bench.old) (T.state bench.new) }
     ensures ran { IfOk result (λ text. IfSome (T.state bench.old).told (λ holding.
-        HasRunOn options holding (T.state bench.new).told trace.now text.items)) }
+        HasRunOn show options holding (T.state bench.new).told trace.now text.items)) }
     ensures refused { (why : _) → result ≡ Err (stops.Region why)
         → IfSome (T.state bench.old).told (λ holding. IsNotRun options holding trace.now.names why) }
     ensures unwritten { (why : _) → result ≡ Err (stops.Region why) → ¬ (why ≡ refusals.TooManyFiles)
         → IfSome (T.state bench.old).told (λ holding. (T.state bench.new).told ≡ told_after why (T.state bench.old).told) }
+    ensures life { IfSome (T.state bench.old).told (λ was. LeavesRun options was trace.now (T.state bench.new).told) }
     ensures cause { CountHasCause (T.state bench.old).faults (T.state bench.new).faults result }
 {
+    images_follow_calls();
     if trace.calls().len() > MOST_CALLS {
         return Err(Stop::NoMemory);
     }
@@ -94,7 +100,7 @@ pub(crate) fn run<R: Threads + Wait + Sync, T: Bench, G: Gate + Sync>(
         parts,
         stores,
         report,
-    } = run_over(rt, alloc, gate, region, stores, options, trace);
+    } = run_over(rt, alloc, gate, region, stores, options, show, trace);
     bench.give_back(parts, stores);
     if bench.faults() > before {
         return Err(Stop::Device);
@@ -123,6 +129,7 @@ fn run_over<
     region: Region<L>,
     stores: Vec<B>,
     options: RunOptions,
+    show: Show,
     trace: &Trace,
 ) -> Ended<L, B>
     requires limits { AreInLimits options }
@@ -130,13 +137,15 @@ fn run_over<
     requires quiet { All (λ store. Tells (B.history store) IsQuietStore) stores.items }
     requires well_formed { IsWellFormed trace.now }
     requires lines { IsStrictlyIncreasing (lines_in trace.now) }
-    requires few { length trace.now.calls ≤ 67108864 }
+    requires few { length trace.now.calls ≤ MOST_CALLS }
     requires known { All (λ name. said_place name region.names < length region.names) trace.now.names }
     ensures count { length result.stores.items ≡ length stores.items }
     ensures many { length result.parts.items ≡ length region.parts.items }
     ensures ran { IfOk result.report (λ text. (parts : List Part) (now : List Store)
         → AreNow (map L.history region.parts.items) parts → AreNow (map B.history stores.items) now
-        → HasRunOver L.history B.history options.worker (basis_over region options.pages (files_of now)) trace.now text.items result.parts.items result.stores.items) }
+        → HasRunOver L.history B.history show options.worker (basis_over region options.pages (files_of now)) trace.now text.items result.parts.items result.stores.items) }
+    ensures life { (parts : List Part) (now : List Store) → AreNow (map L.history region.parts.items) parts → AreNow (map B.history stores.items) now
+        → AreLeftSo L.history B.history (basis_over region options.pages (files_of now)) trace.now result.parts.items result.stores.items }
     ensures cause { RunHasCause (sum_by L.fault_count region.parts.items + sum_by B.fault_count stores.items)
         (sum_by L.fault_count result.parts.items + sum_by B.fault_count result.stores.items) result.report }
 {
@@ -154,7 +163,7 @@ fn run_over<
         image: options.image,
     };
     match mount_over(alloc, region, stores, options, trace) {
-        Ok((mount, pass)) => run_mount(rt, alloc, gate, mount, pass, &names, plan, trace),
+        Ok((mount, pass)) => run_mount(rt, alloc, gate, mount, pass, &names, plan, show, trace),
         Err(
             Unmounted {
                 parts,
@@ -183,6 +192,7 @@ fn run_mount<
     pass: Pass<L, B>,
     names: &Names,
     plan: Plan,
+    show: Show,
     trace: &Trace,
 ) -> Ended<L, B>
     requires board { IsOf mount.board pass }
@@ -193,11 +203,12 @@ fn run_mount<
     requires files { length names.now ≡ mount.board.opened.sizes.files }
     requires well_formed { IsWellFormed trace.now }
     requires lines { IsStrictlyIncreasing (lines_in trace.now) }
-    requires few { length trace.now.calls ≤ 67108864 }
+    requires few { length trace.now.calls ≤ MOST_CALLS }
     ensures count { length result.stores.items ≡ mount.board.opened.sizes.files }
     ensures many { length result.parts.items ≡ 1 + mount.board.opened.sizes.entries + length pass.spare }
     ensures ran { IfOk result.report (λ text. (basis : Basis) → BeginsMount basis trace.now mount pass → basis.names ≡ names.now → All IsQuietSpare pass.spare
-        → HasRunOver L.history B.history plan.worker basis trace.now text.items result.parts.items result.stores.items) }
+        → HasRunOver L.history B.history show plan.worker basis trace.now text.items result.parts.items result.stores.items) }
+    ensures life { (basis : Basis) → BeginsMount basis trace.now mount pass → AreLeftSo L.history B.history basis trace.now result.parts.items result.stores.items }
     ensures cause { RunHasCause (failed_before pass) (sum_by L.fault_count result.parts.items + sum_by B.fault_count result.stores.items) result.report }
 {
     runs_are_sound();
@@ -207,11 +218,12 @@ fn run_mount<
     unstopped_runs_leave_nothing_open();
     pass.sees_a_run();
     crashes_leave_whole_writes();
+    runs_leave_lives();
     let ended = run_calls(rt, alloc, gate, mount, pass, trace, plan);
     let parts = ended.closed.parts;
     let mut stores = ended.closed.stores;
     let report = match ended.outcome {
-        Ok(sorted) => show(alloc, sorted, names, &mut stores),
+        Ok(sorted) => show_run(alloc, show, sorted, names, &mut stores),
         Err(error) => Err(error.into()),
     };
     Ended {
@@ -221,22 +233,42 @@ fn run_mount<
     }
 }
 
-// The report of a run whose files the stores hold, and of which no call was left open.
-fn show<B: Backing>(
+// What is shown of a run whose files the stores hold, and of which no call was left open.
+fn show_run<B: Backing>(
     alloc: Global,
+    show: Show,
     sorted: SortedCalls<'_>,
     names: &Names,
     stores: &mut Vec<B>,
 ) -> Result<Vec<u8>, Stop>
     requires { length stores.old.items ≡ length names.now }
     ensures text { IfOk result (λ text. (now : List Store) → AreNow (map B.history stores.old.items) now
-        → text.items ≡ report_text (shown_report sorted.entry [] names.now (files_of now))) }
+        → text.items ≡ text_as show (shown_report sorted.entry [] names.now (files_of now))) }
     ensures histories { map B.history stores.new.items ≡ map B.history stores.old.items }
     ensures never { (why : _) → ¬ (result ≡ Err (stops.Region why)) }
     ensures cause { CountHasCause (sum_by B.fault_count stores.old.items) (sum_by B.fault_count stores.new.items) result }
 {
     let files = read_files(alloc, stores)?;
-    let shown = show_refusals(alloc, sorted.refused)?;
-    let text = text_of(alloc, &sorted.placed, &shown, &[], names.as_slice(), &files)?;
+    let text = show_calls(alloc, show, sorted, names, &files)?;
     Ok(text)
+}
+
+// What is shown of the calls of a run, of which none was left open, and of its files.
+fn show_calls(
+    alloc: Global,
+    show: Show,
+    sorted: SortedCalls<'_>,
+    names: &Names,
+    files: &[Bytes],
+) -> Result<Vec<u8>, NoMemory>
+    requires { length files.now ≡ length names.now }
+    ensures { IfOk result (λ text. text.items ≡ text_as show (shown_report sorted.entry [] names.now (record { contents = files.now }))) }
+{
+    match show {
+        Show::Report => {
+            let shown = show_refusals(alloc, sorted.refused)?;
+            text_of(alloc, &sorted.placed, &shown, &[], names.as_slice(), files)
+        }
+        Show::Summary(load) => show_summary(alloc, load, &sorted.placed, names.as_slice(), files),
+    }
 }

@@ -1,5 +1,5 @@
 //! A run that power ends, and its recovery.
-ghost use Rattle.std.specs.Prelude.{◌≡◌, ◌⊎◌, ◌+◌, ◌-◌, ◌^◌, ◌<◌, ◌≤◌, [], List, true, false, length, map, sum_by, All, None, Err, IfOk, IfSome, OnOk};
+ghost use Rattle.std.specs.Prelude.{◌≡◌, ◌⊎◌, ◌+◌, ◌-◌, ◌^◌, ◌<◌, ◌≤◌, [], List, true, false, length, map, sum_by, All, None, Some, Err, IfOk, IfSome, OnOk};
 ghost use Rattle.std.specs.List.Sorted.{IsStrictlyIncreasing};
 ghost use Rattle.nv_plain.specs.Faults.{Rose, saturated};
 ghost use Rattle.nv_plain.specs.Layouts.{version_1};
@@ -10,6 +10,7 @@ ghost use Rattle.nv_store.specs.Store.{IsQuietStore, Store};
 ghost use Rattle.nv_bench.specs.Holding.{IsQuietHolding};
 ghost use Rattle.nv_header.specs.FileNames.{AreFileNames};
 ghost use Rattle.nv_open.specs.Refusals.{IsRefusedFor};
+ghost use Rattle.nv_open.specs.Unopened.{HasHeader, StandsAsBefore, TellsOf};
 ghost use Rattle.nv_recover.specs.Standing.{files_of};
 ghost use Rattle.nv_table.specs.state.States.{IsOf};
 ghost use Rattle.nv_table.specs.state.Views.{first_view};
@@ -18,10 +19,12 @@ ghost use Rattle.nv_trace.specs.Said.{said_place};
 ghost use Rattle.nv_trace.specs.Shape.{IsWellFormed};
 ghost use Rattle.nv_trace.specs.Traced.{lines_in};
 ghost use Rattle.nv_runner.specs.Faithful.{Basis};
+ghost use Rattle.nv_runner.specs.declared.running.TheConstants.{MOST_CALLS};
 ghost use Rattle.nv_top.specs.Fates.{fated_report};
+ghost use Rattle.nv_top.specs.Lives.{HasLived};
 ghost use Rattle.nv_top.specs.Reports.{report_text};
 ghost use Rattle.nv_top.specs.Runs.{BeginsMount, basis_over};
-ghost use Rattle.nv_top.specs.Stopping.{HasStoppedOn, IsAway, IsBack, IsBackUnarmed, IsPoweredBack, IsSettledStop, ShowsRecovered};
+ghost use Rattle.nv_top.specs.Stopping.{HasStoppedOn, IsAway, IsBack, IsBackUnarmed, IsPickedOnce, IsPoweredBack, IsSettledStop, ShowsRecovered};
 ghost use Rattle.nv_top.specs.Stops.{CountHasCause};
 ghost use Rattle.nv_top.specs.Words.{AreInLimits};
 ghost use Rattle.nv_top.specs.declared.ending.Stop.TheVariants as stops;
@@ -36,11 +39,11 @@ use nv_bench::{Bench, power_leaves_an_image};
 use nv_header::{Names, a_header_has_one_answer};
 use nv_mount::Mount;
 use nv_open::{Opened, recover_region};
-use nv_pmem::rows_have_states;
+use nv_pmem::{images_follow_calls, rows_have_states};
 use nv_recover::{Recovered, images_stand_for_files};
 use nv_runner::{
-    Gate, Plan, SortedCalls, history_of_threads_is_legal, open_calls_are_the_faults, run_calls,
-    runs_are_faithful, runs_are_told, show_refusals,
+    Gate, MOST_CALLS, Plan, SortedCalls, history_of_threads_is_legal, open_calls_are_the_faults,
+    run_calls, runs_are_faithful, runs_are_told, runs_leave_lives, show_refusals,
 };
 use nv_store::Backing;
 use nv_table::Pass;
@@ -48,9 +51,6 @@ use nv_trace::Trace;
 use std::alloc::Global;
 use std::sync::Wait;
 use std::thread::Threads;
-
-/// The most calls of a trace that is run.
-const MOST_CALLS: usize = 67_108_864;
 
 /// Runs a trace over a region whose log is empty, with a store for each of its names, that are lent by a bench: it is armed once the
 /// mount is open, makes the calls, gives all back, powers off, recovers, and shows what became of each call, and the files.
@@ -77,6 +77,7 @@ pub(crate) fn run_to_stop<R: Threads + Wait + Sync, T: Bench, G: Gate + Sync>(
     requires lines { IsStrictlyIncreasing (lines_in trace.now) }
     requires known { All (λ name. said_place name opened.region.names < length opened.region.names) trace.now.names }
     ensures back { IsPoweredBack k (T.state bench.old) (T.state bench.new) ⊎ IsBackUnarmed (T.state bench.old) (T.state bench.new) }
+    ensures picked { IsPickedOnce options.image (T.state bench.old) (T.state bench.new) }
     ensures armed { OnOk result (IsPoweredBack k (T.state bench.old) (T.state bench.new)) }
     ensures settled { (T.state bench.new).arms ≡ (T.state bench.old).arms + 1
         → IsSettledStop (T.state bench.new).settled (T.state bench.new).faults result }
@@ -88,12 +89,14 @@ pub(crate) fn run_to_stop<R: Threads + Wait + Sync, T: Bench, G: Gate + Sync>(
         → (T.state bench.old).told ≡ None }
     ensures no_less { (T.state bench.new).arms ≡ (T.state bench.old).arms + 1 → saturated ((T.state bench.old).faults
         + (sum_by T.Part.fault_count opened.region.parts.items + sum_by T.Store.fault_count opened.stores.items)) ≤ (T.state bench.new).settled }
+    ensures life { (parts : List Part) (now : List Store) → AreNow (map T.Part.history opened.region.parts.items) parts → AreNow (map T.Store.history opened.stores.items) now
+        → IfSome (T.state bench.old).told (λ left. IsAway opened.region.names left → HasLived (basis_over opened.region options.pages (files_of now)) trace.now (T.state bench.new).told) }
     ensures ran { IfOk result (λ text. (parts : List Part) (now : List Store)
         → AreNow (map T.Part.history opened.region.parts.items) parts → AreNow (map T.Store.history opened.stores.items) now
         → IfSome (T.state bench.old).told (λ left. IsAway opened.region.names left
         → HasStoppedOn (Rose (saturated ((T.state bench.old).faults
         + (sum_by T.Part.fault_count opened.region.parts.items + sum_by T.Store.fault_count opened.stores.items))) (T.state bench.new).faults)
-        options.worker (basis_over opened.region options.pages (files_of now)) trace.now (T.state bench.new) text.items)) }
+        options.worker options.image (T.state bench.old).picked (basis_over opened.region options.pages (files_of now)) trace.now (T.state bench.new) text.items)) }
 {
     let Opened { region, stores } = opened;
     if trace.calls().len() > MOST_CALLS {
@@ -135,6 +138,7 @@ fn stop_mount<R: Threads + Wait + Sync, T: Bench, G: Gate + Sync>(
     k: u64,
 ) -> Result<Vec<u8>, Stop>
     requires images { T.can_lose_power ≡ true }
+    requires stop { plan.stop ≡ Some k }
     requires k { 1 ≤ k }
     requires arms { (T.state bench.old).arms < 2 ^ 64 - 1 }
     requires open { (T.state bench.old).is_open ≡ true }
@@ -146,16 +150,19 @@ fn stop_mount<R: Threads + Wait + Sync, T: Bench, G: Gate + Sync>(
     requires lent { length (T.state bench.old).lent ≡ mount.board.opened.sizes.files }
     requires well_formed { IsWellFormed trace.now }
     requires lines { IsStrictlyIncreasing (lines_in trace.now) }
-    requires few { length trace.now.calls ≤ 67108864 }
+    requires few { length trace.now.calls ≤ MOST_CALLS }
     ensures back { IsPoweredBack k (T.state bench.old) (T.state bench.new) }
+    ensures picked { IsPickedOnce plan.image (T.state bench.old) (T.state bench.new) }
     ensures settled { IsSettledStop (T.state bench.new).settled (T.state bench.new).faults result }
     ensures never { (why : _) → result ≡ Err (stops.Region why) → (basis : Basis) → BeginsMount basis trace.now mount pass
         → basis.names ≡ (T.state bench.old).lent → (T.state bench.old).told ≡ None }
     ensures no_less { saturated ((T.state bench.old).faults + failed_before pass) ≤ (T.state bench.new).settled }
+    ensures life { (basis : Basis) → BeginsMount basis trace.now mount pass → basis.names ≡ (T.state bench.old).lent
+        → IfSome (T.state bench.old).told (λ left. IsAway basis.names left → HasLived basis trace.now (T.state bench.new).told) }
     ensures ran { IfOk result (λ text. (basis : Basis) → BeginsMount basis trace.now mount pass → basis.names ≡ (T.state bench.old).lent
         → IfSome (T.state bench.old).told (λ left. IsAway basis.names left
         → HasStoppedOn (Rose (saturated ((T.state bench.old).faults + failed_before pass)) (T.state bench.new).faults)
-        plan.worker basis trace.now (T.state bench.new) text.items)) }
+        plan.worker plan.image (T.state bench.old).picked basis trace.now (T.state bench.new) text.items)) }
 {
     images_stand_for_files();
     a_header_has_one_answer();
@@ -165,14 +172,14 @@ fn stop_mount<R: Threads + Wait + Sync, T: Bench, G: Gate + Sync>(
     open_calls_are_the_faults();
     runs_are_told();
     runs_are_faithful();
+    runs_leave_lives();
+    images_follow_calls();
     bench.arm(k);
     let ended = run_calls(rt, alloc, gate, mount, pass, trace, plan);
     bench.give_back(ended.closed.parts, ended.closed.stores);
     bench.power(plan.image)?;
-    // A run that is to be stopped is given up for want of memory alone: what its devices refuse is in its report.
-    let Ok(sorted) = ended.outcome else {
-        return Err(Stop::NoMemory);
-    };
+    // It is given up for want of memory alone: what its devices refuse is in its report.
+    let sorted = ended.outcome?;
     show_recovered(alloc, bench, sorted)
 }
 
@@ -188,8 +195,10 @@ fn show_recovered<T: Bench>(
     ensures back { IsBack (T.state bench.old) (T.state bench.new) }
     ensures shown { IfOk result (λ text. IfSome (T.state bench.old).told (λ holding. ShowsRecovered holding sorted.entry (T.state bench.new).told text.items)) }
     ensures refused { (why : _) → result ≡ Err (stops.Region why) → IfSome (T.state bench.old).told (λ holding. IsRefusedFor holding.parts why) }
+    ensures standing { IfSome (T.state bench.old).told (λ was. HasHeader was.parts → TellsOf (StandsAsBefore was) (T.state bench.new).told) }
     ensures cause { CountHasCause (T.state bench.old).faults (T.state bench.new).faults result }
 {
+    images_stand_for_files();
     let (opened, found) = recover_region(alloc, bench)?;
     let Opened { region, stores } = opened;
     let mut stores = stores;

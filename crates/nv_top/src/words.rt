@@ -1,12 +1,13 @@
 //! The words behind a program's name.
-ghost use Rattle.std.specs.Prelude.{◌≡◌, ◌≢◌, ◌&&◌, false, nat_le, [], Some, None, Err, IfOk, codes, map, string_bytes, option_map, if◌then◌else◌};
+ghost use Rattle.std.specs.Prelude.{◌≡◌, ◌≢◌, ◌&&◌, false, nat_le, [], ◌∷◌, Some, None, Err, IfOk, codes, map, string_bytes, option_map, if◌then◌else◌};
 ghost use Rattle.std.specs.List.{list_any};
 ghost use Rattle.clap.specs.Words.{app_of, fault_of, first_of, found_of, rows_of, matches_of as rows_in, rule_of, with_rule};
-ghost use Rattle.nv_top.specs.Words.{command_of, image_in, is_dashes, look_in, noworker_rule, number_in, number_or, option_rule, options_in, page_of_words, run_app, run_in, stop_in, worker_in};
+ghost use Rattle.nv_top.specs.Words.{command_of, image_in, is_dashes, look_in, load_in, noworker_rule, number_in, number_or, option_rule, options_in, page_of_words, run_app, run_in, stop_in, worker_in};
 ghost use Rattle.nv_top.specs.declared.words.WordsError.TheVariants.{Usage, NoMemory as NoRoom};
 
 use clap::error::ErrorKind;
 use clap::{Arg, ArgAction, ArgMatches, Command as Parser};
+use nv_load::Load;
 use nv_pmem::Pick;
 use std::alloc::{AllocError, Global};
 
@@ -22,6 +23,8 @@ pub(crate) enum Command {
     Recover,
     /// A look at the region, and at the files that a recovery would leave.
     Look { files: bool },
+    /// A run of generated calls.
+    Gen(Load),
 }
 
 /// How a trace is run.
@@ -60,7 +63,7 @@ impl From<AllocError> for WordsError {
     }
 }
 
-/// The command that words are: `recover` alone, or `run` or `look` with its options.
+/// The command that words are: `recover` alone, `run` or `look` with its options, or `gen` with its load.
 #[tactic(auto, unfolding(crate::specs::Words::command_of))]
 pub(crate) fn parse_command(alloc: Global, words: &[String]) -> Result<Command, WordsError>
     ensures command { IfOk result (λ command. command_of (map string_bytes words.now) ≡ Some command) }
@@ -70,6 +73,7 @@ pub(crate) fn parse_command(alloc: Global, words: &[String]) -> Result<Command, 
         [first, ..] if first.as_str() == "run" => parse_run(alloc, words),
         [only] if only.as_str() == "recover" => Ok(Command::Recover),
         [first, options @ ..] if first.as_str() == "look" => parse_look(options),
+        [first, load @ ..] if first.as_str() == "gen" => parse_load(load),
         _ => Err(WordsError::Usage),
     }
 }
@@ -100,6 +104,32 @@ fn parse_look(options: &[String]) -> Result<Command, WordsError>
         [only] if only.as_str() == "--files" => Ok(Command::Look { files: true }),
         _ => Err(WordsError::Usage),
     }
+}
+
+// The load that these words ask for: a seed, how many calls, and by how many threads.
+fn parse_load(words: &[String]) -> Result<Command, WordsError>
+    ensures command { IfOk result (λ command. load_in (map string_bytes words.now) ≡ Some command) }
+    ensures usage { result ≡ Err Usage → load_in (map string_bytes words.now) ≡ None }
+{
+    match words {
+        [seed, calls, threads] => load_of(seed.as_str(), calls.as_str(), threads.as_str()),
+        _ => Err(WordsError::Usage),
+    }
+}
+
+// The load that three words are, where each is a number that it may be.
+fn load_of(seed: &str, calls: &str, threads: &str) -> Result<Command, WordsError>
+    ensures command { IfOk result (λ command. load_in (seed.now ∷ calls.now ∷ threads.now ∷ []) ≡ Some command) }
+    ensures usage { result ≡ Err Usage → load_in (seed.now ∷ calls.now ∷ threads.now ∷ []) ≡ None }
+{
+    let seed = parse_number(seed, 0, LARGEST).ok_or(WordsError::Usage)?;
+    let calls = parse_number(calls, 0, 100_000).ok_or(WordsError::Usage)?;
+    let threads = parse_number(threads, 1, 8).ok_or(WordsError::Usage)?;
+    Ok(Command::Gen(Load {
+        seed,
+        calls,
+        threads,
+    }))
 }
 
 // One of the words is `--`.

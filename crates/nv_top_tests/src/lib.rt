@@ -8,6 +8,8 @@ mod commands;
 #[cfg(test)]
 mod folders;
 #[cfg(test)]
+mod loads;
+#[cfg(test)]
 mod regions;
 #[cfg(test)]
 mod stops;

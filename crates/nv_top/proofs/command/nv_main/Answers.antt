@@ -1,8 +1,12 @@
-use Rattle.std.proofs.Common.{◌≡◌, ℕ, List, inr}
+use Rattle.std.proofs.Common.{◌≡◌, ℕ, List, inl, inr}
 use Rattle.nv_trace.specs.Streams.{Appends}
 use Rattle.nv_top.specs.Endings.{AppendsFront}
 use Rattle.nv_top.specs.declared.ending.TheConstants.{DONE, WRITE_FAULT}
 use Rattle.nv_top.proofs.HeadlineLemmas.{written_so}
+use Rattle.nv_top.specs.Stops.{TakesMemory}
+use Rattle.nv_top.proofs.CommandLemmas.{if_told, told_at}
+use Rattle.nv_top.proofs.StopLemmas.{said_before}
+use Rattle.nv_top.proofs.CompleteLemmas.{said_memory}
 use Rattle.nv_top.proofs.command.nv_main.Goals as goal
 
 pub returns-in-Ok-clause-write_said : goal.returns-in-Ok-clause-write_said
@@ -20,3 +24,16 @@ returns-in-Ok-clause-report g c is command over =
   where
     differ : {status : ℕ} → status ≡ DONE → status ≡ WRITE_FAULT → ⊥
     differ {status} done fault = cc
+
+pub returns-in-Err-clause-unopened : goal.returns-in-Err-clause-unopened
+returns-in-Err-clause-unopened g c is = c.in-Err.ensures.unopened (said_before c.say_stop.result c.in-Err.stop (TakesMemory c.in-Err.stop) c.say_stop.ensures.status is)
+
+pub returns-in-Ok-clause-complete : goal.returns-in-Ok-clause-complete
+returns-in-Ok-clause-complete g c command over =
+    if_told (g.B.Bench.state c.args.bench.now).told (λ holding. _) (λ holding told free sink. inl (c.say.ensures.said (λ fault. sink (c.say.ensures.fault fault))).0)
+
+pub returns-in-Err-clause-complete : goal.returns-in-Err-clause-complete
+returns-in-Err-clause-complete g c command over =
+    let old = g.B.Bench.state c.args.bench.now in
+    if_told old.told (λ holding. _) (λ holding told free sink.
+    inr (said_memory c.say_stop.result c.in-Err.stop c.say_stop.ensures.status (told_at old.told _ holding told (c.in-Err.ensures.complete command over) free) (λ fault. sink (c.say_stop.ensures.fault fault))))

@@ -4,6 +4,7 @@ use Rattle.std.proofs.lemmas.Result.{IfOk-weaker}
 use Rattle.nv_plain.specs.Faults.{Rose, saturated}
 use Rattle.nv_pmem.specs.Part.{Part}
 use Rattle.nv_pmem.specs.RowStates.{AreNow}
+use Rattle.nv_pmem.specs.declared.picker.Pick.{Pick}
 use Rattle.nv_store.specs.Store.{Store}
 use Rattle.nv_bench.specs.Benches.{BenchState}
 use Rattle.nv_bench.specs.Holding.{Holding, IsQuietHolding}
@@ -18,10 +19,14 @@ use Rattle.nv_top.specs.Stopping.{HasStoppedOn, IsAway}
 use Rattle.nv_top.specs.Stops.{stop_of_opening}
 use Rattle.nv_top.specs.declared.ending.Stop.TheVariants.{Region}
 use Rattle.nv_top.proofs.CommandLemmas.{if_told, mid_told, told_at}
-use Rattle.nv_top.proofs.HeadlineLemmas.{all_away, home_distinct, quiet_left}
+use Rattle.nv_open.proofs.Homes.{all_away}
+use Rattle.nv_top.proofs.HeadlineLemmas.{home_distinct, quiet_left}
 use Rattle.nv_top.proofs.NameLemmas.{wanted_known}
 use Rattle.nv_top.proofs.RowLemmas.{present}
 use Rattle.nv_top.proofs.StopLemmas.{err_has, opening_refused}
+use Rattle.std.proofs.Common.{inr}
+use Rattle.nv_top.specs.Lives.{HasLived, LeavesRun}
+use Rattle.nv_top.proofs.LifeLemmas.{still_run}
 use Rattle.nv_top.proofs.command.stop_run.Goals as goal
 
 pub returns-in_err-opened-clause-refused : goal.returns-in_err-opened-clause-refused
@@ -66,16 +71,16 @@ returns-clause-ran g c =
     let lent = saturated (mid.faults + (sum_by g.T.Part.Lines.fault_count region.parts.items + sum_by g.T.Store.Backing.fault_count backing)) in
     IfOk-weaker c.run_to_stop.result
     (λ text. (parts : List Part) (now : List Store) → AreNow (map history region.parts.items) parts → AreNow (map held backing) now
-    → IfSome mid.told (λ left. IsAway region.names left → HasStoppedOn (Rose lent new.faults) c.args.options.worker (basis_over region c.args.options.pages (files_of now)) trace new text.items))
-    (λ text. IfSome old.told (λ holding. HasStopped (Rose old.faults new.faults) c.args.options holding new trace text.items))
+    → IfSome mid.told (λ left. IsAway region.names left → HasStoppedOn (Rose lent new.faults) c.args.options.worker c.args.options.image mid.picked (basis_over region c.args.options.pages (files_of now)) trace new text.items))
+    (λ text. IfSome old.told (λ holding. HasStopped (Rose old.faults new.faults) c.args.options old.picked holding new trace text.items))
     (λ text ran.
-    if_told old.told (λ holding. HasStopped (Rose old.faults new.faults) c.args.options holding new trace text.items) (λ holding told.
+    if_told old.told (λ holding. HasStopped (Rose old.faults new.faults) c.args.options old.picked holding new trace text.items) (λ holding told.
     let opened = told_at old.told _ holding told made.opened in
     let parts = present (map history region.parts.items) (told_at old.told _ holding told made.tell) in
     let basis = basis_over region c.args.options.pages (files_of opened.files.held) in
     let left : Holding = record { parts = []; stores = without_stores region.names holding.stores } in
-    let Stopped : Holding → Type 0 = λ left. IsAway region.names left → HasStoppedOn (Rose lent new.faults) c.args.options.worker basis trace new text.items in
-    let Over : ℕ → Type 0 = λ count. HasStoppedOn (Rose count new.faults) c.args.options.worker basis trace new text.items in
+    let Stopped : Holding → Type 0 = λ left. IsAway region.names left → HasStoppedOn (Rose lent new.faults) c.args.options.worker c.args.options.image mid.picked basis trace new text.items in
+    let Over : ℕ → List Pick → Type 0 = λ count before. HasStoppedOn (Rose count new.faults) c.args.options.worker c.args.options.image before basis trace new text.items in
     let same : lent ≡ old.faults = omega (arith, made.counts) in
     let With : List (List ℕ) → Type 0 = λ wanted. IsBasis c.args.options holding wanted basis in
     record {
@@ -90,10 +95,10 @@ returns-clause-ran g c =
         names_are = opened.names_are;
         files_are = opened.files.files_are;
       });
-      stopped = subst Over same
+      stopped = subst (λ before. Over old.faults before) (ap (λ (state : BenchState). state.picked) made.lent) (subst (λ count. Over count mid.picked) same
           (told_at mid.told Stopped left (mid_told old mid region.names holding made.lent c.requires.home told)
           (ran parts.states opened.files.held parts.are opened.files.are)
-          (all_away region.names holding.stores (home_distinct old holding (g.met.T.Bench.named c.args.bench.now) told c.requires.home)));
+          (all_away region.names holding.stores (home_distinct old holding (g.met.T.Bench.named c.args.bench.now) told c.requires.home))));
     }))
     c.run_to_stop.ensures.ran
 
@@ -113,3 +118,40 @@ returns-clause-unarmed g c why is =
   where
     not_both : {holding : Holding} → Some holding ≡ None → ⊥
     not_both is = cc
+
+pub returns-in_err-wanted-clause-life : goal.returns-in_err-wanted-clause-life
+returns-in_err-wanted-clause-life g c =
+    let old = g.T.Bench.state c.args.bench.now in
+    still_run old old c.args.options c.args.trace.now c.images_follow_calls.ensures.quiet refl c.requires.quiet
+
+pub returns-clause-life : goal.returns-clause-life
+returns-clause-life g c =
+    let history = g.T.Part.Lines.history in
+    let old = g.T.Bench.state c.args.bench.now in
+    let mid = g.T.Bench.state c.open.new.bench in
+    let new = g.T.Bench.state c.run_to_stop.new.bench in
+    let trace = c.args.trace.now in
+    let made = c.in_ok-opened.ensures in
+    let region = c.in_ok-opened.opened.region in
+    if_told old.told (λ was. LeavesRun c.args.options was trace new.told) (λ holding told stand.
+    let opened = told_at old.told _ holding told made.opened in
+    let parts = present (map history region.parts.items) (told_at old.told _ holding told made.tell) in
+    let basis = basis_over region c.args.options.pages (files_of opened.files.held) in
+    let left : Holding = record { parts = []; stores = without_stores region.names holding.stores } in
+    let With : List (List ℕ) → Type 0 = λ wanted. IsBasis c.args.options holding wanted basis in
+    inr (record {
+      basis = basis;
+      begun = subst With (c.in_ok-wanted.ensures ∙ c.names.ensures) (record {
+        geometry = _;
+        page_is = refl;
+        entries_are = refl;
+        known = opened.known;
+        begun = opened.begun;
+        pages_are = refl;
+        names_are = opened.names_are;
+        files_are = opened.files.files_are;
+      });
+      lived = told_at mid.told (λ left. IsAway region.names left → HasLived basis trace new.told) left (mid_told old mid region.names holding made.lent c.requires.home told)
+          (c.run_to_stop.ensures.life parts.states opened.files.held parts.are opened.files.are)
+          (all_away region.names holding.stores (home_distinct old holding (g.met.T.Bench.named c.args.bench.now) told c.requires.home));
+    }))

@@ -1,4 +1,7 @@
 use Rattle.std.proofs.Common.{◌≡◌, ◌∙◌, ℕ, List, None, length, map, sym, ap, subst}
+use Rattle.std.proofs.Common.{◌++◌, ◌<◌, All}
+use Rattle.nv_bench.specs.Holding.{named_stores}
+use Rattle.nv_open.specs.Lending.{without_stores}
 use Rattle.std.specs.Prelude.{IfSome}
 use Rattle.std.proofs.lemmas.Result.{IfOk-weaker}
 use Rattle.nv_plain.specs.Files.{Files}
@@ -20,6 +23,13 @@ use Rattle.nv_top.specs.Reports.{recovery_text}
 use Rattle.nv_top.proofs.CommandLemmas.{if_told, leaves, leaves_by, told_at}
 use Rattle.nv_top.proofs.NameLemmas.{each_allowed, names_plain}
 use Rattle.nv_top.proofs.RowLemmas.{present}
+use Rattle.std.proofs.lemmas.List.{length-map}
+use Rattle.nv_open.specs.Held.{HoldFiles, IsRecovered}
+use Rattle.nv_open.specs.Unopened.{HasHeader, StandsAsBefore, TellsOf}
+use Rattle.nv_open.proofs.LogLaws.{states_many}
+use Rattle.nv_top.proofs.CommandLemmas.{back_is}
+use Rattle.nv_top.proofs.HeadlineLemmas.{home_distinct}
+use Rattle.nv_top.proofs.LifeLemmas.{recovered_stands}
 use Rattle.nv_top.proofs.recovery.recover.Goals as goal
 
 pub returns-clause-recovered : goal.returns-clause-recovered
@@ -81,3 +91,32 @@ returns-clause-recovered g c =
           (leaves old mid region.names holding made.lent c.requires.home told None history held (files_named holding.parts region.names holding.stores) parts_back stores_back _ (ap length same_parts ∙ told_at old.told _ holding told made.many) left c.give_back.ensures.told);
     }))
     c.show-report.ensures.text
+
+pub returns-clause-standing : goal.returns-clause-standing
+returns-clause-standing g c =
+    let history = g.T.Part.Lines.history in
+    let held = g.T.Store.Backing.history in
+    let old = g.T.Bench.state c.args.bench.now in
+    let mid = g.T.Bench.state c.recover_region.new.bench in
+    let then = (g.T.Bench.state c.give_back.new.self).told in
+    let made = c.in_ok-opened.ensures in
+    let region = c.in_ok-opened.opened.region in
+    let backing = c.in_ok-opened.opened.stores.items in
+    let back = c.into_parts.result.items in
+    let same : map history back ≡ map history region.parts.items = ap (λ parts. map history parts.items) c.into_parts.ensures.parts in
+    if_told old.told (λ was. HasHeader was.parts → TellsOf (StandsAsBefore was) then) (λ was told readable.
+    let recovery = told_at old.told (λ holding. IsRecovered holding.parts region.geometry.page region.geometry.entries region.names region.next c.in_ok-opened.found) was told made.recovered in
+    let files = told_at old.told (λ holding. HoldFiles (map held backing) (files_named holding.parts region.names holding.stores)) was told made.files in
+    let now = present (map history region.parts.items) (told_at old.told (λ holding. All (λ h. 0 < length h) (map history region.parts.items)) was told made.tell) in
+    let now_are = subst (λ row. AreNow row now.states) (sym same) now.are in
+    record {
+      now = record { parts = now.states; stores = without_stores region.names was.stores ++ named_stores region.names files.held };
+      told_is =
+          c.give_back.ensures.told now.states files.held now_are (subst (λ row. AreNow row files.held) (sym c.show-report.ensures.histories) files.are)
+          ∙ back_is old mid region.names was made.lent c.requires.home told now.states files.held;
+      is_so =
+          recovered_stands c.images_stand_for_files.ensures.files was region.geometry.page region.geometry.entries region.next region.names c.in_ok-opened.found now.states files.held recovery
+          (row_tells_at (map history back) (IsAtRest version_1 region.geometry.page region.geometry.entries region.names region.next) now.states now_are c.into_parts.ensures.region.tells) files.files_are files.quiet
+          (home_distinct old was (g.met.T.Bench.named c.args.bench.now) told c.requires.home) (sym (states_many (map held backing) files.held files.are ∙ length-map backing held ∙ made.one_each))
+          c.into_parts.ensures.region.names_are.distinct readable;
+    })

@@ -17,6 +17,15 @@ use Rattle.nv_top.specs.Commands.{IsNotRun}
 use Rattle.nv_top.specs.Stops.{stop_of_opening}
 use Rattle.nv_top.specs.declared.ending.Stop.TheVariants.{Region}
 use Rattle.nv_top.proofs.StopLemmas.{err_has, opening_refused}
+use Rattle.std.proofs.Common.{inr}
+use Rattle.std.proofs.lemmas.List.{length-map}
+use Rattle.nv_open.specs.Lending.{without_stores}
+use Rattle.nv_open.proofs.Homes.{back_again}
+use Rattle.nv_open.proofs.LogLaws.{states_many}
+use Rattle.nv_top.specs.Lives.{LeavesRun}
+use Rattle.nv_top.proofs.CommandLemmas.{back_is}
+use Rattle.nv_top.proofs.HeadlineLemmas.{home_distinct}
+use Rattle.nv_top.proofs.LifeLemmas.{lived_home, still_run}
 use Rattle.nv_top.proofs.run.run.Goals as goal
 
 pub run_over-parts-requires-clause-known : goal.run_over-parts-requires-clause-known
@@ -42,10 +51,10 @@ returns-clause-ran g c =
     let wanted = c.in_ok-wanted.wanted in
     IfOk-weaker ended.report
     (λ text. (parts : List Part) (now : List Store) → AreNow (map history region.parts.items) parts → AreNow (map held stores) now
-    → HasRunOver history held c.args.options.worker (basis_over region c.args.options.pages (files_of now)) trace text.items ended.parts.items ended.stores.items)
-    (λ text. IfSome old.told (λ holding. HasRunOn c.args.options holding after_it.told trace text.items))
+    → HasRunOver history held c.args.show c.args.options.worker (basis_over region c.args.options.pages (files_of now)) trace text.items ended.parts.items ended.stores.items)
+    (λ text. IfSome old.told (λ holding. HasRunOn c.args.show c.args.options holding after_it.told trace text.items))
     (λ text ran.
-    if_told old.told (λ holding. HasRunOn c.args.options holding after_it.told trace text.items) (λ holding told.
+    if_told old.told (λ holding. HasRunOn c.args.show c.args.options holding after_it.told trace text.items) (λ holding told.
     let opened = told_at old.told _ holding told made.opened in
     let parts = present (map history region.parts.items) (told_at old.told _ holding told made.tell) in
     let over = ran parts.states opened.files.held parts.are opened.files.are in
@@ -67,6 +76,9 @@ returns-clause-ran g c =
       plain = over.plain;
       text_is = over.text_is;
       left = leaves old mid region.names holding made.lent c.requires.home told (Some _) history held _ ended.parts.items ended.stores.items after_it.told (c.run_over-parts.ensures.many ∙ told_at old.told _ holding told made.many) over.left c.give_back.ensures.told;
+      page_is = over.page_is;
+      entries_is = over.entries_is;
+      next_is = over.next_is;
     }))
     c.run_over-parts.ensures.ran
 
@@ -83,4 +95,86 @@ returns-in_err-region-clause-refused g c why is =
       page_is = refl;
       entries_are = refl;
       not_opened = told_at old.told _ holding told (c.in_err-region.ensures.refused why (ap Err (opening_refused error why (sym stop))));
+    }))
+
+pub returns-then-calls-gt-MOST_CALLS-clause-life : goal.returns-then-calls-gt-MOST_CALLS-clause-life
+returns-then-calls-gt-MOST_CALLS-clause-life g c =
+    let old = g.T.Bench.state c.args.bench.now in
+    still_run old old c.args.options c.args.trace.now c.images_follow_calls.ensures.quiet refl c.requires.quiet
+
+pub returns-in_err-wanted-clause-life : goal.returns-in_err-wanted-clause-life
+returns-in_err-wanted-clause-life g c =
+    let old = g.T.Bench.state c.args.bench.now in
+    still_run old old c.args.options c.args.trace.now c.images_follow_calls.ensures.quiet refl c.requires.quiet
+
+pub returns-then-faults-before-clause-life : goal.returns-then-faults-before-clause-life
+returns-then-faults-before-clause-life g c =
+    let history = g.T.Part.Lines.history in
+    let held = g.T.Store.Backing.history in
+    let old = g.T.Bench.state c.args.bench.now in
+    let mid = g.T.Bench.state c.open.new.bench in
+    let after_it = g.T.Bench.state c.give_back.new.self in
+    let trace = c.args.trace.now in
+    let made = c.in_ok-region.ensures in
+    let region = c.in_ok-region.field-0.region in
+    let stores = c.in_ok-region.field-0.stores.items in
+    let ended = c.run_over-parts.result in
+    if_told old.told (λ was. LeavesRun c.args.options was trace after_it.told) (λ holding told stand.
+    let opened = told_at old.told _ holding told made.opened in
+    let parts = present (map history region.parts.items) (told_at old.told _ holding told made.tell) in
+    let basis = basis_over region c.args.options.pages (files_of opened.files.held) in
+    let left = c.run_over-parts.ensures.life parts.states opened.files.held parts.are opened.files.are in
+    let With : List (List ℕ) → Type 0 = λ wanted. IsBasis c.args.options holding wanted basis in
+    inr (record {
+      basis = basis;
+      begun = subst With (c.in_ok-wanted.ensures ∙ c.names.ensures) (record {
+        geometry = _;
+        page_is = refl;
+        entries_are = refl;
+        known = opened.known;
+        begun = opened.begun;
+        pages_are = refl;
+        names_are = opened.names_are;
+        files_are = opened.files.files_are;
+      });
+      lived = lived_home basis trace history held ended.parts.items ended.stores.items after_it.told (without_stores region.names holding.stores) (λ holding is. g.met.T.Bench.whole c.give_back.new.self holding is) left
+          (λ disks are. back_again region.names holding.stores disks (home_distinct old holding (g.met.T.Bench.named c.args.bench.now) told c.requires.home)
+          (sym (states_many (map held ended.stores.items) disks are ∙ length-map ended.stores.items held ∙ c.run_over-parts.ensures.count ∙ made.one_each)) region.is_region.names_are.distinct)
+          (λ now disks now_are disks_are. c.give_back.ensures.told now disks now_are disks_are ∙ back_is old mid region.names holding made.lent c.requires.home told now disks);
+    }))
+
+pub returns-clause-life : goal.returns-clause-life
+returns-clause-life g c =
+    let history = g.T.Part.Lines.history in
+    let held = g.T.Store.Backing.history in
+    let old = g.T.Bench.state c.args.bench.now in
+    let mid = g.T.Bench.state c.open.new.bench in
+    let after_it = g.T.Bench.state c.give_back.new.self in
+    let trace = c.args.trace.now in
+    let made = c.in_ok-region.ensures in
+    let region = c.in_ok-region.field-0.region in
+    let stores = c.in_ok-region.field-0.stores.items in
+    let ended = c.run_over-parts.result in
+    if_told old.told (λ was. LeavesRun c.args.options was trace after_it.told) (λ holding told stand.
+    let opened = told_at old.told _ holding told made.opened in
+    let parts = present (map history region.parts.items) (told_at old.told _ holding told made.tell) in
+    let basis = basis_over region c.args.options.pages (files_of opened.files.held) in
+    let left = c.run_over-parts.ensures.life parts.states opened.files.held parts.are opened.files.are in
+    let With : List (List ℕ) → Type 0 = λ wanted. IsBasis c.args.options holding wanted basis in
+    inr (record {
+      basis = basis;
+      begun = subst With (c.in_ok-wanted.ensures ∙ c.names.ensures) (record {
+        geometry = _;
+        page_is = refl;
+        entries_are = refl;
+        known = opened.known;
+        begun = opened.begun;
+        pages_are = refl;
+        names_are = opened.names_are;
+        files_are = opened.files.files_are;
+      });
+      lived = lived_home basis trace history held ended.parts.items ended.stores.items after_it.told (without_stores region.names holding.stores) (λ holding is. g.met.T.Bench.whole c.give_back.new.self holding is) left
+          (λ disks are. back_again region.names holding.stores disks (home_distinct old holding (g.met.T.Bench.named c.args.bench.now) told c.requires.home)
+          (sym (states_many (map held ended.stores.items) disks are ∙ length-map ended.stores.items held ∙ c.run_over-parts.ensures.count ∙ made.one_each)) region.is_region.names_are.distinct)
+          (λ now disks now_are disks_are. c.give_back.ensures.told now disks now_are disks_are ∙ back_is old mid region.names holding made.lent c.requires.home told now disks);
     }))

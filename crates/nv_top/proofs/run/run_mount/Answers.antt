@@ -18,12 +18,18 @@ use Rattle.nv_runner.specs.EndedRuns.{HasOutcome}
 use Rattle.nv_runner.specs.Faithful.{Basis}
 use Rattle.nv_runner.specs.FaithfulRuns.{IsMountOf}
 use Rattle.nv_top.specs.Outcomes.{shown_report}
-use Rattle.nv_top.specs.Reports.{report_text}
 use Rattle.nv_top.specs.Runs.{BeginsMount, HasRunOver, IsQuietSpare}
+use Rattle.nv_top.specs.Shows.{text_as}
 use Rattle.nv_top.specs.Stops.{RunHasCause}
 use Rattle.nv_top.proofs.CauseLemmas.{ended_cause, told_cause}
 use Rattle.nv_top.proofs.RunLemmas.{has_run}
 use Rattle.nv_top.proofs.StoppingLemmas.{failed_same}
+use Rattle.nv_core.specs.content.Content.{Opens}
+use Rattle.nv_core.specs.log.LogContent.{OpensLog}
+use Rattle.nv_mount.specs.Telling.{IsTelling}
+use Rattle.nv_top.specs.Lives.{AreLeftSo}
+use Rattle.nv_top.proofs.LifeLemmas.{left_same}
+use Rattle.std.proofs.Common.{refl}
 use Rattle.nv_top.proofs.run.run_mount.Goals as goal
 use Rattle.nv_top.proofs.run.run_mount.Goals.{in-Ok, in-Err}
 
@@ -34,7 +40,7 @@ returns-clause-count g c =
     let many = c.run_calls-ended.ensures.ran.2.many_stores in
     elim c.match-ended.branch [
       | in-Ok w ↦
-          ap (λ stores. length stores.items) w.stores-is ∙ sym (length-map w.show-report.new.stores.items held) ∙ ap (λ row. length row) w.show-report.ensures.histories
+          ap (λ stores. length stores.items) w.stores-is ∙ sym (length-map w.show_run-report.new.stores.items held) ∙ ap (λ row. length row) w.show_run-report.ensures.histories
           ∙ length-map came.stores.items held ∙ many
       | in-Err w ↦ ap (λ stores. length stores.items) w.stores-is ∙ many
     ]
@@ -54,15 +60,15 @@ returns-clause-ran g c =
     elim c.match-ended.branch [
       | in-Ok w ↦
           let sorted = w.in-Ok.sorted in
-          let shown = w.show-report in
+          let shown = w.show_run-report in
           let out : HasOutcome mount.fds plan trace.calls pass (Ok sorted) zero = subst (λ outcome. HasOutcome mount.fds plan trace.calls pass outcome zero) w.in-Ok.is ran.1 in
           let same_board = out.run_out.mount ∙ c.requires.board.same_mount in
           subst (λ report. IfOk report (λ text. (basis : Basis) → BeginsMount basis trace mount pass → basis.names ≡ names → All IsQuietSpare pass.spare
-          → HasRunOver history held plan.worker basis trace text.items came.parts.items c.match-ended.stores.items)) (sym w.report-is)
+          → HasRunOver history held c.args.show plan.worker basis trace text.items came.parts.items c.match-ended.stores.items)) (sym w.report-is)
           (IfOk-weaker shown.result
-          (λ text. (now : List Store) → AreNow (map held came.stores.items) now → text.items ≡ report_text (shown_report sorted [] names (files_of now)))
+          (λ text. (now : List Store) → AreNow (map held came.stores.items) now → text.items ≡ text_as c.args.show (shown_report sorted [] names (files_of now)))
           (λ text. (basis : Basis) → BeginsMount basis trace mount pass → basis.names ≡ names → All IsQuietSpare pass.spare
-          → HasRunOver history held plan.worker basis trace text.items came.parts.items c.match-ended.stores.items)
+          → HasRunOver history held c.args.show plan.worker basis trace text.items came.parts.items c.match-ended.stores.items)
           (λ text says basis begins named spare.
           has_run g.L.Lines.device history g.L.Lines.fault_count g.L.Lines.room g.B.Backing.device held g.B.Backing.fault_count
           basis trace mount.fds plan pass zero sorted mount.board came.parts.items came.stores.items came.placed came.tail
@@ -73,14 +79,14 @@ returns-clause-ran g c =
           (subst (λ (o : Opened). IsMountOf basis trace o mount.fds) (sym c.requires.board.same_mount) begins.is_mount)
           (subst (λ (o : Opened). OpensRegion (mount_of o) basis.names) (sym same_board) begins.region)
           (subst (λ (values : List Value). All IsQuietSpare values) (sym out.run_out.spare) spare)
-          out ran.2 ran.3 text.items c.match-ended.stores.items
+          out ran.2 ran.3 c.args.show text.items c.match-ended.stores.items
           (ap (λ stores. map held stores.items) w.stores-is ∙ shown.ensures.histories)
-          (λ now are. subst (λ these. text.items ≡ report_text (shown_report sorted [] these (files_of now))) (sym named) (says now are)))
-          (subst (λ these. IfOk shown.result (λ text. (now : List Store) → AreNow (map held came.stores.items) now → text.items ≡ report_text (shown_report these [] names (files_of now))))
+          (λ now are. subst (λ these. text.items ≡ text_as c.args.show (shown_report sorted [] these (files_of now))) (sym named) (says now are)))
+          (subst (λ these. IfOk shown.result (λ text. (now : List Store) → AreNow (map held came.stores.items) now → text.items ≡ text_as c.args.show (shown_report these [] names (files_of now))))
           w.in-Ok.sorted-is shown.ensures.text))
       | in-Err w ↦
           subst (λ report. IfOk report (λ text. (basis : Basis) → BeginsMount basis trace mount pass → basis.names ≡ names → All IsQuietSpare pass.spare
-          → HasRunOver history held plan.worker basis trace text.items came.parts.items c.match-ended.stores.items)) (sym w.report-is) tt
+          → HasRunOver history held c.args.show plan.worker basis trace text.items came.parts.items c.match-ended.stores.items)) (sym w.report-is) tt
     ]
 
 pub returns-clause-cause : goal.returns-clause-cause
@@ -95,12 +101,36 @@ returns-clause-cause g c =
     let grew : failed_before pass ≤ parts + mid = subst (λ (n : ℕ). n ≤ parts + mid) before by.grew in
     elim c.match-ended.branch [
       | in-Ok w ↦
-          let shown = w.show-report in
+          let shown = w.show_run-report in
           let told = told_cause (failed_before pass) parts mid (sum_by g.B.Backing.fault_count shown.new.stores.items) shown.result grew shown.ensures.never shown.ensures.cause in
           subst (λ report. RunHasCause (failed_before pass) (parts + sum_by g.B.Backing.fault_count c.match-ended.stores.items) report) (sym w.report-is)
           (subst (λ stores. RunHasCause (failed_before pass) (parts + sum_by g.B.Backing.fault_count stores.items) shown.result) (sym w.stores-is) told)
       | in-Err w ↦
           subst (λ stores. RunHasCause (failed_before pass) (parts + sum_by g.B.Backing.fault_count stores.items) c.match-ended.report) (sym w.stores-is)
           (ended_cause (failed_before pass) (parts + mid) w.in-Err.error w.into.result c.match-ended.report w.report-is w.into.ensures grew
-          (λ fault. subst (λ (n : ℕ). Rose n (parts + mid)) before (by.stopped (ran.1.fault (w.in-Err.is ∙ ap Err fault)))))
+          (λ fault. subst (λ (n : ℕ). Rose n (parts + mid)) before (by.stopped (ran.1.fault (w.in-Err.is ∙ ap Err fault)).1)))
+    ]
+
+pub returns-clause-life : goal.returns-clause-life
+returns-clause-life g c basis begins =
+    let history = g.L.Lines.history in
+    let held = g.B.Backing.history in
+    let mount = c.args.mount in
+    let pass = c.args.pass in
+    let trace = c.args.trace.now in
+    let came = c.run_calls-ended.result.closed in
+    let ran = c.run_calls-ended.ensures.ran in
+    let out = ran.1.run_out in
+    let by = ran.3 in
+    let here = sym c.requires.board.same_mount in
+    let there : mount.board.opened ≡ ran.0.view.opened = here ∙ sym out.mount in
+    let life =
+    c.runs_leave_lives.ensures basis trace mount.fds c.args.plan pass ran.0 c.run_calls-ended.result.outcome _ _ (map history came.parts.items) (map held came.stores.items) _ _ _ c.requires.well_formed c.requires.lines
+    (subst (λ (o : Opened). IsMountOf basis trace o mount.fds) here begins.is_mount) (subst (λ (o : Opened). OpensRegion (mount_of o) basis.names) here begins.region) (c.requires.new ∙ ap first_view here) ran.1 by in
+    let tell = by.telling basis.files (subst (λ (o : Opened). OpensLog (mount_of o) o.next) there begins.is_mount.log) (subst (λ (o : Opened). Opens (mount_of o) basis.files) there begins.is_mount.files)
+    (subst (λ (values : List Value). All IsTelling values) (sym out.spare) begins.spare) in
+    let left : AreLeftSo history held basis trace came.parts.items came.stores.items = record { parts_tell = tell.0; stores_tell = tell.1; life = life } in
+    elim c.match-ended.branch [
+      | in-Ok w ↦ left_same history held basis trace came.parts.items came.parts.items c.match-ended.stores.items came.stores.items refl (ap (λ stores. map held stores.items) w.stores-is ∙ w.show_run-report.ensures.histories) left
+      | in-Err w ↦ left_same history held basis trace came.parts.items came.parts.items c.match-ended.stores.items came.stores.items refl (ap (λ stores. map held stores.items) w.stores-is) left
     ]

@@ -6,6 +6,12 @@ use Rattle.nv_store.specs.Store.{Store}
 use Rattle.nv_recover.specs.Standing.{files_of}
 use Rattle.nv_runner.specs.Faithful.{Basis}
 use Rattle.nv_top.specs.Runs.{BeginsMount, HasRunOver, IsQuietSpare, basis_over}
+use Rattle.std.proofs.Common.{◌+◌, ap, refl, subst}
+use Rattle.std.specs.Prelude.{sum_by}
+use Rattle.nv_pmem.specs.Steps as lines
+use Rattle.nv_top.proofs.CauseLemmas.{stop_ends}
+use Rattle.nv_top.proofs.LifeLemmas.{left_same, rest_lives}
+use Rattle.nv_top.proofs.RunLemmas.{quiet_stores}
 use Rattle.nv_top.proofs.run.run_over.Goals as goal
 
 pub returns-in-Ok-mount_over-clause-ran : goal.returns-in-Ok-mount_over-clause-ran
@@ -21,8 +27,38 @@ returns-in-Ok-mount_over-clause-ran g c =
     let same_names : names ≡ region.names = c.in-Ok.ensures ∙ c.as_slice.ensures ∙ c.names.ensures in
     IfOk-weaker c.run_mount.result.report
     (λ text. (basis : Basis) → BeginsMount basis trace mount pass → basis.names ≡ names → All IsQuietSpare pass.spare
-    → HasRunOver history held c.args.options.worker basis trace text.items c.run_mount.result.parts.items c.run_mount.result.stores.items)
+    → HasRunOver history held c.args.show c.args.options.worker basis trace text.items c.run_mount.result.parts.items c.run_mount.result.stores.items)
     (λ text. (parts : List Part) (now : List Store) → AreNow (map history region.parts.items) parts → AreNow (map held c.args.stores.items) now
-    → HasRunOver history held c.args.options.worker (basis_over region c.args.options.pages (files_of now)) trace text.items c.run_mount.result.parts.items c.run_mount.result.stores.items)
+    → HasRunOver history held c.args.show c.args.options.worker (basis_over region c.args.options.pages (files_of now)) trace text.items c.run_mount.result.parts.items c.run_mount.result.stores.items)
     (λ text ran parts now parts_are now_are. ran (basis_over region c.args.options.pages (files_of now)) (made.begins parts now parts_are now_are) (sym same_names) (made.spare parts parts_are))
     c.run_mount.ensures.ran
+
+pub returns-in_default-clause-life : goal.returns-in_default-clause-life
+returns-in_default-clause-life g c parts now parts_are now_are =
+    let history = g.L.Lines.history in
+    let held = g.B.Backing.history in
+    let region = c.args.region in
+    let back = c.into_parts.result.items in
+    let same : map history back ≡ map history region.parts.items = ap (λ parts. map history parts.items) c.into_parts.ensures.parts in
+    rest_lives history held (basis_over region c.args.options.pages (files_of now)) c.args.trace.now back c.args.stores.items parts now region.geometry.page region.geometry.entries region.next
+    (subst (λ (row : List lines.PartHistory). AreNow row parts) (sym same) parts_are) now_are c.into_parts.ensures.region.tells (quiet_stores held c.args.stores.items now now_are c.requires.quiet) refl
+
+pub returns-in-Ok-mount_over-clause-life : goal.returns-in-Ok-mount_over-clause-life
+returns-in-Ok-mount_over-clause-life g c parts now parts_are now_are =
+    c.run_mount.ensures.life (basis_over c.args.region c.args.options.pages (files_of now)) (c.in-Ok-mount_over.ensures.begins parts now parts_are now_are)
+
+pub returns-clause-life : goal.returns-clause-life
+returns-clause-life g c parts now parts_are now_are =
+    let history = g.L.Lines.history in
+    let held = g.B.Backing.history in
+    let region = c.args.region in
+    let stores = c.args.stores.items in
+    let trace = c.args.trace.now in
+    let basis = basis_over region c.args.options.pages (files_of now) in
+    let rest = rest_lives history held basis trace region.parts.items stores parts now region.geometry.page region.geometry.entries region.next parts_are now_are region.is_region.tells (quiet_stores held stores now now_are c.requires.quiet) refl in
+    left_same history held basis trace c.in-Err.field-0.parts.items region.parts.items c.in-Err.field-0.stores.items stores c.in-Err.ensures.same_parts c.in-Err.ensures.same_stores rest
+
+pub returns-clause-cause : goal.returns-clause-cause
+returns-clause-cause g c =
+    stop_ends (sum_by g.L.Lines.fault_count c.args.region.parts.items + sum_by g.B.Backing.fault_count c.args.stores.items)
+    (sum_by g.L.Lines.fault_count c.in-Err.field-0.parts.items + sum_by g.B.Backing.fault_count c.in-Err.field-0.stores.items) c.in-Err.field-0.stop c.in-Err.ensures.never c.in-Err.ensures.cause

@@ -10,6 +10,19 @@ use Rattle.nv_top.specs.Fates.{fated_report}
 use Rattle.nv_top.specs.Reports.{report_text}
 use Rattle.nv_top.specs.Stopping.{ShowsRecovered}
 use Rattle.nv_top.proofs.StoppingLemmas.{at_some, if_some, shows}
+use Rattle.std.proofs.Common.{◌∙◌, ◌++◌, ◌<◌, All, length}
+use Rattle.std.proofs.lemmas.List.{length-map}
+use Rattle.nv_plain.specs.Layouts.{version_1}
+use Rattle.nv_pmem.specs.RowStates.{row_tells_at}
+use Rattle.nv_header.specs.Regions.{IsAtRest}
+use Rattle.nv_bench.specs.Holding.{IsQuietHolding, named_stores}
+use Rattle.nv_open.specs.Lending.{without_stores}
+use Rattle.nv_open.specs.Unopened.{HasHeader, StandsAsBefore, TellsOf}
+use Rattle.nv_open.proofs.LogLaws.{states_many}
+use Rattle.nv_top.proofs.CommandLemmas.{back_is}
+use Rattle.nv_top.proofs.HeadlineLemmas.{home_distinct}
+use Rattle.nv_top.proofs.LifeLemmas.{recovered_stands}
+use Rattle.nv_top.proofs.RowLemmas.{present}
 use Rattle.nv_top.proofs.stopping.show_recovered.Goals as goal
 
 pub returns-clause-shown : goal.returns-clause-shown
@@ -34,7 +47,7 @@ returns-clause-shown g c =
     (λ holding told_is.
     let Told : List _ → Type 0 = λ parts. AllTell (map history parts) in
     shows old lent new_told holding sorted text.items found region.geometry.page region.geometry.entries region.next region.names c.names.result.now (map history parts_now) (map held backing)
-    told_is c.requires.home opened.lent (sym c.names.ensures) text_of
+    told_is (at_some old.told IsQuietHolding holding told_is c.requires.quiet) c.requires.home opened.lent (sym c.names.ensures) text_of
     (at_some old.told (λ holding. IsRecovered holding.parts region.geometry.page region.geometry.entries region.names region.next found) holding told_is opened.recovered)
     (at_some old.told (λ holding. HoldFiles (map held backing) (files_named holding.parts region.names holding.stores)) holding told_is opened.files)
     (subst Told (sym same_parts) (at_some old.told (λ holding. AllTell (map history region.parts.items)) holding told_is opened.tell))
@@ -43,3 +56,32 @@ returns-clause-shown g c =
     let At : List stores.StoreHistory → Type 0 = λ row. AreNow row disks in
     c.give_back.ensures.told now disks now_are (subst At (sym c.show_fates-report.ensures.histories) disks_are))))
     c.show_fates-report.ensures.text
+
+pub returns-clause-standing : goal.returns-clause-standing
+returns-clause-standing g c =
+    let history = g.T.Part.Lines.history in
+    let held = g.T.Store.Backing.history in
+    let old = g.T.Bench.state c.args.bench.now in
+    let mid = g.T.Bench.state c.recover_region.new.bench in
+    let then = (g.T.Bench.state c.give_back.new.self).told in
+    let made = c.in_ok-opened.ensures in
+    let region = c.in_ok-opened.opened.region in
+    let backing = c.in_ok-opened.opened.stores.items in
+    let back = c.into_parts.result.items in
+    let same : map history back ≡ map history region.parts.items = ap (λ parts. map history parts.items) c.into_parts.ensures.parts in
+    if_some old.told (λ was. HasHeader was.parts → TellsOf (StandsAsBefore was) then) (λ was told readable.
+    let recovery = at_some old.told (λ holding. IsRecovered holding.parts region.geometry.page region.geometry.entries region.names region.next c.in_ok-opened.found) was told made.recovered in
+    let files = at_some old.told (λ holding. HoldFiles (map held backing) (files_named holding.parts region.names holding.stores)) was told made.files in
+    let now = present (map history region.parts.items) (at_some old.told (λ holding. All (λ h. 0 < length h) (map history region.parts.items)) was told made.tell) in
+    let now_are = subst (λ row. AreNow row now.states) (sym same) now.are in
+    record {
+      now = record { parts = now.states; stores = without_stores region.names was.stores ++ named_stores region.names files.held };
+      told_is =
+          c.give_back.ensures.told now.states files.held now_are (subst (λ row. AreNow row files.held) (sym c.show_fates-report.ensures.histories) files.are)
+          ∙ back_is old mid region.names was made.lent c.requires.home told now.states files.held;
+      is_so =
+          recovered_stands c.images_stand_for_files.ensures.files was region.geometry.page region.geometry.entries region.next region.names c.in_ok-opened.found now.states files.held recovery
+          (row_tells_at (map history back) (IsAtRest version_1 region.geometry.page region.geometry.entries region.names region.next) now.states now_are c.into_parts.ensures.region.tells) files.files_are files.quiet
+          (home_distinct old was (g.met.T.Bench.named c.args.bench.now) told c.requires.home) (sym (states_many (map held backing) files.held files.are ∙ length-map backing held ∙ made.one_each))
+          c.into_parts.ensures.region.names_are.distinct readable;
+    })

@@ -1,0 +1,295 @@
+-- Lives: what a bench tells to which the devices of a run come back, and what power and a recovery make of that.
+use Rattle.std.proofs.Common.{◌≡◌, ◌≢◌, ℕ, ◌<◌, Bool, true, false, cond, All, List, [], ◌∷◌, ◌++◌, length, map, slice_index_or, inl, inr, refl, sym, ap, subst, ◌∙◌, arith, Option, Some, None}
+use Rattle.std.specs.Prelude.{IfSome, option_map}
+use Rattle.std.proofs.lemmas.List.Elements.{All-nil, All-cons, All-head, All-tail}
+use Rattle.nv_plain.specs.Files.{Files}
+use Rattle.nv_plain.specs.Images.{Image, header_of}
+use Rattle.nv_plain.specs.Layouts.{version_1}
+use Rattle.nv_plain.specs.Recovered.{recovered}
+use Rattle.nv_pmem.specs.Laws.{QuietPartHasOneImage}
+use Rattle.nv_pmem.specs.Part.{Part}
+use Rattle.nv_pmem.specs.RowStates.{AreNow, row_tells_at, row_tells_from}
+use Rattle.nv_pmem.specs.Rows.{AreQuiet, InEachRowImage, IsRowImage, RowTells, row_words}
+use Rattle.nv_pmem.specs.Steps as lines
+use Rattle.nv_pmem.proofs.ImageLaws.{image_of_now}
+use Rattle.nv_pmem.specs.declared.picker.Pick.{Pick}
+use Rattle.nv_store.specs.Steps as stores
+use Rattle.nv_store.specs.Store.{IsWholeStore, Store}
+use Rattle.nv_bench.specs.Benches.{BenchState, with_faults}
+use Rattle.nv_bench.specs.Holding.{Holding, IsQuietHolding, NamedStore, is_named, named_stores, store_of}
+use Rattle.nv_bench.specs.Laws.{AreWholeStores, PowerLeavesAnImage}
+use Rattle.nv_bench.specs.Naming.{AreDistinct, names_of}
+use Rattle.nv_bench.specs.Powered.{powered}
+use Rattle.nv_header.specs.Heads.{first_names}
+use Rattle.nv_header.specs.Regions.{HasEmptyLog, IsAtRest}
+use Rattle.nv_recover.specs.Standing.{AreQuietStores, AreStoreImages, ReadableStandsForRecovered, files_of}
+use Rattle.nv_recover.specs.Telling.{AllTell}
+use Rattle.nv_recover.specs.declared.recovering.Recovered as recover
+use Rattle.nv_recover.proofs.AlikeLaws.{empty_fits, empty_recovered}
+use Rattle.nv_recover.proofs.ApplyLaws.{quiet_image}
+use Rattle.nv_recover.proofs.EmptyLaws.{empty_none}
+use Rattle.nv_open.specs.Held.{IsRecovered, files_named, header_names}
+use Rattle.nv_open.specs.Lending.{stores_named, without_stores}
+use Rattle.nv_open.specs.Unopened.{HasHeader, InEachImage, StandsAsBefore, TellsOf, names_in}
+use Rattle.nv_open.proofs.Homes.{back_again}
+use Rattle.nv_open.proofs.Returns.{named_quiet}
+use Rattle.nv_open.proofs.Stands.{durable_images, names_read, own_images}
+use Rattle.nv_trace.specs.Reading.{ending_of, Whole}
+use Rattle.nv_trace.specs.declared.trace.Form.TheVariants as forms
+use Rattle.nv_trace.specs.Traced.{Traced}
+use Rattle.nv_top.specs.declared.words.Command.{Command}
+use Rattle.nv_top.specs.declared.words.Command.TheVariants.{Run, Recover, Look, Gen}
+use Rattle.nv_open.proofs.GivenBack.{still_stands}
+use Rattle.nv_runner.specs.Faithful.{Basis}
+use Rattle.nv_runner.specs.Histories.{PlacedCall}
+use Rattle.nv_runner.specs.Lives.{LeaveLife, RecoversBehind}
+use Rattle.nv_open.proofs.PartlyBack.{still_left}
+use Rattle.nv_load.specs.Generated.{generated}
+use Rattle.nv_top.specs.Loads.{load_options}
+use Rattle.nv_top.specs.Lives.{AreLeftSo, HasLived, LeavesLife, LeavesRun}
+use Rattle.nv_top.specs.declared.words.RunOptions.{RunOptions}
+use Rattle.nv_top.proofs.CommandLemmas.{if_told, told_at}
+use Rattle.nv_top.proofs.HomeLemmas.{any_images}
+use Rattle.nv_top.proofs.RowLemmas.{all_tell, present}
+
+-- ---- whole stores
+
+either_whole : (is : Bool) (first other : Store) → IsWholeStore first → IsWholeStore other → IsWholeStore (cond is first other)
+either_whole true first other one rest = one
+either_whole false first other one rest = rest
+
+whole_of : (name : List ℕ) (stores : List NamedStore) → All (λ (named : NamedStore). IsWholeStore named.store) stores → IsWholeStore (store_of name stores)
+whole_of name [] whole = record { flags = refl; no_longer = omega arith; synced = λ i not. refl }
+whole_of name (first ∷ rest) whole =
+    either_whole (is_named name first) first.store (store_of name rest) (All-head (λ (named : NamedStore). IsWholeStore named.store) first rest whole)
+    (whole_of name rest (All-tail (λ (named : NamedStore). IsWholeStore named.store) first rest whole))
+
+all_whole : (names : List (List ℕ)) (stores : List NamedStore) → All (λ (named : NamedStore). IsWholeStore named.store) stores → All IsWholeStore (stores_named names stores)
+all_whole [] stores whole = All-nil IsWholeStore
+all_whole (name ∷ names) stores whole = All-cons IsWholeStore (store_of name stores) (stores_named names stores) (whole_of name stores whole) (all_whole names stores whole)
+
+-- ---- a bench to which the devices came back
+
+module _ (basis : Basis) (trace : Traced) where
+  abbrev Behind : List PlacedCall → Image → Files → Type 0
+  Behind history image bytes = RecoversBehind basis trace history image bytes
+
+  -- whatever is left of what it holds
+  images_home : (part_row : List lines.PartHistory) (store_row : List stores.StoreHistory) (life : LeaveLife basis trace part_row store_row) (now : List Part) (held : List Store) (all : List NamedStore) → AreNow part_row now → AreNow store_row held
+      → All IsWholeStore held → stores_named basis.names all ≡ held → InEachImage (Behind life.history) (record { parts = now; stores = all })
+  images_home part_row store_row life now held all now_are held_are whole same image bytes is are =
+      let every = row_tells_at store_row (λ held. (bytes : Files) → AreStoreImages held bytes → Behind life.history image bytes) held held_are
+      (row_tells_at part_row (InEachRowImage (λ image. RowTells store_row (λ held. (bytes : Files) → AreStoreImages held bytes → Behind life.history image bytes))) now now_are life.images image is) in
+      let read = (every (record { contents = map (λ (store : Store). store.durable) held }) (durable_images held whole)).names_are in
+      every bytes (subst (λ stores. AreStoreImages stores bytes) same (subst (λ names. AreStoreImages (stores_named names all) bytes) read are))
+
+  pub lived_home : {X Y : Type 0} (history : X → lines.PartHistory) (held : Y → stores.StoreHistory)
+      (parts : List X) (backing : List Y) (told : Option Holding) (home : List NamedStore) (whole : (holding : Holding) → told ≡ Some holding → AreWholeStores holding) → AreLeftSo history held basis trace parts backing
+      → ((disks : List Store) → AreNow (map held backing) disks → stores_named basis.names (home ++ named_stores basis.names disks) ≡ disks)
+      → ((now : List Part) (disks : List Store) → AreNow (map history parts) now → AreNow (map held backing) disks → told ≡ Some (record { parts = now; stores = home ++ named_stores basis.names disks }))
+      → HasLived basis trace told
+  lived_home history held parts backing told home whole left same gives =
+      let now = present (map history parts) left.parts_tell in
+      let disks = present (map held backing) left.stores_tell in
+      let all = home ++ named_stores basis.names disks.states in
+      let told_is = gives now.states disks.states now.are disks.are in
+      let here = same disks.states disks.are in
+      record {
+        history = left.life.history;
+        is = left.life.is;
+        images = record {
+          now = record { parts = now.states; stores = all };
+          told_is = told_is;
+          is_so =
+              images_home (map history parts) (map held backing) left.life now.states disks.states all now.are disks.are
+              (subst (All IsWholeStore) here (all_whole basis.names all (whole (record { parts = now.states; stores = all }) told_is))) here;
+        };
+      }
+
+  -- ---- power
+
+  -- quiet parts have one image
+  one_image : QuietPartHasOneImage → (parts : List Part) (image : Image) → AreQuiet parts → IsRowImage parts image → image ≡ row_words parts
+  one_image one parts image quiet is =
+      let same : (part line word : ℕ) → image part line word ≡ row_words parts part line word =
+      λ part line word. one (slice_index_or parts part []) (image part) line word ((quiet.each part).lines line) (is.each part) in
+      λ i part line word. same part line word i
+
+  pub lived_powered : QuietPartHasOneImage → PowerLeavesAnImage → (pick : Pick) (home off : Option Holding) → ((holding : Holding) → home ≡ Some holding → AreWholeStores holding) → off ≡ option_map (powered pick) home
+      → HasLived basis trace home → HasLived basis trace off
+  lived_powered one power pick home off whole powers lived =
+      let before = lived.images.now in
+      let after = powered pick before in
+      let both = power pick before (whole before lived.images.told_is) in
+      record {
+        history = lived.history;
+        is = lived.is;
+        images = record {
+          now = after;
+          told_is = powers ∙ ap (option_map (powered pick)) lived.images.told_is;
+          is_so = λ image bytes is are.
+              let same = one_image one after.parts image both.1.parts is in
+              let names = names_in image in
+              let here = quiet_image (stores_named names after.stores) bytes (named_quiet names after.stores both.1.stores) are in
+              lived.images.is_so image bytes (subst (λ (image : Image). IsRowImage before.parts image) (sym same) both.0.parts)
+              (subst (λ (files : Files). AreStoreImages (stores_named names before.stores) files) (sym here) (any_images names before after both.0));
+        };
+      }
+
+  -- ---- a recovery
+
+  pub lived_recovered : QuietPartHasOneImage → (was : Option Holding) (told : Option Holding) → IfSome was IsQuietHolding → (lived : HasLived basis trace was) → (HasHeader lived.images.now.parts → TellsOf (StandsAsBefore lived.images.now) told)
+      → HasLived basis trace told
+  lived_recovered one was told quiet lived stands =
+      let before = lived.images.now in
+      let still : IsQuietHolding before = subst (λ (one : Option Holding). IfSome one IsQuietHolding) lived.images.told_is quiet in
+      let first = row_words before.parts in
+      let names = header_names before.parts in
+      let base = files_of (stores_named names before.stores) in
+      let read = names_read before.parts in
+      let here : RecoversBehind basis trace lived.history first base =
+      lived.images.is_so first base (record { each = λ i. image_of_now (slice_index_or before.parts i []) })
+      (subst (λ names. AreStoreImages (stores_named names before.stores) base) read (own_images (stores_named names before.stores) (named_quiet names before.stores still.stores))) in
+      let after = stands here.readable in
+      record {
+        history = lived.history;
+        is = lived.is;
+        images = record {
+          now = after.now;
+          told_is = after.told_is;
+          is_so = λ image bytes is are.
+              let same = after.is_so.same_names image is in
+              let place = after.is_so.stands image bytes is (subst (λ names. AreStoreImages (stores_named names after.now.stores) bytes) same are) in
+              let stand = place.files here.fits in
+              record {
+                readable = place.header.readable;
+                names_are = same ∙ read ∙ here.names_are;
+                fits = stand.fits;
+                kept = here.kept;
+                of_trace = here.of_trace;
+                own_lines = here.own_lines;
+                files = stand.recovers ∙ here.files;
+              };
+        };
+      }
+
+-- ---- what a recovery leaves that was finished
+
+module _ (stand_so : ReadableStandsForRecovered) (was : Holding) (page entries next : ℕ) (names : List (List ℕ)) (found : recover.Recovered) (now : List Part) (held : List Store)
+    (recovered_so : IsRecovered was.parts page entries names next found) (rest : IsAtRest version_1 page entries names next now) (files_are : files_of held ≡ files_named was.parts names was.stores) (quiet : AreQuietStores held)
+    (distinct : AreDistinct (names_of was.stores)) (long : length names ≡ length held) (differ : (i j : ℕ) → i < j → j < length names → slice_index_or names i [] ≢ slice_index_or names j []) where
+  abbrev back : Holding
+  back = record { parts = now; stores = without_stores names was.stores ++ named_stores names held }
+
+  abbrev first : Image
+  first = row_words was.parts
+
+  pub recovered_stands : HasHeader was.parts → StandsAsBefore was back
+  recovered_stands readable =
+      let same : names ≡ header_names was.parts = recovered_so.names_are in
+      let read = names_read was.parts in
+      let there : stores_named (header_names was.parts) back.stores ≡ held = subst (λ names. stores_named names back.stores ≡ held) same (back_again names was.stores held distinct long differ) in
+      record {
+        same_names = λ image is. (rest.empty image is).header.names_are ∙ same;
+        stands = λ image bytes is are.
+            let empty = rest.empty image is in
+            let none = empty_none page entries names next image empty in
+            let base = files_of (stores_named (header_names was.parts) was.stores) in
+            record {
+              header = record {
+                readable = empty.header.readable;
+                page = empty.header.page_is ∙ recovered_so.page_is;
+                entries = empty.header.entries_is ∙ recovered_so.entries_is;
+                names = empty.header.names_are ∙ same ∙ read;
+              };
+              log = inr (λ files.
+                  subst (λ (n : ℕ). HasEmptyLog version_1 n (header_of first).entries (first_names version_1 first (header_of first).files) (recovered first files).next image) recovered_so.page_is
+                  (subst (λ (n : ℕ). HasEmptyLog version_1 page n (first_names version_1 first (header_of first).files) (recovered first files).next image) recovered_so.entries_is
+                  (subst (λ (names : List (List ℕ)). HasEmptyLog version_1 page entries names (recovered first files).next image) (same ∙ read)
+                  (subst (λ (n : ℕ). HasEmptyLog version_1 page entries names n image) (recovered_so.next_is ∙ recovered_so.log.next files) empty))));
+              files = λ fits. record {
+                fits = empty_fits version_1 image none;
+                recovers =
+                    empty_recovered image bytes none ∙ quiet_image held bytes quiet (subst (λ stores. AreStoreImages stores bytes) there are) ∙ files_are
+                    ∙ ap (λ names. files_named was.parts names was.stores) same ∙ stand_so version_1 version_1.header_lines first base readable;
+              };
+            };
+      }
+
+-- ---- where nothing was run
+
+same_first : {S : Type 0} (a b : S) (past other : List S) → a ∷ past ≡ b ∷ other → a ≡ b
+same_first a b past other is = cc
+
+same_states : {S : Type 0} (row : List (List S)) (one other : List S) → AreNow row one → AreNow row other → one ≡ other
+same_states [] [] [] a b = refl
+same_states [] [] (y ∷ other) a b = absurd b
+same_states [] (x ∷ one) other a b = absurd a
+same_states (history ∷ row) [] other a b = absurd a
+same_states (history ∷ row) (x ∷ one) [] a b = absurd b
+same_states {S} (history ∷ row) (x ∷ one) (y ∷ other) a b =
+    ap (λ (s : S). s ∷ one) (same_first x y a.0.past b.0.past (sym a.0.is ∙ b.0.is)) ∙ ap (λ (rest : List S). y ∷ rest) (same_states row one other a.1 b.1)
+
+pub rest_lives : {X Y : Type 0} (history : X → lines.PartHistory) (held : Y → stores.StoreHistory) (basis : Basis) (trace : Traced) (parts : List X) (backing : List Y) (states : List Part) (disks : List Store) (page entries next : ℕ)
+    → AreNow (map history parts) states → AreNow (map held backing) disks → RowTells (map history parts) (IsAtRest version_1 page entries basis.names next) → AreQuietStores disks → files_of disks ≡ basis.files
+    → AreLeftSo history held basis trace parts backing
+rest_lives history held basis trace parts backing states disks page entries next are disks_are rest quiet files_are = record {
+  parts_tell = all_tell (map history parts) states are;
+  stores_tell = all_tell (map held backing) disks disks_are;
+  life = record {
+    history = [];
+    is = record { legal = tt; of_trace = λ p one. absurd one; in_order = tt };
+    images =
+        row_tells_from (map history parts) (InEachRowImage (λ image. RowTells (map held backing) (λ held. (bytes : Files) → AreStoreImages held bytes → RecoversBehind basis trace [] image bytes))) (λ these these_are image is.
+        let empty = (row_tells_at (map history parts) (IsAtRest version_1 page entries basis.names next) these these_are rest).empty image is in
+        let none = empty_none page entries basis.names next image empty in
+        row_tells_from (map held backing) (λ held. (bytes : Files) → AreStoreImages held bytes → RecoversBehind basis trace [] image bytes) (λ those those_are bytes images.
+        record {
+          readable = empty.header.readable;
+          names_are = empty.header.names_are;
+          fits = empty_fits version_1 image none;
+          kept = [];
+          of_trace = λ call one. absurd one;
+          own_lines = tt;
+          files = empty_recovered image bytes none ∙ quiet_image disks bytes quiet (subst (λ stores. AreStoreImages stores bytes) (same_states (map held backing) those disks those_are disks_are) images) ∙ files_are;
+        }));
+  };
+}
+
+-- stores that tell the same
+pub left_same : {X Y : Type 0} (history : X → lines.PartHistory) (held : Y → stores.StoreHistory) (basis : Basis) (trace : Traced) (parts was : List X) (backing before : List Y) → map history parts ≡ map history was → map held backing ≡ map held before
+    → AreLeftSo history held basis trace was before → AreLeftSo history held basis trace parts backing
+left_same history held basis trace parts was backing before same_parts same_stores left = record {
+  parts_tell = subst AllTell (sym same_parts) left.parts_tell;
+  stores_tell = subst AllTell (sym same_stores) left.stores_tell;
+  life = subst (λ row. LeaveLife basis trace row (map held backing)) (sym same_parts) (subst (λ row. LeaveLife basis trace (map history was) row) (sym same_stores) left.life);
+}
+
+-- a run of a bench of which nothing was lent
+pub still_run : (old new : BenchState) (options : RunOptions) (trace : Traced) → QuietPartHasOneImage → new ≡ with_faults new.faults old → IfSome old.told IsQuietHolding → IfSome old.told (λ was. LeavesRun options was trace new.told)
+still_run old new options trace one is quiet =
+    if_told old.told (λ was. LeavesRun options was trace new.told) (λ was told stand. inl (still_left old new was trace.names one is told quiet stand))
+
+-- ---- by the input
+
+same_trace : (one other : Traced) → Whole one ≡ Whole other → one ≡ other
+same_trace one other is = cc
+
+pub life_from : (options : RunOptions) (left : Option (List ℕ)) (old told : Option Holding) (trace : Traced) → IfSome left (λ input. ending_of forms.Run input ≡ Whole trace) → IfSome old (λ was. LeavesRun options was trace told)
+    → IfSome old (λ was. LeavesLife (Run options) left was told)
+life_from options None old told trace whole leaves = if_told old (λ was. LeavesLife (Run options) None was told) (λ was is. tt)
+life_from options (Some input) old told trace whole leaves =
+    if_told old (λ was. LeavesLife (Run options) (Some input) was told) (λ was is other ends.
+    subst (λ trace. LeavesRun options was trace told) (same_trace trace other (sym whole ∙ ends)) (told_at old (λ was. LeavesRun options was trace told) was is leaves))
+
+pub life_unopened : (options : RunOptions) (left : Option (List ℕ)) (old new : BenchState) → QuietPartHasOneImage → new ≡ with_faults new.faults old → IfSome old.told IsQuietHolding → IfSome old.told (λ was. LeavesLife (Run options) left was new.told)
+life_unopened options None old new one is quiet = if_told old.told (λ was. LeavesLife (Run options) None was new.told) (λ was told. tt)
+life_unopened options (Some input) old new one is quiet =
+    if_told old.told (λ was. LeavesLife (Run options) (Some input) was new.told) (λ was told trace ends.
+    told_at old.told (λ was. LeavesRun options was trace new.told) was told (still_run old new options trace one is quiet))
+
+pub life_unread : (command : Command) (left : Option (List ℕ)) (old new : BenchState) → QuietPartHasOneImage → new ≡ with_faults new.faults old → IfSome old.told IsQuietHolding → IfSome old.told (λ was. LeavesLife command left was new.told)
+life_unread (Run options) left old new one is quiet = life_unopened options left old new one is quiet
+life_unread Recover left old new one is quiet = if_told old.told (λ was. LeavesLife Recover left was new.told) (λ was told readable. still_stands old new was is told quiet readable)
+life_unread (Look files) left old new one is quiet = if_told old.told (λ was. LeavesLife (Look files) left was new.told) (λ was told. tt)
+life_unread (Gen load) left old new one is quiet = still_run old new load_options (generated load) one is quiet

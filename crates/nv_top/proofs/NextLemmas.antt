@@ -1,0 +1,146 @@
+-- Next commands: by what each leaves of a bench.
+use Rattle.std.proofs.Common.{◌≡◌, ℕ, ◌+◌, ◌<◌, ◌≤◌, ◌==◌, ◌^◌, slice_index_or, All, Bool, true, false, List, [], ◌∷◌, ◌++◌, Option, Some, None, inl, inr, refl, sym, ap, subst, ◌∙◌, arith}
+use Rattle.std.specs.Prelude.{IfSome}
+use Rattle.std.proofs.lemmas.List.Elements.{All-nil, All-cons, All-head, All-tail, All-append}
+use Rattle.nv_plain.specs.Files.{Files}
+use Rattle.nv_plain.specs.Recovered.{next_after, recovered}
+use Rattle.nv_pmem.specs.Rows.{row_words}
+use Rattle.nv_pmem.proofs.ImageLaws.{image_of_now}
+use Rattle.nv_pmem.specs.declared.picker.Pick.{Pick}
+use Rattle.nv_bench.specs.Opening.{is_blank}
+use Rattle.nv_open.specs.Adding.{all_names}
+use Rattle.nv_open.proofs.Stands.{names_read}
+use Rattle.nv_recover.proofs.AlikeLaws.{no_commit}
+use Rattle.nv_recover.proofs.EmptyLaws.{empty_none}
+use Rattle.nv_store.specs.Store.{IsQuietStore, Store}
+use Rattle.nv_bench.specs.Benches.{BenchState}
+use Rattle.nv_bench.specs.Holding.{Holding, IsQuietHolding, NamedStore, named_stores}
+use Rattle.nv_open.specs.Lending.{stores_named, without_stores}
+use Rattle.nv_open.specs.Looking.{names_until, told_by}
+use Rattle.nv_open.proofs.Homes.{kept_in_all}
+use Rattle.nv_open.proofs.Returns.{named_quiet}
+use Rattle.nv_recover.specs.Standing.{AreQuietStores}
+use Rattle.nv_top.specs.Commands.{IsGivenBack, IsLookedAt}
+use Rattle.nv_top.specs.Headline.{IsLeftAfter, IsShown, IsShownOf, expected_faults}
+use Rattle.nv_top.specs.Leaving.{Leaves}
+use Rattle.nv_top.specs.NextCommands.{IsReady, NextBeginsBehind, NextIsReady}
+use Rattle.nv_top.specs.Stopping.{IsPoweredBack, RestsWith}
+use Rattle.nv_top.specs.declared.words.Command.TheVariants.{Run, Recover, Look, Gen}
+use Rattle.nv_top.proofs.CommandLemmas.{told_at}
+use Rattle.nv_trace.specs.Traced.{Traced}
+
+abbrev Still : List NamedStore → Type 0
+Still stores = All (λ (named : NamedStore). IsQuietStore named.store) stores
+
+named_still : (names : List (List ℕ)) (disks : List Store) → AreQuietStores disks → Still (named_stores names disks)
+named_still [] disks quiet = All-nil (λ (named : NamedStore). IsQuietStore named.store)
+named_still (name ∷ names) [] quiet = All-nil (λ (named : NamedStore). IsQuietStore named.store)
+named_still (name ∷ names) (store ∷ disks) quiet =
+    All-cons (λ (named : NamedStore). IsQuietStore named.store) (record { name = name; store = store }) (named_stores names disks) (All-head IsQuietStore store disks quiet)
+    (named_still names disks (All-tail IsQuietStore store disks quiet))
+
+both_still : (others : List NamedStore) (names : List (List ℕ)) (disks : List Store) (stores : List NamedStore) → stores ≡ others ++ named_stores names disks → Still others → AreQuietStores disks → Still stores
+both_still others names disks stores are still quiet =
+    subst Still (sym are) (All-append (λ (named : NamedStore). IsQuietStore named.store) others (named_stores names disks) still (named_still names disks quiet))
+
+told_quiet : (told : Option Holding) (now : Holding) → told ≡ Some now → IsQuietHolding now → IfSome told IsQuietHolding
+told_quiet told now is quiet = subst (λ (one : Option Holding). IfSome one IsQuietHolding) (sym is) quiet
+
+left_quiet : {want : _} {names : List (List ℕ)} {files : _} {was : Holding} {told : Option Holding} → IsQuietHolding was → Leaves want names files was told → IfSome told IsQuietHolding
+left_quiet {want} {names} {files} {was} {told} quiet leaves =
+    told_quiet told leaves.now leaves.told_is (record {
+      parts = leaves.left.rest.quiet;
+      stores = both_still (without_stores names was.stores) names leaves.left.disks leaves.now.stores leaves.left.stores_are
+          (kept_in_all (λ (named : NamedStore). IsQuietStore named.store) names was.stores quiet.stores) leaves.left.synced;
+    })
+
+rests_quiet : {names : List (List ℕ)} {files : _} {told : Option Holding} → RestsWith names files told → IfSome told IsQuietHolding
+rests_quiet {names} {files} {told} rests =
+    told_quiet told rests.now rests.told_is (record { parts = rests.rest.quiet; stores = both_still rests.others names rests.disks rests.now.stores rests.stores_are rests.still rests.synced })
+
+module _ (old new : BenchState) (holding : Holding) (ready : IsReady old) (told : old.told ≡ Some holding) (room : old.arms + 1 < 2 ^ 63) (counts : new.faults ≡ expected_faults old new) where
+  was_quiet : IsQuietHolding holding
+  was_quiet = told_at old.told IsQuietHolding holding told ready.quiet
+
+  settled_low : new.settled ≤ new.faults
+  settled_low = omega (arith, counts)
+
+  given_ready : IsGivenBack old new → IfSome new.told IsQuietHolding → IsReady new
+  given_ready back quiet = record {
+    closed = ap (λ (s : BenchState). s.is_open) back ∙ ready.closed;
+    home = ap (λ (s : BenchState). s.lent) back ∙ ready.home;
+    quiet = quiet;
+    arms = (let same = ap (λ (s : BenchState). s.arms) back in omega (arith, same, room));
+    settled = settled_low;
+  }
+
+  powered_ready : (k : ℕ) → IsPoweredBack k old new → IfSome new.told IsQuietHolding → IsReady new
+  powered_ready k back quiet = record {
+    closed = ap (λ (s : BenchState). s.is_open) back;
+    home = ap (λ (s : BenchState). s.lent) back;
+    quiet = quiet;
+    arms = (let same = ap (λ (s : BenchState). s.arms) back in omega (arith, same, room));
+    settled = settled_low;
+  }
+
+  look_ready : (files : Bool) → IsLookedAt files old new → IsReady new
+  look_ready false left = record {
+    closed = ap (λ (s : BenchState). s.is_open) left ∙ ready.closed;
+    home = ap (λ (s : BenchState). s.lent) left ∙ ready.home;
+    quiet = subst (λ (one : Option Holding). IfSome one IsQuietHolding) (sym (ap (λ (s : BenchState). s.told) left)) ready.quiet;
+    arms = (let same = ap (λ (s : BenchState). s.arms) left in omega (arith, same, room));
+    settled = settled_low;
+  }
+  look_ready true left =
+      let names = names_until left.1.0 holding.parts in
+      let given = stores_named names holding.stores in
+      let now : Holding = record { parts = holding.parts; stores = without_stores names holding.stores ++ named_stores names given } in
+      given_ready left.0
+      (told_quiet new.told now (left.1.1 ∙ ap (told_by (names_until left.1.0)) told)
+      (record {
+        parts = was_quiet.parts;
+        stores = both_still (without_stores names holding.stores) names given now.stores refl (kept_in_all (λ (named : NamedStore). IsQuietStore named.store) names holding.stores was_quiet.stores)
+            (named_quiet names holding.stores was_quiet.stores);
+      }))
+
+run_quiet : (stop : Option ℕ) (options : _) (old new : BenchState) (holding : Holding) (trace : Traced) (text : List ℕ) → IsQuietHolding holding → IsShownOf stop options old new holding trace text → IfSome new.told IsQuietHolding
+run_quiet None options old new holding trace text quiet shown = left_quiet quiet shown.left
+run_quiet (Some k) options old new holding trace text quiet shown = rests_quiet shown.stopped.rests
+
+run_ready : (stop : Option ℕ) (pick : Pick) (old new : BenchState) (holding : Holding) → IsReady old → old.told ≡ Some holding → old.arms + 1 < 2 ^ 63 → new.faults ≡ expected_faults old new → IsLeftAfter stop pick old new → IfSome new.told IsQuietHolding → IsReady new
+run_ready None pick old new holding ready told room counts left quiet = given_ready old new holding ready told room counts left quiet
+run_ready (Some k) pick old new holding ready told room counts (inl left, picked) quiet = powered_ready old new holding ready told room counts k left quiet
+run_ready (Some k) pick old new holding ready told room counts (inr left, picked) quiet = given_ready old new holding ready told room counts left quiet
+
+pub next_is_ready : NextIsReady
+next_is_ready (Run options) input old new holding text ready told room has left counts shown =
+    let Shown : Option (List ℕ) → Type 0 = λ input. IsShown (Run options) input old new holding text in
+    let report = subst Shown has.1 shown in
+    run_ready options.stop options.image old new holding ready told room counts left
+    (run_quiet options.stop options old new holding report.0 text (told_at old.told IsQuietHolding holding told ready.quiet) report.2)
+next_is_ready Recover input old new holding text ready told room has left counts shown =
+    given_ready old new holding ready told room counts left (left_quiet (told_at old.told IsQuietHolding holding told ready.quiet) shown.left)
+next_is_ready (Look files) input old new holding text ready told room has left counts shown = look_ready old new holding ready told room counts files left
+next_is_ready (Gen load) input old new holding text ready told room has left counts shown =
+    given_ready old new holding ready told room counts left (left_quiet (told_at old.told IsQuietHolding holding told ready.quiet) shown.ran.left)
+
+-- ---- where the next run begins
+
+pub next_begins_behind : NextBeginsBehind
+next_begins_behind show options later holding told trace text ran wanted basis second =
+    let now = ran.left.now in
+    let left = ran.left.left in
+    let image = row_words now.parts in
+    let empty = left.rest.empty image (record { each = λ i. image_of_now (slice_index_or now.parts i []) }) in
+    let none = empty_none left.page left.entries ran.basis.names left.next image empty in
+    let blank : is_blank now.parts ≡ false = ap (λ (magic : ℕ). magic == 0) empty.header.readable.fields.magic in
+    let kept = (second.begun.kept blank).recovered in
+    let files : Files = record { contents = [] } in
+    let known : second.known ≡ ran.basis.names = kept.names_are ∙ names_read now.parts ∙ empty.header.names_are in
+    let goes_on : (recovered image files).next ≡ left.next = ap (next_after image) (no_commit image none) ∙ empty.header.tail_is in
+    record {
+      page = kept.page_is ∙ empty.header.page_is ∙ ran.page_is;
+      entries = kept.entries_is ∙ empty.header.entries_is ∙ ran.entries_is;
+      names = second.names_are ∙ ap (λ known. all_names known wanted) known;
+      next = kept.next_is ∙ kept.log.next files ∙ goes_on ∙ ran.next_is;
+    }

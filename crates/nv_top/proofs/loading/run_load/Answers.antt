@@ -1,0 +1,49 @@
+use Rattle.std.proofs.Common.{List, ℕ, ap, refl, subst}
+use Rattle.std.specs.Prelude.{IfOk, IfSome}
+use Rattle.std.proofs.lemmas.Result.{IfOk-weaker}
+use Rattle.nv_trace.specs.Traced.{Traced}
+use Rattle.nv_load.specs.Generated.{generated}
+use Rattle.nv_top.specs.Commands.{HasRunOn, IsNotRun}
+use Rattle.nv_top.specs.Lives.{LeavesRun}
+use Rattle.nv_top.specs.Loads.{HasGenerated, load_options}
+use Rattle.nv_top.specs.declared.show.Show.TheVariants.{Summary}
+use Rattle.nv_top.specs.declared.words.RunOptions.{RunOptions}
+use Rattle.nv_top.proofs.CommandLemmas.{if_told, told_at}
+use Rattle.nv_top.proofs.LifeLemmas.{still_run}
+use Rattle.nv_top.proofs.LoadLemmas.{generated_so}
+use Rattle.nv_top.proofs.loading.run_load.Goals as goal
+
+pub returns-clause-ran : goal.returns-clause-ran
+returns-clause-ran g c =
+    let old = g.T.Bench.state c.args.bench.now in
+    let new = g.T.Bench.state c.run.new.bench in
+    let load = c.args.load in
+    let Ran : RunOptions → Traced → Type 0 = λ options trace. IfOk c.run.result (λ text. IfSome old.told (λ holding. HasRunOn (Summary load) options holding new.told trace text.items)) in
+    let ran : Ran load_options (generated load) = subst (Ran load_options) c.in_ok-trace.ensures.trace (subst (λ (options : RunOptions). Ran options c.in_ok-trace.trace) c.options.ensures c.run.ensures.ran) in
+    IfOk-weaker c.run.result
+    (λ text. IfSome old.told (λ holding. HasRunOn (Summary load) load_options holding new.told (generated load) text.items))
+    (λ text. IfSome old.told (λ holding. HasGenerated load holding new.told text.items))
+    (λ text over.
+    if_told old.told (λ holding. HasGenerated load holding new.told text.items) (λ holding told.
+    generated_so c.fresh_summaries_are_of_the_load.ensures load holding new.told text.items c.requires.load
+    (told_at old.told (λ holding. HasRunOn (Summary load) load_options holding new.told (generated load) text.items) holding told over)))
+    ran
+
+pub returns-clause-refused : goal.returns-clause-refused
+returns-clause-refused g c why is =
+    let old = g.T.Bench.state c.args.bench.now in
+    let Refused : RunOptions → List (List ℕ) → Type 0 = λ options names. IfSome old.told (λ holding. IsNotRun options holding names why) in
+    subst (Refused load_options) (ap (λ (trace : Traced). trace.names) c.in_ok-trace.ensures.trace)
+    (subst (λ (options : RunOptions). Refused options c.in_ok-trace.trace.names) c.options.ensures (c.run.ensures.refused why is))
+
+pub returns-in_err-trace-clause-life : goal.returns-in_err-trace-clause-life
+returns-in_err-trace-clause-life g c =
+    let old = g.T.Bench.state c.args.bench.now in
+    still_run old old load_options (generated c.args.load) c.images_follow_calls.ensures.quiet refl c.requires.quiet
+
+pub returns-clause-life : goal.returns-clause-life
+returns-clause-life g c =
+    let old = g.T.Bench.state c.args.bench.now in
+    let new = g.T.Bench.state c.run.new.bench in
+    let Left : RunOptions → Traced → Type 0 = λ options trace. IfSome old.told (λ was. LeavesRun options was trace new.told) in
+    subst (Left load_options) c.in_ok-trace.ensures.trace (subst (λ (options : RunOptions). Left options c.in_ok-trace.trace) c.options.ensures c.run.ensures.life)

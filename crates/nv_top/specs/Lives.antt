@@ -1,0 +1,49 @@
+-- Lives: what a command leaves of a bench, whatever it was ended by.
+use Rattle.std.specs.Prelude.{◌≡◌, ◌⊎◌, ℕ, List, map, Option, IfSome}
+use Rattle.nv_pmem.specs.Steps as lines
+use Rattle.nv_store.specs.Steps as stores
+use Rattle.nv_bench.specs.Holding.{Holding}
+use Rattle.nv_open.specs.Unopened.{HasHeader, InEachImage, StandForFiles, StandsAsBefore, StandsWithSome, TellsOf}
+use Rattle.nv_recover.specs.Telling.{AllTell}
+use Rattle.nv_runner.specs.Faithful.{Basis}
+use Rattle.nv_runner.specs.Histories.{PlacedCall}
+use Rattle.nv_runner.specs.Lives.{IsHistoryOf, LeaveLife, RecoversBehind}
+use Rattle.nv_load.specs.Generated.{generated}
+use Rattle.nv_trace.specs.Reading.{ending_of, Whole}
+use Rattle.nv_trace.specs.declared.trace.Form.TheVariants as forms
+use Rattle.nv_trace.specs.Traced.{Traced}
+use Rattle.nv_top.specs.Commands.{IsBasis}
+use Rattle.nv_top.specs.Loads.{load_options}
+use Rattle.nv_top.specs.declared.words.Command.{Command}
+use Rattle.nv_top.specs.declared.words.Command.TheVariants.{Run, Recover, Look, Gen}
+use Rattle.nv_top.specs.declared.words.RunOptions.{RunOptions}
+
+-- Calls of a trace were made from a basis: some of them have their place, in a legal history, and whatever a power failure leaves of what the bench tells recovers to the files after it and then some others,
+-- each whole.
+pub record HasLived (basis : Basis) (trace : Traced) (told : Option Holding) : Type 0 where
+  pub history : List PlacedCall
+  pub is : IsHistoryOf basis trace history
+  pub images : TellsOf (InEachImage (RecoversBehind basis trace history)) told
+
+-- They were made from what the bench had held.
+pub record HasLivedOn (options : RunOptions) (was : Holding) (trace : Traced) (told : Option Holding) : Type 0 where
+  pub basis : Basis
+  pub begun : IsBasis options was trace.names basis
+  pub lived : HasLived basis trace told
+
+-- What a run of a trace leaves of a bench that stood for files: no call has its place, and it stands for those, with the new stores' files maybe; or calls were made.
+abbrev pub LeavesRun : RunOptions → (was : Holding) → Traced → (told : Option Holding) → Type 0
+LeavesRun options was trace told = StandForFiles was.parts → TellsOf (InEachImage (StandsWithSome was trace.names)) told ⊎ HasLivedOn options was trace told
+
+-- What a command leaves of a bench that had an input, and held this: a recovery can be made again, and comes to the same; and of a look its frame says all.
+abbrev pub LeavesLife : Command → (input : Option (List ℕ)) → (was : Holding) → (told : Option Holding) → Type 0
+LeavesLife (Run options) input was told = IfSome input (λ input. (trace : Traced) → ending_of forms.Run input ≡ Whole trace → LeavesRun options was trace told)
+LeavesLife Recover input was told = HasHeader was.parts → TellsOf (StandsAsBefore was) told
+LeavesLife (Look files) input was told = Unit {0}
+LeavesLife (Gen load) input was told = LeavesRun load_options was (generated load) told
+
+-- Parts and stores tell, and were left so by a run of a trace from a basis.
+pub record AreLeftSo {X Y : Type 0} (history : X → lines.PartHistory) (held : Y → stores.StoreHistory) (basis : Basis) (trace : Traced) (parts : List X) (backing : List Y) : Type 0 where
+  pub parts_tell : AllTell (map history parts)
+  pub stores_tell : AllTell (map held backing)
+  pub life : LeaveLife basis trace (map history parts) (map held backing)
