@@ -1,0 +1,72 @@
+-- Hands: a try goes on as its machine does.
+use Rattle.std.proofs.Common.{◌≡◌, List, [], ◌++◌, length, ℕ, sym, ap, subst, ◌∙◌, arith}
+use Rattle.std.proofs.lemmas.Grind.{common_steps}
+use Rattle.std.specs.Prelude.{drop, take}
+use Rattle.nv_table.specs.state.States.{PassState}
+use Rattle.nv_mount.specs.declared.fds.Fd.{Fd}
+use Rattle.nv_calls.specs.declared.progress.Progress.{Progress}
+use Rattle.nv_calls.specs.declared.progress.Progress.TheVariants.{More, Ended}
+use Rattle.nv_calls.specs.declared.syncing.SyncMachine.{SyncMachine}
+use Rattle.nv_calls.specs.declared.writing.WriteMachine.{WriteMachine}
+use Rattle.nv_calls.specs.fsync.SyncMachines.{SyncGoes}
+use Rattle.nv_calls.specs.reads.ReadMachines.{IsSameRead, ReadGoes}
+use Rattle.nv_calls.specs.writes.WriteMachines.{IsSameWrite, WriteGoes}
+use Rattle.nv_trace.specs.declared.trace_call.TraceCall.{TraceCall}
+use Rattle.nv_trace.specs.declared.trace_call.TraceCall.TheVariants.{Pread, Pwrite, Fsync}
+use Rattle.nv_schedule.specs.declared.hand.ReadAtHand.{ReadAtHand}
+use Rattle.nv_schedule.specs.declared.hand.Hand.TheVariants.{Reading, Writing, Syncing}
+use Rattle.nv_schedule.specs.Hands.{IsTrying, TryGoes}
+use Rattle.nv_schedule.specs.Tries.{IsTryOver}
+
+-- ---- a read
+
+module _ (fds : List Fd) (call : TraceCall) (old new : ReadAtHand) (begun pass now : PassState) (same : IsSameRead old.machine new.machine) (size : length new.list.items ≡ length old.list.items)
+    (trying : IsTrying fds call (Reading old) begun pass) where
+  read_call : call ≡ Pread new.machine.fd new.machine.at new.machine.len
+  read_call =
+      trying.0
+      ∙ ap (λ fd. Pread fd old.machine.at old.machine.len) (sym same.fd)
+      ∙ ap (λ at. Pread new.machine.fd at old.machine.len) (sym same.at)
+      ∙ ap (λ len. Pread new.machine.fd new.machine.at len) (sym same.len)
+
+  pub read_goes : (progress : Progress) → ReadGoes fds begun new.machine new.list.items now progress → TryGoes fds call (Reading new) begun now progress
+  read_goes More way = (read_call, way)
+  read_goes (Ended result) over =
+      subst (λ c. IsTryOver fds c new.list.items begun now result) (sym read_call)
+      (size ∙ trying.1.size ∙ sym same.len, over.2)
+
+-- ---- a write
+
+-- what a write writes
+abbrev pub bytes_in : TraceCall → List ℕ
+bytes_in (Pwrite fd at bytes) = bytes
+bytes_in call = []
+
+pub same_bytes : (call : TraceCall) (fd at other_fd other_at : ℕ) (bytes others list : List ℕ) → call ≡ Pwrite fd at bytes → call ≡ Pwrite other_fd other_at others → list ≡ others → bytes ≡ list
+same_bytes call fd at other_fd other_at bytes others list is is_too same = sym (ap bytes_in is) ∙ ap bytes_in is_too ∙ sym same
+
+module _ (fds : List Fd) (call : TraceCall) (old new : WriteMachine) (begun pass now : PassState) (same : IsSameWrite old new) (trying : IsTrying fds call (Writing old) begun pass) where
+  write_call : call ≡ Pwrite new.fd new.at trying.0
+  write_call =
+      trying.1
+      ∙ ap (λ fd. Pwrite fd old.at trying.0) (sym same.fd)
+      ∙ ap (λ at. Pwrite new.fd at trying.0) (sym same.at)
+
+  pub write_goes : (progress : Progress) → WriteGoes fds begun new trying.0 now progress → TryGoes fds call (Writing new) begun now progress
+  write_goes More way = (trying.0, write_call, way)
+  write_goes (Ended result) over = subst (λ c. IsTryOver fds c [] begun now result) (sym write_call) over.2
+
+-- ---- a sync
+
+module _ (fds : List Fd) (call : TraceCall) (old new : SyncMachine) (begun pass now : PassState) (same : new.fd ≡ old.fd) (trying : IsTrying fds call (Syncing old) begun pass) where
+  sync_call : call ≡ Fsync new.fd
+  sync_call = trying.0 ∙ ap Fsync (sym same)
+
+  pub sync_goes : (progress : Progress) → SyncGoes fds begun new now progress → TryGoes fds call (Syncing new) begun now progress
+  sync_goes More way = (sync_call, way)
+  sync_goes (Ended result) over = subst (λ c. IsTryOver fds c [] begun now result) (sym sync_call) over.1
+
+-- ---- a list that is written through a slice of all of it
+
+pub laid_whole : (len : ℕ) (old new : List ℕ) → len ≡ length old → length new ≡ length old → take len (new ++ drop (length new) old) ≡ new
+laid_whole len old new is same = grind (arith, common_steps)

@@ -1,0 +1,12 @@
+mod BatchLaws
+mod BehindLaws
+mod DeedLaws
+mod FollowLaws
+mod FreshLaws
+mod GrowLaws
+mod HandLaws
+mod OrderLaws
+mod RanLaws
+mod ThreadLaws
+mod TurnLaws
+mod WayLaws

@@ -1,0 +1,41 @@
+-- Ran: fresh callers stand, and what follows a schedule between two views stands in the second one.
+use Rattle.std.proofs.Common.{◌≡◌, ℕ, List, [], ◌++◌, length, map, refl, arith}
+use Rattle.std.proofs.lemmas.Grind.{common_steps}
+use Rattle.std.specs.Prelude.{All, Result, Ok, Err, drop, slice_index_or, take}
+use Rattle.nv_core.specs.steps.Events.{Event}
+use Rattle.nv_mount.specs.Mounts.{MountState}
+use Rattle.nv_table.specs.state.States.{PassState}
+use Rattle.nv_runner.specs.Workers.{IsZero}
+use Rattle.nv_trace.specs.declared.trace_call.TracedCall.{TracedCall}
+use Rattle.nv_table.specs.passes.PassesMade.{imported_by}
+use Rattle.nv_schedule.specs.Following.{ScheduleTells, Stands}
+use Rattle.nv_schedule.specs.Fresh.{AreFresh, works_of}
+use Rattle.nv_schedule.specs.Ran.{RunTells}
+use Rattle.nv_schedule.specs.Turns.{CallerState}
+use Rattle.nv_schedule.specs.declared.schedule_error.ScheduleError.{ScheduleError}
+use Rattle.nv_schedule.specs.declared.schedule_error.ScheduleError.TheVariants.{NoMemory, TurnsUsed}
+use Rattle.nv_trace.specs.declared.token.Token.{Token}
+
+pub fresh_stand : (mount : MountState) (callers : List CallerState) → AreFresh mount callers → All (Stands mount) callers
+fresh_stand mount callers fresh i d less = let one = fresh i d less in (one.board, (slice_index_or callers i d).pass, one.come)
+
+pub run_tells : (mount : MountState) (tokens : List Token) (calls : List TracedCall) (batch : ℕ) (first then_ : List CallerState) (zero : PassState) (view after : List Event) (done : Result (Unit {0}) ScheduleError)
+    → AreFresh mount first → map (λ (caller : CallerState). caller.work) first ≡ works_of calls batch → ScheduleTells mount.fds tokens first then_ view after done
+    → RunTells mount tokens calls batch then_ (imported_by zero after) done
+run_tells mount tokens calls batch first then_ zero view after (Ok done) fresh works tells =
+    record { first = first; fresh = fresh; works = works; trail = tells.0; ran = tells.1; view = after; stands = tells.2 [] tt; before = zero.view.told; told = refl }
+run_tells mount tokens calls batch first then_ zero view after (Err TurnsUsed) fresh works tells =
+    record { first = first; fresh = fresh; works = works; trail = tells.0; ran = tells.1; view = after; stands = tells.2 [] tt; before = zero.view.told; told = refl }
+run_tells mount tokens calls batch first then_ zero view after (Err NoMemory) fresh works tells = tt
+
+-- pass 0 is as it was, but for what it was told
+pub zero_told : (mount : MountState) (zero : PassState) (view : List Event) → IsZero mount zero → IsZero mount (imported_by zero view)
+zero_told mount zero view is = record {
+  board = record { same_table = is.board.same_table; same_mount = is.board.same_mount };
+  number = is.number;
+  idle = record { control = is.idle.control; owned = is.idle.owned; left = is.idle.left; nothing = is.idle.nothing; taken = is.idle.taken };
+}
+
+-- a list that is written through a slice of all of it
+pub written_whole : {T : Type 0} (len : ℕ) (old new : List T) → len ≡ length old → length new ≡ length old → take len (new ++ drop (length new) old) ≡ new
+written_whole len old new is same = grind (arith, common_steps)

@@ -1,0 +1,17 @@
+-- One that is under way stays so, and a new one begins.
+use Rattle.std.proofs.Common.{sym, ap, subst, ◌∙◌}
+use Rattle.std.specs.Prelude.{Option, Some}
+use Rattle.nv_clean.specs.Cleaning.{CleanState}
+use Rattle.nv_schedule.specs.Callers.{BatchState, CleanerHasCome}
+use Rattle.nv_schedule.proofs.BatchLaws.{batch_taken_up, new_machine}
+use Rattle.nv_schedule.proofs.batches.Batches.take_up.Goals as goal
+use Rattle.nv_schedule.proofs.batches.Batches.take_up.Goals.{in-Some, in-None}
+
+pub returns-clause-come : goal.returns-clause-come
+returns-clause-come c = λ start now come.
+    let was : Option CleanState → Type 0 = λ m. CleanerHasCome (record { most = c.args.self.now.most; machine = m }) start now in
+    let come_so : was c.take.result = subst was (ap (λ (b : BatchState). b.machine) (sym c.self.view_is) ∙ sym c.take.ensures.value) come in
+    elim c.match-take.branch [
+      | in-Some w ↦ subst was (w.in-Some.is ∙ ap Some (sym w.result-is)) come_so
+      | in-None w ↦ batch_taken_up c.args.self.now.most start now c.match-take.result (w.result-is ∙ w.new.ensures ∙ ap (λ (b : BatchState). new_machine b.most) c.self.view_is) (subst was w.in-None.is come_so)
+    ]

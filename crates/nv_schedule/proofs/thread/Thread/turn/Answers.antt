@@ -1,0 +1,72 @@
+-- Its present call goes on, or is answered and the next one is present.
+use Rattle.std.proofs.Common.{◌≡◌, ◌∷◌, ◌++◌, [], drop, sym, ap, subst, ◌∙◌, rules}
+use Rattle.std.specs.Prelude.{Option}
+use Rattle.std.proofs.lemmas.List.{map-append}
+use Rattle.nv_runner.specs.Lists.{made_call, made_calls}
+use Rattle.nv_runner.specs.Shifts.{calls_of_thread}
+use Rattle.nv_schedule.specs.declared.hand.Hand.{Hand}
+use Rattle.nv_schedule.specs.Callers.{CallGoes, IsAtCall, ThreadState}
+use Rattle.nv_schedule.proofs.ThreadLaws.{at_present, come_on, come_past, own_first, rest_whole}
+use Rattle.nv_schedule.proofs.thread.Thread.turn.Goals as goal
+
+pub advance_call-requires-clause-at : goal.advance_call-requires-clause-at
+advance_call-requires-clause-at g c =
+    let calls = c.self.inside.left.now in
+    let is : calls ≡ c.call-item.result ∷ drop 1 calls = search rules in
+    let present : c.args.self.now.left ≡ c.call-item.result ∷ calls_of_thread c.self.inside.number (drop 1 calls) =
+    ap (λ (t : ThreadState). t.left) (sym c.self.view_is) ∙ own_first c.self.inside.number calls c.call-item.result (drop 1 calls) c.self.invariant is in
+    let come = c.requires.come.1 in (
+      calls_of_thread c.self.inside.number (drop 1 calls),
+      come.last,
+      subst (λ (hand : Option Hand). IsAtCall c.args.mount.now.fds (c.call-item.result ∷ calls_of_thread c.self.inside.number (drop 1 calls)) hand come.last c.args.pass.now) (ap (λ (t : ThreadState). t.hand) (sym c.self.view_is))
+          (at_present c.args.mount.now.fds c.args.self.now c.args.self.now c.call-item.result (calls_of_thread c.self.inside.number (drop 1 calls)) c.requires.come.0 c.args.pass.now c.args.pass.now present come.last come.at),
+    )
+
+pub returns-in-None-clause-come : goal.returns-in-None-clause-come
+returns-in-None-clause-come g c = λ start come.
+    let fds = c.args.mount.now.fds in
+    let old = c.args.self.now in
+    let calls = c.self.inside.left.now in
+    let call = c.call-item.result in
+    let is : calls ≡ call ∷ drop 1 calls = search rules in
+    let new : ThreadState = record { left = calls_of_thread c.self.inside.number calls; hand = c.advance_call.new.hand; made = made_calls c.reserve.new.self.items } in
+    come_on fds old new call (calls_of_thread c.self.inside.number (drop 1 calls)) start c.args.pass.now c.advance_call.new.pass
+    (ap (λ (t : ThreadState). t.left) (sym c.self.view_is) ∙ own_first c.self.inside.number calls call (drop 1 calls) c.self.invariant is)
+    (ap (λ (t : ThreadState). t.left) c.self.view_is)
+    (ap made_calls c.reserve.ensures.items ∙ ap (λ (t : ThreadState). t.made) c.self.view_is)
+    (λ after last at.
+    subst (CallGoes fds call after c.advance_call.new.hand last c.advance_call.new.pass) c.in-None.is
+    (c.in_ok-advance_call.ensures.goes after last
+    (subst (λ (hand : Option Hand). IsAtCall fds (call ∷ after) hand last c.args.pass.now) (ap (λ (t : ThreadState). t.hand) (sym c.self.view_is)) at)))
+    come
+
+pub returns-in-Some-clause-ends : goal.returns-in-Some-clause-ends
+returns-in-Some-clause-ends g c =
+    let calls = c.self.inside.left.now in
+    let call = c.call-item.result in
+    let is : calls ≡ call ∷ drop 1 calls = search rules in
+    let same : calls_of_thread c.self.inside.number c.from_own-self-inside.result.now ≡ calls_of_thread c.self.inside.number (drop 1 calls) = c.from_own-self-inside.ensures.same ∙ ap (calls_of_thread c.self.inside.number) (rest_whole calls) in
+    let more : made_calls c.push_reserved.new.self.items ≡ made_calls c.reserve.new.self.items ++ record { call = call; answer = c.in-Some.answer } ∷ [] =
+    ap made_calls c.push_reserved.ensures.items ∙ map-append made_call c.reserve.new.self.items _ in (
+      record { call = call; answer = c.in-Some.answer },
+      ap (λ (t : ThreadState). t.left) (sym c.self.view_is) ∙ own_first c.self.inside.number calls call (drop 1 calls) c.self.invariant is ∙ ap (λ later. call ∷ later) (sym same),
+      more ∙ ap (λ made. made ++ record { call = call; answer = c.in-Some.answer } ∷ []) (ap made_calls c.reserve.ensures.items ∙ ap (λ (t : ThreadState). t.made) c.self.view_is),
+    )
+
+pub returns-in-Some-clause-come : goal.returns-in-Some-clause-come
+unfolding returns-in-Some-clause-ends
+returns-in-Some-clause-come g c = λ start come.
+    let fds = c.args.mount.now.fds in
+    let old = c.args.self.now in
+    let calls = c.self.inside.left.now in
+    let call = c.call-item.result in
+    let is : calls ≡ call ∷ drop 1 calls = search rules in
+    let new : ThreadState = record { left = calls_of_thread c.self.inside.number c.from_own-self-inside.result.now; hand = c.advance_call.new.hand; made = made_calls c.push_reserved.new.self.items } in
+    come_past fds old new call (calls_of_thread c.self.inside.number (drop 1 calls)) start c.args.pass.now c.advance_call.new.pass
+    (ap (λ (t : ThreadState). t.left) (sym c.self.view_is) ∙ own_first c.self.inside.number calls call (drop 1 calls) c.self.invariant is)
+    c.in-Some.answer (returns-in-Some-clause-ends g c).2
+    (λ after last at.
+    subst (CallGoes fds call after c.advance_call.new.hand last c.advance_call.new.pass) c.in-Some.is
+    (c.in_ok-advance_call.ensures.goes after last
+    (subst (λ (hand : Option Hand). IsAtCall fds (call ∷ after) hand last c.args.pass.now) (ap (λ (t : ThreadState). t.hand) (sym c.self.view_is)) at)))
+    come

@@ -1,0 +1,25 @@
+-- The tokens so far were followed.
+use Rattle.std.proofs.Common.{◌≡◌, List, [], ◌++◌, length}
+use Rattle.std.specs.Prelude.{All}
+use Rattle.nv_core.specs.steps.Events.{Event}
+use Rattle.nv_table.specs.state.Workspaces.{IsWorkspace}
+use Rattle.nv_schedule.specs.Following.{Follows, Stands}
+use Rattle.nv_schedule.specs.Orders.{ComeBehind}
+use Rattle.nv_trace.specs.declared.token.Token.{Token}
+use Rattle.nv_schedule.proofs.tokens.follow.Given as goal
+
+abbrev pub invariant-loop-rest : goal.invariant-loop-rest
+invariant-loop-rest g l = record {
+  stand : All (Stands l.mount) l.callers;
+  workspace : IsWorkspace l.mount.board.opened.sizes l.workspace;
+  bare : l.workspace.parts.items ≡ [];
+  view : l.view.table ≡ l.mount.board.table;
+  before : List Token;
+  tokens : l.fn.tokens ≡ before ++ l.rest;
+  trail : List Event;
+  follows : Follows l.mount.fds before l.initial.callers trail l.callers;
+  behind : ComeBehind trail l.initial.view.run l.view.run;
+}
+
+abbrev pub decreases-loop-rest : goal.decreases-loop-rest
+decreases-loop-rest g l = length l.rest

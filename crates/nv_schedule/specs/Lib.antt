@@ -1,0 +1,10 @@
+pub mod Callers
+pub mod Following
+pub mod Fresh
+pub mod Growing
+pub mod Hands
+pub mod Orders
+pub mod Ran
+pub mod Reaches
+pub mod Tries
+pub mod Turns

@@ -1,0 +1,51 @@
+-- Turns: one advance of a caller.
+use Rattle.std.specs.Prelude.{◌≡◌, ◌⊎◌, ℕ, Bool, List, [], Option, Some}
+use Rattle.nv_core.specs.state.Words.{Sizes}
+use Rattle.nv_core.specs.steps.Events.{Event}
+use Rattle.nv_table.specs.state.States.{PassState}
+use Rattle.nv_table.specs.steps.SeatSteps as table
+use Rattle.nv_table.specs.steps.SeatSteps.{act_of}
+use Rattle.nv_mount.specs.declared.fds.Fd.{Fd}
+use Rattle.nv_op.specs.declared.kinds.Kind.{Kind}
+use Rattle.nv_mirror.specs.PassSteps.{PassStep, HasTaken}
+use Rattle.nv_schedule.specs.Callers.{BatchEnds, CallEnds, CleanerHasCome, ThreadHasCome, kind_at_batch, next_of_calls}
+use Rattle.nv_schedule.specs.declared.caller.Work.{Work}
+use Rattle.nv_schedule.specs.declared.caller.Work.TheVariants.{Calls, Batches}
+
+-- a thread or the cleaner, with its pass
+pub record CallerState : Type 0 where
+  pub pass : PassState
+  pub work : Work
+
+-- the kind of its next step; none where it has no call left
+abbrev pub next_of_work : Sizes → Work → Option Kind
+next_of_work sizes (Calls thread) = next_of_calls sizes thread.left thread.hand
+next_of_work sizes (Batches cleaner) = Some (kind_at_batch cleaner.machine)
+
+abbrev pub next_kind_of : CallerState → Option Kind
+next_kind_of caller = next_of_work caller.pass.view.opened.sizes caller.work
+
+-- so it has come to where it is since a start
+abbrev pub HasCome : List Fd → Work → (start now : PassState) → Type 0
+HasCome fds (Calls thread) start now = ThreadHasCome fds thread start now
+HasCome fds (Batches cleaner) start now = CleanerHasCome cleaner start now
+
+-- its present call, or batch, was answered by an advance, or not
+abbrev pub WorkEnds : (answered : Bool) → (old new : Work) → Type 0
+WorkEnds answered (Calls old) (Calls new) = CallEnds answered old new
+WorkEnds answered (Batches old) (Batches new) = (new.most ≡ old.most) × BatchEnds answered new.machine
+WorkEnds answered old new = ⊥
+
+-- the events of a step: the device calls that lie before it, and the step
+abbrev pub events_of : (number : ℕ) → PassStep → List Event
+events_of number step = table.events number step.works (act_of step.opens step.op step.found)
+
+-- These are the events of an advance: those of one step, or none, where the call was refused by what it asks for.
+abbrev pub MovesBy : List Event → (old new : PassState) → Type 0
+MovesBy events old new = ((new ≡ old) × (events ≡ [])) ⊎ ((step : PassStep) × HasTaken step old new × (events ≡ events_of old.view.number step))
+
+-- One advance of a caller, by these events: what its pass is at goes on, from wherever it has come, and its call is answered or not.
+pub record HasTurned (fds : List Fd) (answered : Bool) (events : List Event) (old new : CallerState) : Type 0 where
+  pub moved : MovesBy events old.pass new.pass
+  pub ends : WorkEnds answered old.work new.work
+  pub come : (start : PassState) → HasCome fds old.work start old.pass → HasCome fds new.work start new.pass

@@ -1,0 +1,9 @@
+//! Laws of schedules that were followed.
+ghost use Rattle.nv_schedule.specs.Growing.{SchedulesGrow, TrailsAreDeeds};
+
+/// What each caller's pass has in the run grows by its own events of a schedule that the callers follow, in their order, and by nothing else; and events that stand in a run in their order, and are all
+/// deeds that each pass has in it, are its deeds, one after another, with no event between.
+pub fn schedules_are_the_deeds()
+    ensures grow { SchedulesGrow }
+    ensures deeds { TrailsAreDeeds }
+{}

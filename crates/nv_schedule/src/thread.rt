@@ -1,0 +1,241 @@
+//! A thread of a schedule: its calls, one after another.
+ghost use Rattle.std.specs.Prelude.{◌≡◌, ◌≢◌, ◌∷◌, List, [], Option, None, Some, IfOk, OnErr, OnOk, length, take};
+ghost use Rattle.nv_core.specs.state.Words.{Sizes};
+ghost use Rattle.nv_mount.specs.declared.fds.Fd.{Fd};
+ghost use Rattle.nv_table.specs.invariant.Drawn.{drawn_by};
+ghost use Rattle.nv_table.specs.invariant.Idle.{IsIdle};
+ghost use Rattle.nv_table.specs.state.States.{IsOf, PassState};
+ghost use Rattle.nv_table.specs.state.Workspaces.{IsWorkspace};
+ghost use Rattle.nv_runner.specs.Shifts.{calls_of_thread};
+ghost use Rattle.nv_trace.specs.declared.trace_call.TracedCall.{TracedCall as AnyTraced};
+ghost use Rattle.nv_schedule.specs.Callers.{CallEnds, CallGoes, IsAtCall, IsAtOwn, ThreadHasCome, next_of_calls};
+ghost use Rattle.nv_schedule.specs.Hands.{IsOneOrNoStep, kind_at_first, list_at_hand};
+ghost use Rattle.nv_schedule.specs.Tries.{answer_of, begins_anew, refused_answer, reply_to};
+
+use crate::hand::Hand;
+use nv_calls::{Done, Kind, Progress, Refusal, refused_writes_leave_words};
+use nv_mount::Mount;
+use nv_plain::{Bytes, NoMemory, Reply};
+use nv_pmem::Lines;
+use nv_runner::{Answer, AnsweredCall};
+use nv_store::Backing;
+use nv_table::{Pass, Workspace};
+use nv_trace::{TraceCall, TracedCall};
+use std::alloc::Global;
+use std::marker::Model;
+
+/// Its number; the calls of the trace from its present one on; what it has of that at hand; and what the ones before were answered.
+#[derive(Drop)]
+pub(crate) struct Thread<'a> {
+    pub(crate) number: u64,
+    pub(crate) left: &'a [TracedCall],
+    pub(crate) hand: Option<Hand>,
+    pub(crate) answered: Vec<AnsweredCall<'a>>,
+}
+
+impl<'a> Model for Thread<'a> {
+    ghost use Rattle.nv_runner.specs.Lists.{made_calls};
+    ghost use Rattle.nv_runner.specs.Shifts.{calls_of_thread};
+    ghost use Rattle.nv_schedule.specs.Callers.{IsAtOwn, ThreadState};
+
+    ghost Value = { ThreadState };
+
+    ghost view = { λ t. record { left = calls_of_thread t.number t.left.now; hand = t.hand; made = made_calls t.answered.items } };
+
+    ghost invariant = { λ t. IsAtOwn t.number t.left.now };
+}
+
+// Some calls from the first one of a thread's on.
+fn from_own(calls: &[TracedCall], number: u64) -> &[TracedCall]
+    ensures same { calls_of_thread number result.now ≡ calls_of_thread number calls.now }
+    ensures own { IsAtOwn number result.now }
+{
+    let mut rest = calls;
+    while let Some(call) = rest.first() {
+        if call.thread == number {
+            break;
+        }
+        rest = &rest[1..];
+    }
+    rest
+}
+
+// The kind of a call's first step, unless it is refused before.
+fn first_kind(call: &TraceCall) -> Kind
+    ensures { result ≡ kind_at_first call.now }
+{
+    match call {
+        TraceCall::Pread { len: 0, .. } => Kind::Load,
+        TraceCall::Pread { .. } => Kind::Take,
+        TraceCall::Pwrite { bytes, .. } if bytes.is_empty() => Kind::Load,
+        TraceCall::Pwrite { .. } => Kind::Take,
+        TraceCall::Fsync { .. } => Kind::Load,
+    }
+}
+
+// Whether a call begins anew that came to this.
+fn anew(call: &TraceCall, ended: Result<Done, Refusal>) -> bool
+    ensures { result ≡ begins_anew call.now ended }
+{
+    match (call, ended) {
+        (TraceCall::Pread { .. }, Err(Refusal::Busy { .. })) => true,
+        (TraceCall::Pwrite { .. }, Err(Refusal::Busy { .. } | Refusal::Raced { .. })) => true,
+        _ => false,
+    }
+}
+
+// The reply of a call that has its place, which left these bytes in its list.
+fn reply(call: &TraceCall, list: Vec<u8>, len: u64) -> Reply
+    ensures { result ≡ reply_to call.now list.items len }
+{
+    match call {
+        TraceCall::Pread { .. } => {
+            let mut list = list;
+            list.truncate(len as usize);
+            Reply::Bytes(Bytes::from_vec(list))
+        }
+        TraceCall::Pwrite { .. } => Reply::Count(len),
+        TraceCall::Fsync { .. } => Reply::Done,
+    }
+}
+
+// What a call without a place is answered: a write that a device fault ended is open, from the first number on that its pass has drawn.
+fn without_place(call: &TraceCall, refusal: Refusal, drawn: Option<u64>) -> Answer
+    ensures { result ≡ refused_answer call.now refusal drawn }
+{
+    match (call, refusal, drawn) {
+        (TraceCall::Pwrite { .. }, Refusal::RegionFault | Refusal::StoreFault, Some(number)) =>
+            Answer::Open { number },
+        _ => Answer::Refused(refusal),
+    }
+}
+
+// What a call is answered by its last try, which left these bytes in its list.
+fn answer(
+    call: &TraceCall,
+    list: Vec<u8>,
+    ended: Result<Done, Refusal>,
+    drawn: Option<u64>,
+) -> Answer
+    ensures { result ≡ answer_of call.now list.items ended drawn }
+{
+    match ended {
+        Ok(done) => Answer::Placed {
+            place: done.place,
+            reply: reply(call, list, done.len),
+        },
+        Err(refusal) => without_place(call, refusal, drawn),
+    }
+}
+
+impl<'a> Thread<'a> {
+    /// A thread that has made none of its calls among these.
+    pub(crate) fn new(alloc: Global, number: u64, calls: &'a [TracedCall]) -> Thread<'a>
+        ensures { result ≡ record { left = calls_of_thread number calls.now; hand = None; made = [] } }
+    {
+        Thread {
+            number,
+            left: from_own(calls, number),
+            hand: None,
+            answered: Vec::new(alloc),
+        }
+    }
+
+    /// The kind of its next step, if each device call before it ends well and its call isn't refused before; none where it has no call left.
+    pub(crate) fn next_kind(&self) -> Option<Kind>
+        ensures { (sizes : Sizes) → result ≡ next_of_calls sizes self.now.left self.now.hand }
+    {
+        let call = self.left.first()?;
+        Some(match &self.hand {
+            None => first_kind(&call.call),
+            Some(hand) => hand.next_kind(),
+        })
+    }
+
+    /// Makes the next step of its present call, which begins by it where it hasn't begun, or none where that is refused by what it asks for. Whether the call was answered by it: a read that has found a
+    /// lock held begins anew, and so does a write that has, or whose numbers another one drew. Where memory is wanting, for a read's bytes or for the answer, nothing was done.
+    pub(crate) fn turn<L: Lines + Drop, B: Backing + Drop>(
+        &mut self,
+        alloc: Global,
+        mount: &Mount<L, B>,
+        pass: &mut Pass<L, B>,
+        workspace: &mut Workspace<L, B>,
+    ) -> Result<bool, NoMemory>
+        requires some { self.old.left ≢ [] }
+        requires board { IsOf mount.now.board pass.old }
+        requires come { (start : PassState) × ThreadHasCome mount.now.fds self.old start pass.old }
+        requires workspace { IsWorkspace mount.now.board.opened.sizes workspace.old }
+        requires bare { workspace.old.parts.items ≡ [] }
+        ensures board { IsOf mount.now.board pass.new }
+        ensures moved { IsOneOrNoStep pass.old pass.new }
+        ensures ends { IfOk result (λ answered. CallEnds answered self.old self.new) }
+        ensures come { OnOk result ((start : PassState) → ThreadHasCome mount.now.fds self.old start pass.old → ThreadHasCome mount.now.fds self.new start pass.new) }
+        ensures workspace { IsWorkspace mount.now.board.opened.sizes workspace.new }
+        ensures bare { workspace.new.parts.items ≡ [] }
+        ensures memory { OnErr result ((self.new ≡ self.old) × (pass.new ≡ pass.old)) }
+    {
+        let [call, later @ ..] = self.left else {
+            unreachable!()
+        };
+        self.answered.reserve(1)?;
+        match advance_call(alloc, mount, pass, workspace, call, &mut self.hand)? {
+            None => Ok(false),
+            Some(answer) => {
+                self.answered.push_reserved(AnsweredCall { call, answer });
+                self.left = from_own(later, self.number);
+                Ok(true)
+            }
+        }
+    }
+}
+
+// Makes the next step of a call, of which this is at hand: what it is answered, where that was its last one, and it doesn't begin anew. Where memory is wanting nothing was done.
+fn advance_call<L: Lines + Drop, B: Backing + Drop>(
+    alloc: Global,
+    mount: &Mount<L, B>,
+    pass: &mut Pass<L, B>,
+    workspace: &mut Workspace<L, B>,
+    call: &TracedCall,
+    hand: &mut Option<Hand>,
+) -> Result<Option<Answer>, NoMemory>
+    requires board { IsOf mount.now.board pass.old }
+    requires at { (later : List AnyTraced) × (last : PassState) × IsAtCall mount.now.fds (call.now ∷ later) hand.old last pass.old }
+    requires workspace { IsWorkspace mount.now.board.opened.sizes workspace.old }
+    requires bare { workspace.old.parts.items ≡ [] }
+    ensures board { IsOf mount.now.board pass.new }
+    ensures moved { IsOneOrNoStep pass.old pass.new }
+    ensures goes { IfOk result (λ answer. (later : List AnyTraced) (last : PassState) → IsAtCall mount.now.fds (call.now ∷ later) hand.old last pass.old
+        → CallGoes mount.now.fds call.now later hand.new last pass.new answer) }
+    ensures workspace { IsWorkspace mount.now.board.opened.sizes workspace.new }
+    ensures bare { workspace.new.parts.items ≡ [] }
+    ensures memory { OnErr result ((hand.new ≡ hand.old) × (pass.new ≡ pass.old)) }
+{
+    refused_writes_leave_words();
+    pass.sees_a_run();
+    let mut tried = take_up(alloc, hand, call)?;
+    match tried.advance(mount, pass, workspace, &call.call) {
+        Progress::More => {
+            *hand = Some(tried);
+            Ok(None)
+        }
+        Progress::Ended(ended) => {
+            if anew(&call.call, ended) {
+                return Ok(None);
+            }
+            let list = tried.into_list(alloc);
+            Ok(Some(answer(&call.call, list, ended, pass.drawn())))
+        }
+    }
+}
+
+// What is at hand of a call, or its machine, where it hasn't begun.
+fn take_up(alloc: Global, hand: &mut Option<Hand>, call: &TracedCall) -> Result<Hand, NoMemory>
+    ensures taken { IfOk result (λ taken. (fds : List Fd) (later : List AnyTraced) (last now : PassState) → IsAtCall fds (call.now ∷ later) hand.old last now → IsAtCall fds (call.now ∷ later) (Some taken) last now) }
+    ensures none { OnOk result (hand.new ≡ None) }
+    ensures memory { OnErr result (hand.new ≡ hand.old) }
+{
+    match hand.take() {
+        Some(hand) => Ok(hand),
+        None => Hand::new(alloc, &call.call),
+    }
+}
