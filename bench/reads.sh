@@ -2,7 +2,7 @@
 # Prints lines per second and the peak memory of `nv_sim run --noworker` on a trace of 100,000 reads of 64 bytes.
 set -eu
 cd "$(dirname "$0")/../crates/nv_sim"
-rt run -- run --noworker < stdin > /dev/null 2>&1
+[ -x out/nv_sim ] || rt run -- run --noworker < stdin > /dev/null 2>&1
 python3 - "$PWD/out/nv_sim" <<'PY'
 import resource, subprocess, sys, time
 

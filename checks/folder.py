@@ -53,6 +53,30 @@ def lives(program, folder):
     yield "the file is there", call(program, [folder, *RUN], AGAIN), (READ, 0)
     yield "a descriptor that only reads", call(program, [folder, *RUN], ONLY_READ), (READ, 0)
     yield "a recovery", call(program, [folder, "recover"]), KEPT
+    # A region of other sizes is another region; the files stay.
+    os.rename(folder + "/region", folder + "/region.away")
+    yield "other sizes", call(program, [folder, *RUN, "--page", "4096", "--entries", "2"], AGAIN), (READ, 0)
+    yield "their region", call(program, [folder, "look"]), (b"region 1 4096 2 1 0\nname 0 a\nend 0 0\n", 0)
+
+
+def shown(program, folder):
+    """The run over a folder that README.md shows, each command with what stands below it there."""
+    top = os.path.dirname(os.path.dirname(os.path.abspath(__file__)))
+    with open(top + "/README.md", encoding="utf-8") as page:
+        lines = page.read().split("\n")
+    starts = [i for i, line in enumerate(lines) if line.startswith("    $ ")]
+    yield "the commands of README", len(starts) > 3, True
+    for i in starts:
+        end = next(j for j in range(i + 1, len(lines)) if not lines[j].startswith("    ") or lines[j].startswith("    $ "))
+        wanted = "".join(line[4:] + "\n" for line in lines[i + 1 : end]).encode()
+        command = lines[i][6:].split("  #")[0].strip()
+        words = command.replace("/tmp/day", folder).split()
+        if words[:3] == ["rt", "try", "--"]:
+            given = b"" if words[-1] == "/dev/null" else open(f"{top}/crates/nv_run/{words[-1]}", "rb").read()
+            yield command, call(program, words[3:-2], given), (wanted, 0)
+        else:
+            with open(words[-1] if words[-1].startswith("/") else f"{top}/crates/nv_run/{words[-1]}", "rb") as file:
+                yield command, file.read().rstrip(b"\n"), wanted.rstrip(b"\n")
 
 
 def refusals(program, folder):
@@ -405,7 +429,7 @@ def killed(program, folder, writes=WRITES):
 
 
 def main(program, option=None, writes=WRITES):
-    runs = [lives, refusals, obstacles, guarded, remains, looks, rights, disks, full_disks, killed]
+    runs = [lives, shown, refusals, obstacles, guarded, remains, looks, rights, disks, full_disks, killed]
     if option == "--killed":
         runs = [lambda program, folder: killed(program, folder, int(writes))]
     passed = failed = 0

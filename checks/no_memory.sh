@@ -16,7 +16,7 @@ grep -E "^nv_" crates.txt | cut -d : -f 1 | while read -r crate; do
 done
 {
     cat crates.txt
-    echo "no_memory: nv_plain nv_pmem nv_store nv_bench nv_header nv_engine nv_table nv_mount nv_calls"
+    echo "no_memory: nv_plain nv_pmem nv_store nv_bench nv_header nv_table nv_mount nv_calls"
 } > "$room/crates.txt"
 : > "$room/cases/ready"
 echo calls > "$room/cases/made"

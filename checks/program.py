@@ -19,6 +19,13 @@ IN_ROUNDS = b"file a\nfd 0 a rw\n0 pwrite 0 0 01\nround\n1 pread 0 0 8\nround\n0
 IN_TURN = b"0 0 pwrite 0 0 1 = 1\n1 1 pread 0 0 8 = 01\n2 0 pwrite 0 1 1 = 1\nfile a 2 0102\nend 3 0 0\n"
 SIX_WRITES = b"file a\nfd 0 a rw\n" + b"".join(b"0 pwrite 0 %d 0%d\n" % (k, k) for k in range(6))
 ROOM_MADE = b"".join(b"%d 0 pwrite 0 %d 1 = 1\n" % (k, k) for k in range(6)) + b"file a 6 000102030405\nend 6 0 0\n"
+# The first limits that a user meets: a file of 4,096 bytes, a call of 16 pages, a log of 16 entries.
+AT_THE_END = b"file a\nfd 0 a rw\n0 pfill 0 4095 1 1\n0 pfill 0 4096 1 1\n0 pread 0 4095 2\n"
+ENDED = b"0 0 pwrite 0 4095 1 = 1\nrefused 0 pwrite 0 4096 1: too far\nrefused 0 pread 0 4095 2: too far\n"
+SIXTEEN_PAGES = b"file a\nfd 0 a rw\n0 pfill 0 0 1024 2\n0 pfill 0 0 1025 3\n0 pfill 0 63 970 3\n"
+LENGTHS = b"0 0 pwrite 0 0 1024 = 1024\nrefused 0 pwrite 0 0 1025: too long\nrefused 0 pwrite 0 63 970: too long\n"
+SEVENTEEN = b"file a\nfd 0 a rw\n" + b"0 pfill 0 0 1 255\n" * 17
+FULL = b"".join(b"%d 0 pwrite 0 0 1 = 1\n" % k for k in range(16)) + b"refused 0 pwrite 0 0 1: again 16 0\nfile a 1 ff\nend 16 1 0\n"
 STOPPED = b"refused 0 pread 0 0 16: stopped\nopen 0 pwrite 0 0 5: %s\nfile a %s\nend 0 1 1\n"
 
 
@@ -39,6 +46,9 @@ TABLE = [
     ("stopped, the write kept", RUN + [b"--stop=12", b"--image", b"0"], HELLO, (STOPPED % (b"kept", b"5 68656c6c6f"), 0)),
     ("a stop that never comes", RUN + [b"--image=torn", b"--stop", b"4294967295"], HELLO, (REPORT, 0)),
     ("all sizes", RUN + [b"--page=128", b"--entries", b"2", b"--pages=1", b"--cache", b"+4", b"--batch=004"], HELLO, (REPORT, 0)),
+    ("the end of a file", RUN, AT_THE_END, (ENDED + b"file a 4096 " + b"00" * 4095 + b"01\nend 1 2 0\n", 0)),
+    ("sixteen pages", [b"run"], SIXTEEN_PAGES, (LENGTHS + b"file a 1024 " + b"02" * 1024 + b"\nend 1 2 0\n", 0)),
+    ("seventeen entries", RUN, SEVENTEEN, (FULL, 0)),
     ("a page that is no whole lines", RUN + [b"--page", b"65"], HELLO, USAGE),
     ("a recovery of nothing", [b"recover"], b"", (b"error region truncated 0 18\n", 7)),
     ("a look at nothing", [b"look"], b"", (b"error region truncated 0 18\n", 7)),

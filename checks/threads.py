@@ -18,6 +18,10 @@ import time
 THREADS, PLACES, WORDS = 4, 8, 12
 SIZE = 8 * WORDS
 RUN = ["run", "--entries", "64", "--batch", "16"]
+# What makes the region and its file, and no call.
+EMPTY = b"file a\nfd 0 a rw\n"
+# One kill in so many meets a folder without a region, the others a region with an empty log.
+BLANK = 8
 # Killed before its region was formatted, a run leaves one with no magic or no parts.
 NOT_YET = (b"error region bad magic", b"error region truncated ")
 
@@ -76,6 +80,7 @@ def last_counts(data):
 def moments(program, count, writes):
     given = trace(writes)
     with tempfile.TemporaryDirectory() as folder:
+        call(program, [folder, *RUN], EMPTY)
         start = time.monotonic()
         text, status = call(program, [folder, *RUN], given)
         whole = time.monotonic() - start
@@ -86,8 +91,11 @@ def moments(program, count, writes):
         yield "the same behind a recovery", (last_counts(file_in(text) or b""), status), ([writes] * THREADS, 0)
     draws = random.Random(2)
     left = []
-    for _ in range(count):
+    for moment in range(count):
         with tempfile.TemporaryDirectory() as folder:
+            made = moment % BLANK > 0
+            if made:
+                call(program, [folder, *RUN], EMPTY)
             process = subprocess.Popen([program, folder, *RUN], stdin=subprocess.PIPE, stdout=subprocess.DEVNULL)
             process.stdin.write(given)
             process.stdin.close()
@@ -95,7 +103,7 @@ def moments(program, count, writes):
             process.kill()
             process.wait()
             text, status = call(program, [folder, "recover"])
-            if status == 7 and text.startswith(NOT_YET):
+            if not made and status == 7 and text.startswith(NOT_YET):
                 left.append(None)
                 yield "a region that the next run makes anew", call(program, [folder, *RUN], given)[1], 0
                 continue
