@@ -20,6 +20,7 @@ use nv_pmem::Lines;
 use nv_store::Backing;
 use nv_table::Pass;
 use std::sync::Wait;
+use std::thread::yield_now;
 
 /// Reads from the file of a descriptor (POSIX.1-2017, pread): the bytes from the offset `at` on, as many as `buf` has, or fewer where the file ends
 /// before, come to the front of `buf`, and the answer tells how many they are, and the call's place in the history, which is how many calls stand
@@ -82,7 +83,7 @@ pub fn pread<R: Wait, L: Lines + Drop, B: Backing + Drop>(
     for _ in rt.forever() {
         let result = try_pread(mount, pass, fd, at, buf);
         match result {
-            Err(Refusal::Busy { .. }) => {}
+            Err(Refusal::Busy { .. }) => yield_now(),
             _ => return result,
         }
     }

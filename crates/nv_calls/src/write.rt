@@ -20,6 +20,7 @@ use nv_ring::RunningWrite;
 use nv_store::Backing;
 use nv_table::{Pass, Workspace};
 use std::sync::Wait;
+use std::thread::yield_now;
 
 /// Writes to the file of a descriptor (POSIX.1-2017, pwrite): all of `bytes` stand in the file from the offset `at` on, and the file ends at their end
 /// where it ended before. The answer tells how many they are, and the call's place in the history, which is how many calls stand before it. Refused by
@@ -112,6 +113,7 @@ pub fn pwrite<R: Wait, L: Lines + Drop, B: Backing + Drop>(
         if !is_made_again(result) {
             return result;
         }
+        yield_now();
     }
     unreachable!()
 }

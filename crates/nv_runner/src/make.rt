@@ -24,6 +24,7 @@ use nv_table::{Pass, Workspace};
 use nv_trace::TraceCall;
 use std::alloc::Global;
 use std::sync::Wait;
+use std::thread::yield_now;
 
 // A read, with room for its bytes; for none where it is refused by what it asks for.
 fn make_read<R: Wait, L: Lines + Drop, B: Backing + Drop>(
@@ -67,6 +68,13 @@ fn make_read<R: Wait, L: Lines + Drop, B: Backing + Drop>(
     }
 }
 
+// Gives the processor up, unless a batch has made room: the thread that holds what the batch found locked may want it.
+fn rest_unless(made_room: bool) {
+    if !made_room {
+        yield_now();
+    }
+}
+
 // Whether the log had no room for a write that was refused so, and a batch of the cleaner was run. Whatever came of it, the log is looked at again.
 fn makes_room<L: Lines + Drop, B: Backing + Drop>(
     mount: &Mount<L, B>,
@@ -88,7 +96,8 @@ fn makes_room<L: Lines + Drop, B: Backing + Drop>(
 {
     tries_go_on();
     if let (Refusal::Again { .. }, Some(batch)) = (refusal, worker) {
-        let _ = try_clean(mount, pass, batch);
+        let cleaned = try_clean(mount, pass, batch);
+        rest_unless(cleaned.is_ok());
         return true;
     }
     false
