@@ -1,6 +1,9 @@
 -- Counts of faults, beside others: a cause in one of them is one in the sum.
 use Rattle.std.proofs.Common.{◌≡◌, ℕ, ◌+◌, ◌≤◌, Result, Ok, Err, refl, sym, ap, subst, arith}
 use Rattle.nv_plain.specs.Faults.{Rose, saturated}
+use Rattle.nv_open.specs.Causes.{ErrorHasCause}
+use Rattle.nv_open.specs.declared.error.OpenError.{OpenError}
+use Rattle.nv_open.specs.declared.error.OpenError.TheVariants as open_errors
 use Rattle.nv_open.specs.declared.error.Refusal.{Refusal}
 use Rattle.nv_runner.specs.declared.run_error.RunError.{RunError}
 use Rattle.nv_runner.specs.declared.run_error.RunError.TheVariants.{Fault, NoMemory as RunNoMemory}
@@ -35,6 +38,12 @@ pub cause_saturated : {T : Type 0} (other before now first last : ℕ) (result :
 cause_saturated other before now first last result a b =
     cause_with before now first last result (λ same. omega (arith, a, b, same))
     (λ rose. record { never_falls = omega (arith, a, b, rose.never_falls); more = omega (arith, a, b, rose.more) })
+
+-- an error of an opening leaves a count, or it rose
+pub error_grows : (before now : ℕ) (error : OpenError) → ErrorHasCause before now error → before ≤ now
+error_grows before now (open_errors.Refused why) cause = omega (arith, cause)
+error_grows before now open_errors.Fault cause = cause.never_falls
+error_grows before now open_errors.NoMemory cause = omega (arith, cause)
 
 -- ---- what ends a run
 

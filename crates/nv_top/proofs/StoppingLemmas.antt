@@ -459,7 +459,7 @@ module _ (basis : Basis) (trace : Traced) (mount : MountState) (pass zero : Pass
 
 -- ---- counts
 
-stop_grows : (before now : ℕ) (stop : Stop) → StopHasCause before now stop → before ≤ now
+pub stop_grows : (before now : ℕ) (stop : Stop) → StopHasCause before now stop → before ≤ now
 stop_grows before now Usage cause = absurd cause
 stop_grows before now (BadLine bad) cause = absurd cause
 stop_grows before now InputLong cause = absurd cause

@@ -113,6 +113,9 @@ pub fn nv_main<R: Threads + Wait + Sync, I: Source, O: Sink, B: Bench, G: Gate +
         → ¬ (Rose (O.fault_count out.old) (O.fault_count out.new)) → (result ≡ DONE) ⊎ (result ≡ NO_MEMORY)) }
     ensures counts { result ≡ DONE → (B.state bench.new).faults ≡ expected_faults (B.state bench.old) (B.state bench.new) }
 
+    // Whatever the status is, the count of the bench's faults is no lower than it was.
+    ensures never_falls { (B.state bench.old).faults ≤ (B.state bench.new).faults }
+
     // Whatever the status is, a bench that stood for files stands for them still, or for those after a legal history of calls of the trace and some other calls, each whole, in whatever state power leaves it; and with
     // status 1, 2 or 3 it is as it was.
     ensures life { (command : Command) → command_over B.can_lose_power (map string_bytes words.now) ≡ Some command
@@ -180,6 +183,7 @@ fn report<R: Threads + Wait + Sync, I: Source, B: Bench, G: Gate + Sync>(
         (Rose (expected_faults (B.state bench.old) (B.state bench.new)) (B.state bench.new).faults)
         → IfErr result (λ stop. stop ≡ stops.NoMemory)) }
     ensures counts { OnOk result ((B.state bench.new).faults ≡ expected_faults (B.state bench.old) (B.state bench.new)) }
+    ensures never_falls { (B.state bench.old).faults ≤ (B.state bench.new).faults }
     ensures life { (command : Command) → command_over B.can_lose_power (map string_bytes words.now) ≡ Some command
         → IfSome (B.state bench.old).told (λ was. LeavesLife command (I.left src.old) was (B.state bench.new).told) }
     ensures unopened { IfErr result (λ stop. ComesBeforeOpening stop → B.state bench.new ≡ B.state bench.old) }
@@ -250,6 +254,7 @@ fn run_input<R: Threads + Wait + Sync, I: Source, B: Bench, G: Gate + Sync>(
         (Rose (expected_faults (B.state bench.old) (B.state bench.new)) (B.state bench.new).faults)
         → IfErr result (λ stop. stop ≡ stops.NoMemory)) }
     ensures counts { OnOk result ((B.state bench.new).faults ≡ expected_faults (B.state bench.old) (B.state bench.new)) }
+    ensures never_falls { (B.state bench.old).faults ≤ (B.state bench.new).faults }
     ensures life { IfSome (B.state bench.old).told (λ was. LeavesLife (commands.Run options) (I.left src.old) was (B.state bench.new).told) }
     ensures unopened { IfErr result (λ stop. ComesBeforeOpening stop → B.state bench.new ≡ B.state bench.old) }
     ensures report { IfOk result (λ text. IfSome (B.state bench.old).told (λ holding.
@@ -280,6 +285,7 @@ fn run_trace<R: Threads + Wait + Sync, T: Bench, G: Gate + Sync>(
     requires lines { IsStrictlyIncreasing (lines_in trace.now) }
     ensures back { IsLeftBy (commands.Run options) (T.state bench.old) (T.state bench.new) }
     ensures cause { IsSettledStop (expected_faults (T.state bench.old) (T.state bench.new)) (T.state bench.new).faults result }
+    ensures never_falls { (T.state bench.old).faults ≤ (T.state bench.new).faults }
     ensures life { IfSome (T.state bench.old).told (λ was. LeavesRun options was trace.now (T.state bench.new).told) }
     ensures ran { IfOk result (λ text. IfSome (T.state bench.old).told (λ holding.
         IsShownOf options.stop options (T.state bench.old) (T.state bench.new) holding trace.now text.items)) }
@@ -319,6 +325,7 @@ fn stop_run<R: Threads + Wait + Sync, T: Bench, G: Gate + Sync>(
     ensures back { IsPoweredBack k (T.state bench.old) (T.state bench.new) ⊎ IsGivenBack (T.state bench.old) (T.state bench.new) }
     ensures picked { IsPickedOnce options.image (T.state bench.old) (T.state bench.new) }
     ensures cause { IsSettledStop (expected_faults (T.state bench.old) (T.state bench.new)) (T.state bench.new).faults result }
+    ensures never_falls { (T.state bench.old).faults ≤ (T.state bench.new).faults }
     ensures life { IfSome (T.state bench.old).told (λ was. LeavesRun options was trace.now (T.state bench.new).told) }
     ensures ran { IfOk result (λ text. IfSome (T.state bench.old).told (λ holding.
         HasStopped (Rose (T.state bench.old).faults (T.state bench.new).faults) options (T.state bench.old).picked holding (T.state bench.new) trace.now text.items)) }

@@ -89,6 +89,8 @@ pub(crate) fn run_to_stop<R: Threads + Wait + Sync, T: Bench, G: Gate + Sync>(
         → (T.state bench.old).told ≡ None }
     ensures no_less { (T.state bench.new).arms ≡ (T.state bench.old).arms + 1 → saturated ((T.state bench.old).faults
         + (sum_by T.Part.fault_count opened.region.parts.items + sum_by T.Store.fault_count opened.stores.items)) ≤ (T.state bench.new).settled }
+    ensures never_falls { saturated ((T.state bench.old).faults
+        + (sum_by T.Part.fault_count opened.region.parts.items + sum_by T.Store.fault_count opened.stores.items)) ≤ (T.state bench.new).faults }
     ensures life { (parts : List Part) (now : List Store) → AreNow (map T.Part.history opened.region.parts.items) parts → AreNow (map T.Store.history opened.stores.items) now
         → IfSome (T.state bench.old).told (λ left. IsAway opened.region.names left → HasLived (basis_over opened.region options.pages (files_of now)) trace.now (T.state bench.new).told) }
     ensures ran { IfOk result (λ text. (parts : List Part) (now : List Store)
@@ -157,6 +159,7 @@ fn stop_mount<R: Threads + Wait + Sync, T: Bench, G: Gate + Sync>(
     ensures never { (why : _) → result ≡ Err (stops.Region why) → (basis : Basis) → BeginsMount basis trace.now mount pass
         → basis.names ≡ (T.state bench.old).lent → (T.state bench.old).told ≡ None }
     ensures no_less { saturated ((T.state bench.old).faults + failed_before pass) ≤ (T.state bench.new).settled }
+    ensures never_falls { saturated ((T.state bench.old).faults + failed_before pass) ≤ (T.state bench.new).faults }
     ensures life { (basis : Basis) → BeginsMount basis trace.now mount pass → basis.names ≡ (T.state bench.old).lent
         → IfSome (T.state bench.old).told (λ left. IsAway basis.names left → HasLived basis trace.now (T.state bench.new).told) }
     ensures ran { IfOk result (λ text. (basis : Basis) → BeginsMount basis trace.now mount pass → basis.names ≡ (T.state bench.old).lent
@@ -197,6 +200,7 @@ fn show_recovered<T: Bench>(
     ensures refused { (why : _) → result ≡ Err (stops.Region why) → IfSome (T.state bench.old).told (λ holding. IsRefusedFor holding.parts why) }
     ensures standing { IfSome (T.state bench.old).told (λ was. HasHeader was.parts → TellsOf (StandsAsBefore was) (T.state bench.new).told) }
     ensures cause { CountHasCause (T.state bench.old).faults (T.state bench.new).faults result }
+    ensures never_falls { (T.state bench.old).faults ≤ (T.state bench.new).faults }
 {
     images_stand_for_files();
     let (opened, found) = recover_region(alloc, bench)?;

@@ -16,6 +16,7 @@ use Rattle.nv_top.proofs.CompleteLemmas.{counted_counts, look_settled, other_don
 use Rattle.nv_top.specs.declared.ending.Stop.TheVariants as stops
 use Rattle.nv_top.proofs.StopLemmas.{counted_opened}
 use Rattle.std.proofs.Common.{refl}
+use Rattle.nv_top.proofs.StoppingLemmas.{count_grows}
 use Rattle.nv_top.proofs.command.report.Goals as goal
 
 pub run_input-requires-clause-limits : goal.run_input-requires-clause-limits
@@ -190,3 +191,12 @@ returns-in-Gen-clause-counts g c =
     let same : new.settled ≡ old.settled = ap (λ (state : BenchState). state.settled) c.run_load.ensures.back in
     let low : new.settled ≤ old.faults = (let before = c.requires.settled in omega (arith, same, before)) in
     counted_counts old.faults new.faults new.settled c.run_load.result c.run_load.ensures.cause low
+
+pub returns-in-Recover-clause-never_falls : goal.returns-in-Recover-clause-never_falls
+returns-in-Recover-clause-never_falls g c = count_grows (g.B.Bench.state c.args.bench.now).faults (g.B.Bench.state c.recover.new.bench).faults c.recover.result c.recover.ensures.cause
+
+pub returns-in-Look-clause-never_falls : goal.returns-in-Look-clause-never_falls
+returns-in-Look-clause-never_falls g c = count_grows (g.B.Bench.state c.args.bench.now).faults (g.B.Bench.state c.look.new.bench).faults c.look.result c.look.ensures.cause
+
+pub returns-in-Gen-clause-never_falls : goal.returns-in-Gen-clause-never_falls
+returns-in-Gen-clause-never_falls g c = count_grows (g.B.Bench.state c.args.bench.now).faults (g.B.Bench.state c.run_load.new.bench).faults c.run_load.result c.run_load.ensures.cause

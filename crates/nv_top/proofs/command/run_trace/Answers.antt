@@ -4,6 +4,7 @@ use Rattle.nv_open.specs.Held.{told_after}
 use Rattle.nv_top.specs.Commands.{IsNotRun}
 use Rattle.nv_top.proofs.CommandLemmas.{if_told}
 use Rattle.nv_top.proofs.HeadlineLemmas.{where_unarmed}
+use Rattle.nv_top.proofs.StoppingLemmas.{count_grows}
 use Rattle.nv_top.proofs.command.run_trace.Goals as goal
 
 pub returns-in-Some-clause-refused : goal.returns-in-Some-clause-refused
@@ -19,3 +20,6 @@ returns-in-Some-clause-unwritten g c why is other =
     let Unwritten : Holding → Type 0 = λ holding. new.told ≡ told_after why old.told in
     where_unarmed old new Unwritten (c.stop_run.ensures.unarmed why is)
     (λ arms. if_told old.told Unwritten (λ holding told. c.stop_run.ensures.unwritten why is arms other))
+
+pub returns-in-None-clause-never_falls : goal.returns-in-None-clause-never_falls
+returns-in-None-clause-never_falls g c = count_grows (g.T.Bench.state c.args.bench.now).faults (g.T.Bench.state c.run.new.bench).faults c.run.result c.run.ensures.cause

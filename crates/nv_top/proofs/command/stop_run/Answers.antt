@@ -26,6 +26,7 @@ use Rattle.nv_top.proofs.RowLemmas.{present}
 use Rattle.nv_top.proofs.StopLemmas.{err_has, opening_refused}
 use Rattle.std.proofs.Common.{inr}
 use Rattle.nv_top.specs.Lives.{HasLived, LeavesRun}
+use Rattle.nv_top.proofs.CauseLemmas.{error_grows}
 use Rattle.nv_top.proofs.LifeLemmas.{still_run}
 use Rattle.nv_top.proofs.command.stop_run.Goals as goal
 
@@ -155,3 +156,12 @@ returns-clause-life g c =
           (c.run_to_stop.ensures.life parts.states opened.files.held parts.are opened.files.are)
           (all_away region.names holding.stores (home_distinct old holding (g.met.T.Bench.named c.args.bench.now) told c.requires.home));
     }))
+
+pub returns-in_err-opened-clause-never_falls : goal.returns-in_err-opened-clause-never_falls
+returns-in_err-opened-clause-never_falls g c =
+    let old = g.T.Bench.state c.args.bench.now in
+    let new = g.T.Bench.state c.open.new.bench in
+    error_grows old.faults new.faults c.in_err-opened.field-0.0 c.in_err-opened.ensures.cause
+
+pub returns-clause-never_falls : goal.returns-clause-never_falls
+returns-clause-never_falls g c = omega (arith, c.in_ok-opened.ensures.counts, c.run_to_stop.ensures.never_falls)

@@ -9,7 +9,7 @@ use Rattle.nv_mount.specs.RisenCounts.{failed_before}
 use Rattle.nv_runner.specs.Faithful.{Basis}
 use Rattle.nv_top.specs.Runs.{BeginsMount, basis_over}
 use Rattle.nv_top.specs.Stopping.{HasStoppedOn, IsAway}
-use Rattle.std.proofs.Common.{◌∙◌, ap, refl, length}
+use Rattle.std.proofs.Common.{◌∙◌, ap, arith, refl, length}
 use Rattle.std.proofs.lemmas.List.{length-map}
 use Rattle.nv_bench.specs.Holding.{Holding, named_stores}
 use Rattle.nv_open.proofs.Homes.{all_behind, own_stores}
@@ -17,7 +17,8 @@ use Rattle.nv_store.proofs.RowReads.{length_now}
 use Rattle.nv_top.specs.Lives.{AreLeftSo, HasLived}
 use Rattle.nv_top.proofs.LifeLemmas.{left_same, lived_home, rest_lives}
 use Rattle.nv_top.proofs.RunLemmas.{quiet_stores}
-use Rattle.nv_top.proofs.StoppingLemmas.{home_with, if_some}
+use Rattle.nv_top.proofs.StoppingLemmas.{home_with, if_some, stop_grows}
+use Rattle.nv_bench.specs.Benches.{BenchState}
 use Rattle.std.specs.Prelude.{Option, Some, option_map}
 use Rattle.nv_top.proofs.stopping.run_to_stop.Goals as goal
 
@@ -91,3 +92,11 @@ returns-in-Err-clause-life g c parts now parts_are now_are =
     ∙ own_stores region.names disks (sym (length_now (map held c.in-Err.field-0.stores.items) disks are ∙ ap length (c.in-Err.ensures.same_stores) ∙ length-map stores held ∙ c.requires.stores)) region.is_region.names_are.distinct)
     (λ back disks back_are disks_are. c.give_back-in-Err.ensures.told back disks back_are disks_are
     ∙ ap (λ (told : Option Holding). option_map (λ (holding : Holding). home_with holding start.lent back disks) told) told_is ∙ ap (λ names. Some (home_with left names back disks)) c.requires.lent))
+
+pub returns-in-Err-clause-never_falls : goal.returns-in-Err-clause-never_falls
+returns-in-Err-clause-never_falls g c =
+    let region = c.args.opened.region in
+    let failed = c.in-Err.field-0 in
+    let before = sum_by g.T.Part.Lines.fault_count region.parts.items + sum_by g.T.Store.Backing.fault_count c.args.opened.stores.items in
+    let now = sum_by g.T.Part.Lines.fault_count failed.parts.items + sum_by g.T.Store.Backing.fault_count failed.stores.items in
+    omega (arith, stop_grows before now failed.stop c.in-Err.ensures.cause, ap (λ (s : BenchState). s.faults) c.give_back-in-Err.ensures.taken)

@@ -249,3 +249,15 @@ returns-clause-life g c basis begins named =
     lived_recovered basis trace c.images_follow_calls.ensures.quiet off.told last.told
     (subst (λ told. IfSome told IsQuietHolding) (sym powers) (quiet_after c.args.plan.image home.told c.power_leaves_an_image.ensures whole)) powered_so
     (at_some off.told (λ was. HasHeader was.parts → TellsOf (StandsAsBefore was) last.told) powered_so.images.now powered_so.images.told_is c.show_recovered.ensures.standing))
+
+pub returns-clause-never_falls : goal.returns-clause-never_falls
+returns-clause-never_falls g c =
+    let state = g.T.Bench.state in
+    let start = state c.args.bench.now in
+    let came = c.run_calls-ended.result.closed in
+    let ran = c.run_calls-ended.ensures.ran in
+    let sums = sum_by g.T.Part.Lines.fault_count came.parts.items + sum_by g.T.Store.Backing.fault_count came.stores.items in
+    let home_faults : (state c.give_back.new.self).faults ≡ saturated (start.faults + sums) =
+    ap (λ (s : BenchState). s.faults) c.give_back.ensures.taken ∙ ap (λ (s : BenchState). saturated (s.faults + sums)) c.arm.ensures in
+    let grew : failed_before c.args.pass ≤ sums = subst (λ count. count ≤ sums) (failed_same c.args.pass ran.0 ran.1.run_out.mount ran.1.run_out.spare) ran.3.grew in
+    omega (arith, home_faults, grew, ap (λ (s : BenchState). s.faults) c.in_ok-power.ensures.off, c.show_recovered.ensures.never_falls)
