@@ -37,7 +37,7 @@ pub some_map : (told : Option Holding) (P Q : Holding → Type 0) → ((holding 
 some_map None P Q step has = tt
 some_map (Some holding) P Q step has = step holding has
 
-begun_before : (geometry asked : Geometry) (parts : List Part) (page entries : ℕ) (names : List (List ℕ)) (next : ℕ) → IsOpeningBegun (opened (Some geometry) parts) asked page entries names next → IsOpeningBegun parts asked page entries names next
+pub begun_before : (geometry asked : Geometry) (parts : List Part) (page entries : ℕ) (names : List (List ℕ)) (next : ℕ) → IsOpeningBegun (opened (Some geometry) parts) asked page entries names next → IsOpeningBegun parts asked page entries names next
 begun_before geometry asked parts page entries names next begun = record {
   formatted = λ is. begun.formatted (blank_stays geometry parts ∙ is);
   kept = λ is. subst (λ (these : List Part). IsRegionKept these page entries names next) (opened_kept geometry parts is) (begun.kept (blank_stays geometry parts ∙ is));

@@ -1,26 +1,28 @@
 -- What a bench tells to which devices come back, and that it stands as before.
-use Rattle.std.proofs.Common.{◌≡◌, ◌≢◌, ℕ, ◌<◌, List, [], ◌∷◌, ◌++◌, length, map, slice_index_or, refl, sym, ap, subst, ◌∙◌, arith}
+use Rattle.std.proofs.Common.{◌≡◌, ℕ, List, [], ◌++◌, length, map, refl, sym, ap, subst, ◌∙◌}
 use Rattle.std.specs.Prelude.{All, Option, Some, None, IfSome, option_map, Result, Ok, Err, IfErr}
 use Rattle.std.proofs.lemmas.List.{append-nil, length-map}
+use Rattle.nv_plain.specs.Files.{Files}
 use Rattle.nv_plain.specs.Layouts.{version_1}
 use Rattle.nv_pmem.specs.Part.{Part}
-use Rattle.nv_pmem.specs.RowStates.{AreNow, row_tells_from, row_tells_at}
+use Rattle.nv_pmem.specs.RowStates.{AreNow, TellingRowsHaveStates, row_tells_from, row_tells_at}
 use Rattle.nv_pmem.specs.Rows.{AreQuiet, RowTells}
 use Rattle.nv_pmem.specs.Steps as lines
 use Rattle.nv_store.specs.Steps.{StoreHistory}
 use Rattle.nv_store.specs.Store.{IsQuietStore, Store}
-use Rattle.nv_bench.specs.Benches.{BenchState, region_lent, told_back, with_faults}
+use Rattle.nv_bench.specs.Benches.{BenchState, told_back, with_faults}
 use Rattle.nv_bench.specs.Holding.{Holding, IsQuietHolding, NamedStore, named_stores}
 use Rattle.nv_bench.specs.Naming.{AreDistinct, HasDistinctStores, names_of}
 use Rattle.nv_header.specs.FileNames.{AreFileNames}
+use Rattle.nv_header.specs.Regions.{IsAtRest}
 use Rattle.nv_recover.specs.Standing.{StandsStill, files_of}
+use Rattle.nv_recover.specs.Telling.{AllTell}
 use Rattle.nv_pmem.specs.Rows.{row_words}
-use Rattle.nv_open.specs.Held.{header_names}
-use Rattle.nv_open.specs.Lending.{HasLent, stores_lent, stores_named, without_named, without_stores}
-use Rattle.nv_open.specs.Unopened.{HasHeader, GivesBack, StandAsBefore, StandsAsBefore, TellsOf}
+use Rattle.nv_open.specs.Held.{HoldFiles, header_names}
+use Rattle.nv_open.specs.Lending.{stores_lent, stores_named, without_named, without_stores}
+use Rattle.nv_open.specs.Unopened.{HasHeader, GivesBack, IsAtRestWith, StandAsBefore, StandsAsBefore, TellsOf}
 use Rattle.nv_open.proofs.Homes.{all_same_again, back_again}
 use Rattle.nv_open.proofs.LogLaws.{states_many}
-use Rattle.nv_open.proofs.Regions.{lent_told}
 use Rattle.nv_open.proofs.Returns.{named_quiet}
 use Rattle.nv_open.proofs.Stands.{stands_read}
 
@@ -104,6 +106,33 @@ module _ {X Y : Type 0} (part_history : X → lines.PartHistory) (store_history 
           };
         };
       }))
+
+-- parts at rest, with the stores of their names that were lent
+pub rest_back : {X Y : Type 0} (part_history : X → lines.PartHistory) (store_history : Y → StoreHistory) (bench : BenchState) (parts : List X) (stores : List Y) (page entries : ℕ) (names : List (List ℕ)) (next : ℕ) (files : Files)
+    → TellingRowsHaveStates → bench.lent ≡ names → HoldFiles (map store_history stores) files → RowTells (map part_history parts) (IsAtRest version_1 page entries names next)
+    → IfSome bench.told (λ holding. AllTell (map part_history parts) → GivesBack part_history store_history (IsAtRestWith page entries names next files holding.stores) bench parts stores)
+rest_back part_history store_history bench parts stores page entries names next files states lent holds rest =
+    let row = map part_history parts in
+    if_some bench.told (λ holding. AllTell row → GivesBack part_history store_history (IsAtRestWith page entries names next files holding.stores) bench parts stores) (λ holding told_is tell.
+    let now = states row tell in
+    let back : List (List ℕ) → Holding → Holding = λ lent holding. record { parts = now.states; stores = holding.stores ++ named_stores lent holds.held } in
+    record {
+      now = now.states;
+      held = holds.held;
+      now_are = now.are;
+      held_are = holds.are;
+      tells = record {
+        now = back names holding;
+        told_is = ap (λ (told : Option Holding). option_map (back bench.lent) told) told_is ∙ ap (λ lent. Some (back lent holding)) lent;
+        is_so = record {
+          rest = row_tells_at row (IsAtRest version_1 page entries names next) now.states now.are rest;
+          held = holds.held;
+          stores_are = refl;
+          files_are = holds.files_are;
+          durable = holds.quiet;
+        };
+      };
+    })
 
 -- a bench of which nothing was lent
 pub still_stands : (old new : BenchState) (was : Holding) → new ≡ with_faults new.faults old → old.told ≡ Some was → IfSome old.told IsQuietHolding → HasHeader was.parts → TellsOf (StandsAsBefore was) new.told

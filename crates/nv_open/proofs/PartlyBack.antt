@@ -1,5 +1,5 @@
 -- What a bench tells to which the devices of an opening come back that failed.
-use Rattle.std.proofs.Common.{◌≡◌, ℕ, ◌+◌, ◌<◌, ◌≤◌, zero, suc, Bool, true, false, not, cond, List, [], ◌∷◌, ◌++◌, length, map, take, inl, inr, refl, sym, ap, subst, ◌∙◌, arith, length-append}
+use Rattle.std.proofs.Common.{◌≡◌, ℕ, ◌+◌, ◌<◌, zero, suc, Bool, true, false, not, cond, List, [], ◌∷◌, ◌++◌, length, map, take, inl, inr, refl, sym, ap, subst, ◌∙◌, arith}
 use Rattle.std.specs.Prelude.{All, Contains, Option, Some, None, IfSome, Result, Ok, Err, IfErr, option_map}
 use Rattle.std.proofs.Math.Seq.{take-append-add}
 use Rattle.std.proofs.lemmas.List.{append-nil, get_or-take, length-map, length-take, map-append}
@@ -16,7 +16,7 @@ use Rattle.nv_pmem.specs.Steps as lines
 use Rattle.nv_pmem.specs.declared.geometry.Geometry.{Geometry}
 use Rattle.nv_store.specs.Steps.{StoreHistory}
 use Rattle.nv_store.specs.Store.{IsQuietStore, Store}
-use Rattle.nv_bench.specs.Benches.{BenchState, region_lent, told_back, with_faults}
+use Rattle.nv_bench.specs.Benches.{BenchState, with_faults}
 use Rattle.nv_bench.specs.Holding.{Holding, IsQuietHolding, NamedStore}
 use Rattle.nv_bench.specs.Naming.{AreDistinct, HasDistinctStores, names_of}
 use Rattle.nv_bench.specs.Opening.{is_blank, opened}
@@ -26,13 +26,15 @@ use Rattle.nv_recover.specs.Standing.{files_of}
 use Rattle.nv_recover.specs.Telling.{AllTell}
 use Rattle.nv_open.specs.Adding.{all_names, is_known, new_names}
 use Rattle.nv_open.specs.Begun.{IsOpeningBegun, files_behind, files_with}
-use Rattle.nv_open.specs.Held.{HoldFiles, files_named, header_names}
+use Rattle.nv_open.specs.Held.{HoldFiles, files_named}
 use Rattle.nv_open.specs.Lending.{stores_lent, stores_named, without_named, without_stores}
-use Rattle.nv_open.specs.Unopened.{HasHeader, GivesBack, HasFirstNames, HasSome, InEachImage, StandForFiles, StandsAsBefore, StandsWithSome, TellRow, TellsOf, names_known}
+use Rattle.nv_open.specs.Unopened.{HasHeader, GivesBack, HasFirstNames, HasSome, InEachImage, IsAtRestWith, RestsUnopened, StandForFiles, StandsAsBefore, StandsWithSome, TellRow, TellsOf, names_known}
+use Rattle.nv_open.specs.Refusals.{IsRefusedFor}
+use Rattle.nv_open.specs.declared.error.Refusal.TheVariants.{TooManyFiles}
 use Rattle.nv_open.proofs.Additions.{are_now_append}
-use Rattle.nv_open.proofs.AsHeld.{files_cases}
+use Rattle.nv_open.proofs.AsHeld.{begun_before, files_cases}
 use Rattle.nv_open.proofs.BlankLaws.{blank_row}
-use Rattle.nv_open.proofs.GivenBack.{at_some, if_some, read_back, still_stands, told_with}
+use Rattle.nv_open.proofs.GivenBack.{at_some, if_some, still_stands, told_with}
 use Rattle.nv_open.proofs.LogLaws.{states_many}
 use Rattle.nv_open.proofs.Partly.{begun_back, blank_known, blank_left, kept_known, kept_left}
 use Rattle.nv_open.proofs.Sized.{blank_stays, opened_kept}
@@ -220,7 +222,61 @@ with_wanted {T} {X} {Y} {E} part_history store_history (Err failed) parts_of (So
     inr (subst (λ names. By names image bytes) (sym same) (subst (λ files. Some_of files image bytes) those (each image bytes is_image are_bytes))))
     gives)
 
+-- nothing was added to it, since there would be too many
+pub too_many_rest : {T X Y E : Type 0} (part_history : X → lines.PartHistory) (store_history : Y → StoreHistory) (result : Result T E) (parts_of : E → List X) (Refused : E → Type 0) (told mid : Option Holding) (new : BenchState) (row region_row : List lines.PartHistory) (store_row : List StoreHistory) (stores : List Y)
+    (geometry : Geometry) (page entries : ℕ) (names wanted : List (List ℕ)) (next : ℕ) → mid ≡ option_map (without_named names) told
+    → RowTells row (λ told. IsOpeningBegun told geometry page entries names next)
+    → IfSome told (λ holding. RowTells row (λ parts. HoldFiles store_row (files_named parts names holding.stores)))
+    → IfSome told (λ holding. AllTell region_row)
+    → IfErr result (λ failed. Refused failed → 16 < length (all_names names wanted))
+    → ((files : Files) → HoldFiles store_row files → IfErr result (λ failed. Refused failed → IfSome mid (λ holding. AllTell region_row
+    → GivesBack part_history store_history (IsAtRestWith page entries names next files holding.stores) new (parts_of failed) stores)))
+    → IfErr result (λ failed. Refused failed → IfSome told (λ holding. RowTells row (λ told.
+    GivesBack part_history store_history (RestsUnopened (record { parts = told; stores = holding.stores }) geometry wanted) new (parts_of failed) stores)))
+too_many_rest part_history store_history (Ok done) parts_of Refused told mid new row region_row store_row stores geometry page entries names wanted next is begun files tell many rests = tt
+too_many_rest part_history store_history (Err failed) parts_of Refused None mid new row region_row store_row stores geometry page entries names wanted next is begun files tell many rests = λ refused. tt
+too_many_rest part_history store_history (Err failed) parts_of Refused (Some holding) mid new row region_row store_row stores geometry page entries names wanted next is begun files tell many rests = λ refused.
+    let Was : List Part → Holding = λ told. record { parts = told; stores = holding.stores } in
+    row_tells_from row (λ told. GivesBack part_history store_history (RestsUnopened (Was told) geometry wanted) new (parts_of failed) stores) (λ told are.
+    let here = files_named told names holding.stores in
+    let left : Holding = record { parts = holding.parts; stores = without_stores names holding.stores } in
+    let gives = at_some mid (λ holding. AllTell region_row → GivesBack part_history store_history (IsAtRestWith page entries names next here holding.stores) new (parts_of failed) stores) left is
+    (rests here (row_tells_at row (λ parts. HoldFiles store_row (files_named parts names holding.stores)) told are files) refused) tell in
+    gives_more part_history store_history (IsAtRestWith page entries names next here left.stores) (RestsUnopened (Was told) geometry wanted) new (parts_of failed) stores
+    (λ back at_rest. record {
+      page = page;
+      entries = entries;
+      known = names;
+      next = next;
+      begun = row_tells_at row (λ told. IsOpeningBegun told geometry page entries names next) told are begun;
+      many = many refused;
+      rests = at_rest;
+    })
+    gives)
+
+-- a region that is refused was not opened, so it never has too many
+pub never_too_many : (told : Option Holding) (row : List lines.PartHistory) (P : Holding → List Part → Type 0) → IfSome told (λ holding. RowTells row (λ told. (is_blank told ≡ false) × IsRefusedFor told TooManyFiles))
+    → IfSome told (λ holding. RowTells row (λ told. P holding told))
+never_too_many told row P refused =
+    if_some told (λ holding. RowTells row (λ told. P holding told)) (λ holding told_is.
+    row_tells_from row (λ told. P holding told) (λ parts are.
+    absurd (row_tells_at row (λ told. (is_blank told ≡ false) × IsRefusedFor told TooManyFiles) parts are
+    (at_some told (λ holding. RowTells row (λ told. (is_blank told ≡ false) × IsRefusedFor told TooManyFiles)) holding told_is refused)).1))
+
 -- ---- as the bench held it before its parts were made those of a geometry
+
+pub rests_before : (geometry : Geometry) (was : Holding) (wanted : List (List ℕ)) (now : Holding) → RestsUnopened (record { parts = opened (Some geometry) was.parts; stores = was.stores }) geometry wanted now → RestsUnopened was geometry wanted now
+rests_before geometry was wanted now is = record {
+  page = is.page;
+  entries = is.entries;
+  known = is.known;
+  next = is.next;
+  begun = begun_before geometry geometry was.parts is.page is.entries is.known is.next is.begun;
+  many = is.many;
+  rests =
+      subst (λ files. IsAtRestWith is.page is.entries is.known is.next files (without_stores is.known was.stores) now)
+      (files_cases geometry was.parts is.known was.stores (is_blank was.parts) refl) is.rests;
+}
 
 pub before_made : (geometry : Geometry) (was : Holding) (wanted : List (List ℕ)) (image : Image) (bytes : Files) → StandsWithSome (record { parts = opened (Some geometry) was.parts; stores = was.stores }) wanted image bytes → StandsWithSome was wanted image bytes
 before_made geometry was wanted image bytes stands =

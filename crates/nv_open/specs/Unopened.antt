@@ -1,5 +1,5 @@
 -- Unopened: what a bench holds, whatever a power failure leaves of it, whose region wasn't opened, or wasn't recovered.
-use Rattle.std.specs.Prelude.{◌≡◌, ◌⊎◌, ℕ, ◌≤◌, Bool, true, false, if◌then◌else◌, List, [], ◌++◌, length, map, take, Option, Some}
+use Rattle.std.specs.Prelude.{◌≡◌, ◌⊎◌, ℕ, ◌<◌, ◌≤◌, true, false, if◌then◌else◌, List, [], ◌++◌, length, map, take, Option, Some}
 use Rattle.nv_plain.specs.Files.{Files}
 use Rattle.nv_plain.specs.Images.{Image, header_of}
 use Rattle.nv_plain.specs.Layouts.{version_1}
@@ -8,18 +8,19 @@ use Rattle.nv_pmem.specs.Part.{Part}
 use Rattle.nv_pmem.specs.RowStates.{AreNow}
 use Rattle.nv_pmem.specs.Rows.{IsRowImage, row_words}
 use Rattle.nv_pmem.specs.Steps as lines
+use Rattle.nv_pmem.specs.declared.geometry.Geometry.{Geometry}
 use Rattle.nv_store.specs.Steps.{StoreHistory}
 use Rattle.nv_store.specs.Store.{Store}
 use Rattle.nv_header.specs.Heads.{IsHead, first_names}
-use Rattle.nv_header.specs.Regions.{HasEmptyLog}
+use Rattle.nv_header.specs.Regions.{HasEmptyLog, IsAtRest}
 use Rattle.nv_bench.specs.Benches.{BenchState, told_back}
-use Rattle.nv_bench.specs.Holding.{Holding}
+use Rattle.nv_bench.specs.Holding.{Holding, NamedStore, named_stores}
 use Rattle.nv_bench.specs.Opening.{is_blank}
-use Rattle.nv_recover.specs.Standing.{AreStoreImages, StandsFor, StandsStill, files_of}
+use Rattle.nv_recover.specs.Standing.{AreQuietStores, AreStoreImages, StandsFor, StandsStill, files_of}
 use Rattle.nv_open.specs.Adding.{all_names}
-use Rattle.nv_open.specs.Begun.{files_with}
-use Rattle.nv_open.specs.Held.{header_names}
-use Rattle.nv_open.specs.Lending.{stores_named}
+use Rattle.nv_open.specs.Begun.{IsOpeningBegun, files_with}
+use Rattle.nv_open.specs.Held.{files_named, header_names}
+use Rattle.nv_open.specs.Lending.{stores_named, without_stores}
 
 -- a bench tells that it holds something that is so
 pub record TellsOf (P : Holding → Type 0) (told : Option Holding) : Type 0 where
@@ -78,6 +79,27 @@ abbrev pub StandsWithSome : (was : Holding) (wanted : List (List ℕ)) → Image
 StandsWithSome was wanted image bytes =
     let known = names_known was.parts in
     ((is_blank was.parts ≡ true) × IsBlank image) ⊎ HasSome (length known) (all_names known wanted) (files_with was.parts known wanted was.stores) image bytes
+
+-- ---- a region that would have too many files
+
+-- A bench holds a region with these names, at rest with an empty log; and behind these stores those of its names, which hold these files, durable.
+pub record IsAtRestWith (page entries : ℕ) (names : List (List ℕ)) (next : ℕ) (files : Files) (others : List NamedStore) (now : Holding) : Type 0 where
+  pub rest : IsAtRest version_1 page entries names next now.parts
+  pub held : List Store
+  pub stores_are : now.stores ≡ others ++ named_stores names held
+  pub files_are : files_of held ≡ files
+  pub durable : AreQuietStores held
+
+-- What a bench holds that was to open a region of too many files: the region as its opening began, that is formatted where it was blank, and else recovered, at rest
+-- with the files that it stood for; and the stores of other names, as they were.
+pub record RestsUnopened (was : Holding) (geometry : Geometry) (wanted : List (List ℕ)) (now : Holding) : Type 0 where
+  pub page : ℕ
+  pub entries : ℕ
+  pub known : List (List ℕ)
+  pub next : ℕ
+  pub begun : IsOpeningBegun was.parts geometry page entries known next
+  pub many : version_1.file_limit < length (all_names known wanted)
+  pub rests : IsAtRestWith page entries known next (files_named was.parts known was.stores) (without_stores known was.stores) now
 
 -- ---- what comes back
 

@@ -18,7 +18,7 @@ ghost use Rattle.nv_open.specs.Causes.{ErrorHasCause, RegionHasCause};
 ghost use Rattle.nv_open.specs.Held.{HoldFiles, files_named, AreUnwritten, told_after};
 ghost use Rattle.nv_open.specs.Lending.{HasLent, HasLentMore, all_lent, stores_lent};
 ghost use Rattle.nv_open.specs.Refusals.{IsRefusedFor, rooms_of};
-ghost use Rattle.nv_open.specs.Unopened.{GivesBack, HasSome, InEachImage, StandForFiles, StandsWithSome, TellsOf};
+ghost use Rattle.nv_open.specs.Unopened.{GivesBack, HasSome, InEachImage, IsAtRestWith, RestsUnopened, StandForFiles, StandsWithSome, TellsOf};
 ghost use Rattle.nv_open.specs.declared.error.OpenError.TheVariants as error;
 ghost use Rattle.nv_open.specs.declared.error.Refusal.TheVariants as refusal;
 
@@ -67,6 +67,8 @@ pub fn open<T: Bench>(
         → IfSome (T.state bench.old).told (λ holding. IsNotOpened holding.parts geometry wanted.now why) }
     ensures unwritten { (why : _) → result ≡ Err (error.Refused why) → ¬ (why ≡ refusal.TooManyFiles)
         → (T.state bench.new).told ≡ told_after why (T.state bench.old).told }
+    ensures rests { result ≡ Err (error.Refused refusal.TooManyFiles)
+        → IfSome (T.state bench.old).told (λ was. TellsOf (RestsUnopened was geometry wanted.now) (T.state bench.new).told) }
     ensures standing { IfErr result (λ why. IfSome (T.state bench.old).told (λ was. StandForFiles was.parts
         → TellsOf (InEachImage (StandsWithSome was wanted.now)) (T.state bench.new).told)) }
     ensures untold { (T.state bench.old).told ≡ None → (T.state bench.new).told ≡ None }
@@ -120,6 +122,9 @@ fn open_parts<T: Bench>(
         → IfSome (T.state bench.old).told (λ holding. RowTells (map T.Part.history parts.items) (λ told. IsNotOpened told geometry wanted.now why))) }
     ensures unwritten { (why : _) → IfErr result (λ failed. failed.1 ≡ error.Refused why → ¬ (why ≡ refusal.TooManyFiles)
         → AreUnwritten T.Part.history T.Store.history why (T.state bench.old) (T.state bench.new) parts.items failed.0.items stores.new.items) }
+    ensures rests { IfErr result (λ failed. failed.1 ≡ error.Refused refusal.TooManyFiles
+        → IfSome (T.state bench.old).told (λ holding. RowTells (map T.Part.history parts.items) (λ told.
+        GivesBack T.Part.history T.Store.history (RestsUnopened (record { parts = told; stores = holding.stores }) geometry wanted.now) (T.state bench.new) failed.0.items stores.new.items))) }
     ensures standing { IfErr result (λ failed. IfSome (T.state bench.old).told (λ holding. RowTells (map T.Part.history parts.items) (λ told. StandForFiles told
         → GivesBack T.Part.history T.Store.history (InEachImage (StandsWithSome (record { parts = told; stores = holding.stores }) wanted.now)) (T.state bench.new) failed.0.items stores.new.items))) }
 {
@@ -210,6 +215,10 @@ fn add_wanted<T: Bench>(
     ensures many { IfOk result (λ added. length added.parts.items ≡ length region.parts.items) }
     ensures refused { (why : _) → IfErr result (λ failed. failed.1 ≡ error.Refused why
         → (why ≡ refusal.TooManyFiles) × (version_1.file_limit < length (all_names region.names wanted.now))) }
+    ensures rests { (files : _) → HoldFiles (map T.Store.history stores.old.items) files → IfErr result (λ failed. failed.1 ≡ error.Refused refusal.TooManyFiles
+        → IfSome (T.state bench.old).told (λ holding. AllTell (map T.Part.history region.parts.items)
+        → GivesBack T.Part.history T.Store.history (IsAtRestWith region.geometry.page region.geometry.entries region.names region.next files holding.stores)
+        (T.state bench.new) failed.0.items stores.new.items)) }
     ensures standing { (files : _) → HoldFiles (map T.Store.history stores.old.items) files → IfErr result (λ failed. IfSome (T.state bench.old).told (λ holding. AllTell (map T.Part.history region.parts.items)
         → GivesBack T.Part.history T.Store.history (InEachImage (HasSome (length region.names) (all_names region.names wanted.now) (files_behind files (new_names region.names wanted.now) holding.stores)))
         (T.state bench.new) failed.0.items stores.new.items)) }

@@ -18,8 +18,8 @@ use Rattle.nv_load.specs.declared.load.Load.{Load}
 use Rattle.nv_trace.specs.Reading.{ending_of, Whole}
 use Rattle.nv_trace.specs.declared.trace.Form.TheVariants as forms
 use Rattle.nv_trace.specs.Traced.{Traced}
-use Rattle.nv_top.specs.Commands.{IsNotRun}
-use Rattle.nv_top.specs.Headline.{IsCommandRefused, IsShown, IsShownOf, IsRegionUnwritten, command_over, may_stop, possible}
+use Rattle.nv_top.specs.Commands.{IsNotRun, RestsNotRun}
+use Rattle.nv_top.specs.Headline.{IsCommandRefused, IsShown, IsShownOf, IsLeftNotRun, command_over, may_stop, possible}
 use Rattle.nv_top.specs.Loads.{load_options}
 use Rattle.nv_top.specs.Words.{AreInLimits, command_of}
 use Rattle.nv_top.specs.declared.words.Command.{Command}
@@ -91,21 +91,25 @@ shown_from options (Some input) old new trace text whole ran =
 
 pub refused_from : (options : RunOptions) (left : Option (List ℕ)) (old new : BenchState) (trace : Traced) (why : Refusal)
     → IfSome left (λ input. ending_of forms.Run input ≡ Whole trace)
-    → IfSome old.told (λ holding. IsNotRun options holding trace.names why × IsRegionUnwritten old new why)
+    → IfSome old.told (λ holding. IsNotRun options holding trace.names why × IsLeftNotRun options holding trace.names old new why)
     → IfSome old.told (λ holding. IsCommandRefused (Run options) left old new holding why)
 refused_from options None old new trace why whole refused = if_told old.told (λ holding. IsCommandRefused (Run options) None old new holding why) (λ holding told. tt)
 refused_from options (Some input) old new trace why whole refused =
     if_told old.told (λ holding. IsCommandRefused (Run options) (Some input) old new holding why) (λ holding told.
-    let both = told_at old.told (λ holding. IsNotRun options holding trace.names why × IsRegionUnwritten old new why) holding told refused in
+    let both = told_at old.told (λ holding. IsNotRun options holding trace.names why × IsLeftNotRun options holding trace.names old new why) holding told refused in
     (trace, whole, both.0, both.1))
 
 pub both_told : (options : RunOptions) (old new : BenchState) (names : List (List ℕ)) (why : Refusal) → IfSome old.told (λ holding. IsNotRun options holding names why)
     → (¬ (why ≡ refusals.TooManyFiles) → IfSome old.told (λ holding. new.told ≡ told_after why old.told))
-    → IfSome old.told (λ holding. IsNotRun options holding names why × IsRegionUnwritten old new why)
-both_told options old new names why refused unwritten =
-    if_told old.told (λ holding. IsNotRun options holding names why × IsRegionUnwritten old new why) (λ holding told. (
+    → (why ≡ refusals.TooManyFiles → IfSome old.told (λ holding. RestsNotRun options holding names new.told))
+    → IfSome old.told (λ holding. IsNotRun options holding names why × IsLeftNotRun options holding names old new why)
+both_told options old new names why refused unwritten rests =
+    if_told old.told (λ holding. IsNotRun options holding names why × IsLeftNotRun options holding names old new why) (λ holding told. (
       told_at old.told (λ holding. IsNotRun options holding names why) holding told refused,
-      λ other. told_at old.told (λ holding. new.told ≡ told_after why old.told) holding told (unwritten other),
+      (
+        λ other. told_at old.told (λ holding. new.told ≡ told_after why old.told) holding told (unwritten other),
+        λ same. told_at old.told (λ holding. RestsNotRun options holding names new.told) holding told (rests same),
+      ),
     ))
 
 pub unarmed_from : (left : Option (List ℕ)) (old new : BenchState) (trace : Traced) → IfSome left (λ input. ending_of forms.Run input ≡ Whole trace)
@@ -159,5 +163,6 @@ recovery_refused left old new why refused unwritten =
 -- why a run of generated calls is refused
 pub load_refused : (load : Load) (left : Option (List ℕ)) (old new : BenchState) (why : Refusal) → IfSome old.told (λ holding. IsNotRun load_options holding (generated load).names why)
     → (¬ (why ≡ refusals.TooManyFiles) → IfSome old.told (λ holding. new.told ≡ told_after why old.told))
+    → (why ≡ refusals.TooManyFiles → IfSome old.told (λ holding. RestsNotRun load_options holding (generated load).names new.told))
     → IfSome old.told (λ holding. IsCommandRefused (Gen load) left old new holding why)
-load_refused load left old new why refused unwritten = both_told load_options old new (generated load).names why refused unwritten
+load_refused load left old new why refused unwritten rests = both_told load_options old new (generated load).names why refused unwritten rests

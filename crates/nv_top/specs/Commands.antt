@@ -13,6 +13,7 @@ use Rattle.nv_open.specs.Held.{files_named, header_names}
 use Rattle.nv_open.specs.Lending.{stores_named}
 use Rattle.nv_open.specs.Looking.{ShowsFiles, ShowsRegion, names_until, told_by}
 use Rattle.nv_open.specs.Refusals.{AreLong, CanBeRead, IsBadHeader, IsRefusedFor}
+use Rattle.nv_open.specs.Unopened.{RestsUnopened, TellsOf}
 use Rattle.nv_recover.specs.Standing.{files_of}
 use Rattle.nv_trace.specs.Traced.{Traced}
 use Rattle.nv_runner.specs.Faithful.{Basis, IsFaithful, files_shown, named}
@@ -49,6 +50,14 @@ pub record IsNotRun (options : RunOptions) (holding : Holding) (wanted : List (L
   pub page_is : geometry.page ≡ options.page
   pub entries_are : geometry.entries ≡ options.entries
   pub not_opened : IsNotOpened holding.parts geometry wanted why
+
+-- What a run leaves on a bench that held this, where there would be too many files: the region rests with an empty log, formatted with the sizes asked for where it was blank, and else recovered, with the files that it stood for; and the
+-- stores of other names are as they were.
+pub record RestsNotRun (options : RunOptions) (was : Holding) (wanted : List (List ℕ)) (told : Option Holding) : Type 0 where
+  pub geometry : Geometry
+  pub page_is : geometry.page ≡ options.page
+  pub entries_are : geometry.entries ≡ options.entries
+  pub rests : TellsOf (RestsUnopened was geometry wanted) told
 
 -- The text shows a faithful report of a run of the trace, as itself or by its summary, and the bench is left with the files of the report: its region has the sizes that it began with, and its log goes on
 -- behind what was drawn.

@@ -12,7 +12,7 @@ use Rattle.nv_open.specs.declared.error.Refusal.TheVariants as refusals
 use Rattle.nv_trace.specs.Reading.{ending_of, Whole}
 use Rattle.nv_trace.specs.declared.trace.Form.TheVariants as forms
 use Rattle.nv_trace.specs.Traced.{Traced}
-use Rattle.nv_top.specs.Commands.{HasLooked, HasRecovered, HasRunOn, IsBasis, IsGivenBack, IsLookedAt, IsNotRun, IsNotShown}
+use Rattle.nv_top.specs.Commands.{HasLooked, HasRecovered, HasRunOn, IsBasis, IsGivenBack, IsLookedAt, IsNotRun, IsNotShown, RestsNotRun}
 use Rattle.nv_runner.specs.Faithful.{Basis}
 use Rattle.nv_load.specs.Generated.{generated}
 use Rattle.nv_top.specs.Loads.{HasGenerated, load_options}
@@ -100,10 +100,14 @@ pub record IsUnhindered (command : Command) (input : Option (List ℕ)) (holding
 abbrev pub IsRegionUnwritten : (old new : BenchState) → Refusal → Type 0
 IsRegionUnwritten old new why = ¬ (why ≡ refusals.TooManyFiles) → new.told ≡ told_after why old.told
 
+-- What a run leaves that isn't made: a region that was refused as it is, and at rest one of too many files.
+abbrev pub IsLeftNotRun : RunOptions → (was : Holding) → (wanted : List (List ℕ)) → (old new : BenchState) → Refusal → Type 0
+IsLeftNotRun options was wanted old new why = IsRegionUnwritten old new why × (why ≡ refusals.TooManyFiles → RestsNotRun options was wanted new.told)
+
 -- why a command is refused by the region of a bench that held this, and what it leaves of it
 abbrev pub IsCommandRefused : Command → (input : Option (List ℕ)) → (old new : BenchState) → Holding → Refusal → Type 0
 IsCommandRefused (Run options) input old new holding why =
-    IfSome input (λ input. (trace : Traced) × (ending_of forms.Run input ≡ Whole trace) × IsNotRun options holding trace.names why × IsRegionUnwritten old new why)
+    IfSome input (λ input. (trace : Traced) × (ending_of forms.Run input ≡ Whole trace) × IsNotRun options holding trace.names why × IsLeftNotRun options holding trace.names old new why)
 IsCommandRefused Recover input old new holding why = IsRefusedFor holding.parts why × IsRegionUnwritten old new why
 IsCommandRefused (Look files) input old new holding why = IsNotShown files holding why
-IsCommandRefused (Gen load) input old new holding why = IsNotRun load_options holding (generated load).names why × IsRegionUnwritten old new why
+IsCommandRefused (Gen load) input old new holding why = IsNotRun load_options holding (generated load).names why × IsLeftNotRun load_options holding (generated load).names old new why

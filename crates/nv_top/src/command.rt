@@ -10,7 +10,7 @@ ghost use Rattle.nv_trace.specs.Reading.{ending_of};
 ghost use Rattle.nv_trace.specs.declared.trace.Form.TheVariants as forms;
 ghost use Rattle.nv_trace.specs.Shape.{IsWellFormed};
 ghost use Rattle.nv_trace.specs.Streams.{Appends};
-ghost use Rattle.nv_top.specs.Commands.{IsGivenBack, IsNotRun};
+ghost use Rattle.nv_top.specs.Commands.{IsGivenBack, IsNotRun, RestsNotRun};
 ghost use Rattle.nv_top.specs.Endings.{IsErrorLine, AppendsFront, usage_line, read_line, device_line, memory_line, input_line, region_line, IsTrace};
 ghost use Rattle.nv_top.specs.Headline.{HasStopped, IsLeftBy, IsCommandRefused, IsUnhindered, IsShown, IsShownOf, command_over, expected_faults, possible};
 ghost use Rattle.nv_trace.specs.Traced.{lines_in};
@@ -99,7 +99,7 @@ pub fn nv_main<R: Threads + Wait + Sync, I: Source, O: Sink, B: Bench, G: Gate +
     ensures device_said { result ≡ DEVICE_FAULT → Appends (O.written out.old) (O.written out.new) device_line }
     ensures memory_said { result ≡ NO_MEMORY → Appends (O.written out.old) (O.written out.new) memory_line }
 
-    // With status 7 the line says why the region is refused. It is refused at entry, never after a stop's power failure.
+    // With status 7 the line says why the region is refused. It is refused at entry, never after a stop's power failure. It is as it was then, or, where there would be too many files, at rest.
     ensures region { result ≡ BAD_REGION → (why : Refusal) × Appends (O.written out.old) (O.written out.new) (region_line why)
         × ((command : Command) → command_over B.can_lose_power (map string_bytes words.now) ≡ Some command
         → IfSome (B.state bench.old).told (λ holding.
@@ -293,6 +293,8 @@ fn run_trace<R: Threads + Wait + Sync, T: Bench, G: Gate + Sync>(
         → IfSome (T.state bench.old).told (λ holding. IsNotRun options holding trace.now.names why) }
     ensures unwritten { (why : _) → result ≡ Err (stops.Region why) → ¬ (why ≡ refusals.TooManyFiles)
         → IfSome (T.state bench.old).told (λ holding. (T.state bench.new).told ≡ told_after why (T.state bench.old).told) }
+    ensures rests { result ≡ Err (stops.Region refusals.TooManyFiles)
+        → IfSome (T.state bench.old).told (λ holding. RestsNotRun options holding trace.now.names (T.state bench.new).told) }
     ensures unarmed { (why : _) → result ≡ Err (stops.Region why)
         → IfSome (T.state bench.old).told (λ holding. (T.state bench.new).arms ≡ (T.state bench.old).arms) }
 {
@@ -333,6 +335,8 @@ fn stop_run<R: Threads + Wait + Sync, T: Bench, G: Gate + Sync>(
         → IfSome (T.state bench.old).told (λ holding. IsNotRun options holding trace.now.names why) }
     ensures unwritten { (why : _) → result ≡ Err (stops.Region why) → (T.state bench.new).arms ≡ (T.state bench.old).arms
         → ¬ (why ≡ refusals.TooManyFiles) → (T.state bench.new).told ≡ told_after why (T.state bench.old).told }
+    ensures rests { result ≡ Err (stops.Region refusals.TooManyFiles) → (T.state bench.new).arms ≡ (T.state bench.old).arms
+        → IfSome (T.state bench.old).told (λ holding. RestsNotRun options holding trace.now.names (T.state bench.new).told) }
     ensures unarmed { (why : _) → result ≡ Err (stops.Region why)
         → IfSome (T.state bench.old).told (λ holding. (T.state bench.new).arms ≡ (T.state bench.old).arms) }
 {

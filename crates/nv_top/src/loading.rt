@@ -4,7 +4,7 @@ ghost use Rattle.nv_bench.specs.Holding.{IsQuietHolding};
 ghost use Rattle.nv_load.specs.Generated.{IsLoad, generated};
 ghost use Rattle.nv_open.specs.Held.{told_after};
 ghost use Rattle.nv_open.specs.declared.error.Refusal.TheVariants as refusals;
-ghost use Rattle.nv_top.specs.Commands.{IsGivenBack, IsNotRun};
+ghost use Rattle.nv_top.specs.Commands.{IsGivenBack, IsNotRun, RestsNotRun};
 ghost use Rattle.nv_top.specs.Lives.{LeavesRun};
 ghost use Rattle.nv_top.specs.Loads.{HasGenerated, load_options};
 ghost use Rattle.nv_top.specs.Stops.{CountHasCause};
@@ -40,6 +40,8 @@ pub(crate) fn run_load<R: Threads + Wait + Sync, T: Bench, G: Gate + Sync>(
         → IfSome (T.state bench.old).told (λ holding. IsNotRun load_options holding (generated load).names why) }
     ensures unwritten { (why : _) → result ≡ Err (stops.Region why) → ¬ (why ≡ refusals.TooManyFiles)
         → IfSome (T.state bench.old).told (λ holding. (T.state bench.new).told ≡ told_after why (T.state bench.old).told) }
+    ensures rests { result ≡ Err (stops.Region refusals.TooManyFiles)
+        → IfSome (T.state bench.old).told (λ holding. RestsNotRun load_options holding (generated load).names (T.state bench.new).told) }
     ensures life { IfSome (T.state bench.old).told (λ was. LeavesRun load_options was (generated load) (T.state bench.new).told) }
     ensures cause { CountHasCause (T.state bench.old).faults (T.state bench.new).faults result }
 {

@@ -20,7 +20,7 @@ ghost use Rattle.nv_runner.specs.declared.running.TheConstants.{MOST_CALLS};
 ghost use Rattle.nv_trace.specs.Said.{said_place};
 ghost use Rattle.nv_trace.specs.Shape.{IsWellFormed};
 ghost use Rattle.nv_trace.specs.Traced.{lines_in};
-ghost use Rattle.nv_top.specs.Commands.{HasRunOn, IsGivenBack, IsNotRun};
+ghost use Rattle.nv_top.specs.Commands.{HasRunOn, IsGivenBack, IsNotRun, RestsNotRun};
 ghost use Rattle.nv_top.specs.Lives.{AreLeftSo, LeavesRun};
 ghost use Rattle.nv_top.specs.Outcomes.{shown_report};
 ghost use Rattle.nv_top.specs.Runs.{BeginsMount, HasRunOver, IsQuietSpare, basis_over};
@@ -82,6 +82,8 @@ pub(crate) fn run<R: Threads + Wait + Sync, T: Bench, G: Gate + Sync>(
         → IfSome (T.state bench.old).told (λ holding. IsNotRun options holding trace.now.names why) }
     ensures unwritten { (why : _) → result ≡ Err (stops.Region why) → ¬ (why ≡ refusals.TooManyFiles)
         → IfSome (T.state bench.old).told (λ holding. (T.state bench.new).told ≡ told_after why (T.state bench.old).told) }
+    ensures rests { result ≡ Err (stops.Region refusals.TooManyFiles)
+        → IfSome (T.state bench.old).told (λ holding. RestsNotRun options holding trace.now.names (T.state bench.new).told) }
     ensures life { IfSome (T.state bench.old).told (λ was. LeavesRun options was trace.now (T.state bench.new).told) }
     ensures cause { CountHasCause (T.state bench.old).faults (T.state bench.new).faults result }
 {

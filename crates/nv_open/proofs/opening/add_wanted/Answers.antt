@@ -16,15 +16,12 @@ use Rattle.nv_pmem.specs.Moments.{Tells}
 use Rattle.nv_store.specs.Store.{IsQuietStore}
 use Rattle.nv_open.proofs.Tells.{opened_quiet}
 use Rattle.std.proofs.Common.{[], refl, take}
-use Rattle.nv_pmem.specs.RowStates.{AreNow}
-use Rattle.nv_pmem.specs.Rows.{InEachRowImage, RowTells}
+use Rattle.nv_pmem.specs.Rows.{InEachRowImage}
 use Rattle.nv_pmem.specs.Steps as lines
-use Rattle.nv_header.specs.Regions.{IsAtRest}
 use Rattle.nv_recover.specs.Telling.{AllTell}
-use Rattle.nv_open.specs.Lending.{stores_named}
-use Rattle.nv_open.specs.Unopened.{GivesBack, HasFirstNames, HasSome, InEachImage, TellRow}
-use Rattle.nv_open.proofs.GivenBack.{if_err_each, if_err_any}
-use Rattle.nv_open.proofs.Openings.{opened_none, some_nil}
+use Rattle.nv_open.specs.Unopened.{GivesBack, HasFirstNames, HasSome, InEachImage, IsAtRestWith, TellRow}
+use Rattle.nv_open.proofs.GivenBack.{if_err_each, rest_back}
+use Rattle.nv_open.proofs.Openings.{opened_none}
 use Rattle.nv_open.proofs.PartlyBack.{added_back, alone_are, rest_left, some_are}
 use Rattle.nv_open.proofs.opening.add_wanted.Goals as goal
 
@@ -168,3 +165,26 @@ returns-clause-standing g c files holds =
     opened.behind opened.lent opened.told
     (λ tell. subst (λ names. TellRow (InEachRowImage (HasFirstNames region.geometry.page region.geometry.entries known names region.next)) (map history failed.0.items)) is (left tell)))
     (λ tell. c.add_names.ensures.left tell)
+
+pub returns-then-len-gt-FILE_LIMIT-clause-rests : goal.returns-then-len-gt-FILE_LIMIT-clause-rests
+returns-then-len-gt-FILE_LIMIT-clause-rests g c files holds refused =
+    let history = g.T.Part.Lines.history in
+    let store_history = g.T.Store.Backing.history in
+    let state = g.T.Bench.state c.args.bench.now in
+    let region = c.args.region in
+    let stores = c.args.stores.now.items in
+    let back = c.into_parts-then-len-gt-FILE_LIMIT.result.items in
+    let At : List lines.PartHistory → Type 0 = λ row. IfSome state.told (λ holding. AllTell row → GivesBack history store_history (IsAtRestWith region.geometry.page region.geometry.entries region.names region.next files holding.stores) state back stores) in
+    subst At (ap (λ parts. map history parts.items) c.into_parts-then-len-gt-FILE_LIMIT.ensures.parts)
+    (rest_back history store_history state back stores region.geometry.page region.geometry.entries region.names region.next files c.rows_have_states.ensures.some c.requires.names holds c.into_parts-then-len-gt-FILE_LIMIT.ensures.region.tells)
+
+pub returns-clause-rests : goal.returns-clause-rests
+returns-clause-rests g c files holds =
+    let history = g.T.Part.Lines.history in
+    let store_history = g.T.Store.Backing.history in
+    let region = c.args.region in
+    let then = g.T.Bench.state c.open_stores.new.bench in
+    if_err_never (λ failed. failed.1 ≡ error.Refused TooManyFiles)
+    (λ failed. IfSome (g.T.Bench.state c.args.bench.now).told (λ holding. AllTell (map history region.parts.items)
+    → GivesBack history store_history (IsAtRestWith region.geometry.page region.geometry.entries region.names region.next files holding.stores) then failed.0.items c.open_stores.new.stores.items)) c.add_names.result
+    (c.add_names.ensures.never TooManyFiles)

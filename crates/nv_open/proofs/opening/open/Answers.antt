@@ -10,14 +10,13 @@ use Rattle.nv_open.proofs.AsHeld.{given_long, given_kept, some_map, opened_befor
 use Rattle.nv_open.proofs.LogLaws.{states_many}
 use Rattle.nv_open.proofs.Regions.{given_quiet, given_spare, given_tell, lent_told, quiet_parts, some_stores, still_untold, returned_told}
 use Rattle.nv_open.proofs.Sized.{quiet_opened}
-use Rattle.std.proofs.Common.{Option, [], ap, subst}
-use Rattle.std.specs.Prelude.{IfSome, option_map}
+use Rattle.std.proofs.Common.{Option, [], ap}
+use Rattle.std.specs.Prelude.{option_map}
 use Rattle.nv_pmem.specs.Rows.{RowTells}
 use Rattle.nv_pmem.specs.RowStates.{row_tells_at}
-use Rattle.nv_plain.specs.Files.{Files}
-use Rattle.nv_open.specs.Unopened.{GivesBack, InEachImage, StandForFiles, StandsWithSome, TellsOf}
+use Rattle.nv_open.specs.Unopened.{GivesBack, InEachImage, RestsUnopened, StandForFiles, StandsWithSome, TellsOf}
 use Rattle.nv_open.proofs.GivenBack.{at_some, if_err_any, if_some, told_so}
-use Rattle.nv_open.proofs.PartlyBack.{before_made, gives_more, made_stand, still_left}
+use Rattle.nv_open.proofs.PartlyBack.{before_made, gives_more, made_stand, rests_before, still_left}
 use Rattle.nv_open.proofs.opening.open.Goals as goal
 
 pub open_parts-requires-clause-spare : goal.open_parts-requires-clause-spare
@@ -130,4 +129,31 @@ returns-in-Err-clause-standing g c =
     told_so history store_history (InEachImage (StandsWithSome was wanted)) new back stores then
     (gives_more history store_history (InEachImage (StandsWithSome (Of made) wanted)) (InEachImage (StandsWithSome was wanted)) new back stores
     (λ holding each image bytes is are. before_made geometry was wanted image bytes (each image bytes is are)) gives)
+    c.give_back.ensures.told)
+
+pub returns-in-Err-clause-rests : goal.returns-in-Err-clause-rests
+returns-in-Err-clause-rests g c is =
+    let history = g.T.Part.Lines.history in
+    let store_history = g.T.Store.Backing.history in
+    let old = g.T.Bench.state c.args.bench.now in
+    let mid = g.T.Bench.state c.open_region.new.self in
+    let new = g.T.Bench.state c.open_parts.new.bench in
+    let parts = c.in_ok-parts.parts.items in
+    let stores = c.open_parts.new.stores.items in
+    let back = c.in-Err.parts.items in
+    let then = (g.T.Bench.state c.give_back.new.self).told in
+    let geometry = c.args.geometry in
+    let wanted = c.args.wanted.now in
+    let Rests : Holding → Holding → Type 0 = λ was. RestsUnopened was geometry wanted in
+    if_some old.told (λ was. TellsOf (Rests was) then) (λ was told.
+    let made = opened (Some geometry) was.parts in
+    let left : Holding = record { parts = []; stores = was.stores } in
+    let mid_told : mid.told ≡ Some left = lent_told old mid c.in_ok-parts.ensures.lent ∙ ap (λ (one : Option Holding). option_map (λ (these : Holding). record { parts = []; stores = these.stores }) one) told in
+    let Of : List Part → Holding = λ parts. record { parts = parts; stores = was.stores } in
+    let gives = row_tells_at (map history parts) (λ told. GivesBack history store_history (Rests (Of told)) new back stores) made
+    (at_some old.told (λ holding. AreNow (map history parts) (opened (Some geometry) holding.parts)) was told c.in_ok-parts.ensures.told)
+    (at_some mid.told (λ holding. RowTells (map history parts) (λ told. GivesBack history store_history (Rests (record { parts = told; stores = holding.stores })) new back stores)) left mid_told
+    (c.in-Err.ensures.rests (error_is (Err c.in-Err.error) _ _ refl is))) in
+    told_so history store_history (Rests was) new back stores then
+    (gives_more history store_history (Rests (Of made)) (Rests was) new back stores (λ holding rests. rests_before geometry was wanted holding rests) gives)
     c.give_back.ensures.told)

@@ -10,7 +10,8 @@ use Rattle.nv_open.specs.declared.error.OpenError.TheVariants as error
 use Rattle.nv_open.specs.declared.error.Refusal.TheVariants.{TooManyFiles}
 use Rattle.nv_open.proofs.Beginnings.{if_ok_map, if_err_map, if_some_map, if_some_any}
 use Rattle.nv_open.proofs.WithWanted.{still_quiet, lent_more, opened_passed, too_many, not_opened}
-use Rattle.nv_open.proofs.PartlyBack.{with_wanted}
+use Rattle.nv_open.specs.Unopened.{GivesBack, RestsUnopened}
+use Rattle.nv_open.proofs.PartlyBack.{never_too_many, too_many_rest, with_wanted}
 use Rattle.nv_open.proofs.opening.open_parts.Goals as goal
 
 pub add_wanted-requires-clause-synced : goal.add_wanted-requires-clause-synced
@@ -73,3 +74,25 @@ returns-in-Ok-clause-standing g c =
 
 pub returns-in-Err-clause-standing : goal.returns-in-Err-clause-standing
 returns-in-Err-clause-standing g c = c.in-Err.ensures.standing c.args.wanted.now
+
+pub returns-in-Ok-clause-rests : goal.returns-in-Ok-clause-rests
+returns-in-Ok-clause-rests g c =
+    let history = g.T.Part.Lines.history in
+    let store_history = g.T.Store.Backing.history in
+    let region = c.in-Ok.region in
+    let wanted = c.args.wanted.now in
+    too_many_rest history store_history c.add_wanted.result (λ failed. failed.0.items) (λ failed. failed.1 ≡ error.Refused TooManyFiles) (g.T.Bench.state c.args.bench.now).told (g.T.Bench.state c.begin.new.bench).told (g.T.Bench.state c.add_wanted.new.bench)
+    (map history c.args.parts.items) (map history region.parts.items) (map store_history c.begin.new.stores.items) c.add_wanted.new.stores.items c.args.geometry region.geometry.page region.geometry.entries region.names wanted region.next
+    (ap (λ (state : BenchState). state.told) c.in-Ok.ensures.names) c.in-Ok.ensures.begun c.in-Ok.ensures.files c.in-Ok.ensures.told
+    (if_err_map (λ failed. failed.1 ≡ error.Refused TooManyFiles → (TooManyFiles ≡ TooManyFiles) × (16 < length (all_names region.names wanted)))
+    (λ failed. failed.1 ≡ error.Refused TooManyFiles → 16 < length (all_names region.names wanted)) c.add_wanted.result (λ failed many is. (many is).1) (c.add_wanted.ensures.refused TooManyFiles))
+    c.add_wanted.ensures.rests
+
+pub returns-in-Err-clause-rests : goal.returns-in-Err-clause-rests
+returns-in-Err-clause-rests g c is =
+    let history = g.T.Part.Lines.history in
+    let store_history = g.T.Store.Backing.history in
+    let new = g.T.Bench.state c.begin.new.bench in
+    never_too_many (g.T.Bench.state c.args.bench.now).told (map history c.args.parts.items)
+    (λ holding told. GivesBack history store_history (RestsUnopened (record { parts = told; stores = holding.stores }) c.args.geometry c.args.wanted.now) new c.in-Err.failed.0.items c.begin.new.stores.items)
+    (c.in-Err.ensures.refused TooManyFiles is)

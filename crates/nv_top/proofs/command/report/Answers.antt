@@ -1,4 +1,4 @@
-use Rattle.std.proofs.Common.{◌∙◌, Some, map, sym, subst, ap}
+use Rattle.std.proofs.Common.{◌∙◌, Err, Some, map, sym, subst, ap}
 use Rattle.std.specs.Prelude.{IfSome, string_bytes}
 use Rattle.nv_top.specs.Headline.{IsCommandRefused}
 use Rattle.nv_top.specs.declared.words.Command.{Command}
@@ -63,7 +63,7 @@ returns-in-Gen-clause-region g c why is command over =
     let left = g.I.Source.left c.args.src.now in
     let With : Command → Type 0 = λ command. IfSome old.told (λ holding. IsCommandRefused command left old new holding why) in
     subst With (same_some (sym (c.in_ok-command.ensures.command ∙ ap Some c.in-Gen.is) ∙ over))
-    (load_refused c.in-Gen.load left old new why (c.run_load.ensures.refused why is) (c.run_load.ensures.unwritten why is))
+    (load_refused c.in-Gen.load left old new why (c.run_load.ensures.refused why is) (c.run_load.ensures.unwritten why is) (λ same. c.run_load.ensures.rests (is ∙ ap (λ why. Err (stops.Region why)) same)))
 
 pub returns-in-Run-clause-life : goal.returns-in-Run-clause-life
 returns-in-Run-clause-life g c command over =

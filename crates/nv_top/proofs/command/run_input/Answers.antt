@@ -3,7 +3,8 @@ use Rattle.std.proofs.lemmas.Result.{IfOk-weaker}
 use Rattle.nv_top.specs.Headline.{IsShown, IsShownOf}
 use Rattle.nv_top.specs.declared.words.Command.TheVariants.{Run}
 use Rattle.nv_top.proofs.HeadlineLemmas.{both_told, refused_from, shown_from, unarmed_from}
-use Rattle.std.proofs.Common.{◌≡◌, refl}
+use Rattle.std.proofs.Common.{◌≡◌, ◌∙◌, Err, ap, refl}
+use Rattle.nv_top.specs.declared.ending.Stop.TheVariants as stops
 use Rattle.nv_top.specs.Headline.{expected_faults}
 use Rattle.nv_top.proofs.LifeLemmas.{life_from, life_unopened}
 use Rattle.nv_plain.specs.Faults.{Rose}
@@ -17,7 +18,7 @@ returns-clause-region g c why is =
     let new = g.B.Bench.state c.run_trace.new.bench in
     let trace = c.in_ok-trace.trace in
     refused_from c.args.options (g.I.Source.left c.args.src.now) old new trace why c.in_ok-trace.ensures.whole
-    (both_told c.args.options old new trace.names why (c.run_trace.ensures.refused why is) (c.run_trace.ensures.unwritten why is))
+    (both_told c.args.options old new trace.names why (c.run_trace.ensures.refused why is) (c.run_trace.ensures.unwritten why is) (λ same. c.run_trace.ensures.rests (is ∙ ap (λ why. Err (stops.Region why)) same)))
 
 pub returns-clause-report : goal.returns-clause-report
 returns-clause-report g c =
@@ -59,7 +60,7 @@ returns-clause-complete g c =
     let left = g.I.Source.left c.args.src.now in
     settled_done c.args.options left old new (Rose (g.I.Source.fault_count c.args.src.now) _) (expected_faults old new) new.faults c.run_trace.result c.run_trace.ensures.cause
     (λ why is. refused_from c.args.options left old new c.in_ok-trace.trace why c.in_ok-trace.ensures.whole
-    (both_told c.args.options old new c.in_ok-trace.trace.names why (c.run_trace.ensures.refused why is) (c.run_trace.ensures.unwritten why is)))
+    (both_told c.args.options old new c.in_ok-trace.trace.names why (c.run_trace.ensures.refused why is) (c.run_trace.ensures.unwritten why is) (λ same. c.run_trace.ensures.rests (is ∙ ap (λ why. Err (stops.Region why)) same))))
 
 pub returns-clause-counts : goal.returns-clause-counts
 returns-clause-counts g c =

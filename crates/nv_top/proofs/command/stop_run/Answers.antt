@@ -11,11 +11,12 @@ use Rattle.nv_bench.specs.Holding.{Holding, IsQuietHolding}
 use Rattle.nv_open.specs.Adding.{all_names}
 use Rattle.nv_open.specs.Lending.{without_stores}
 use Rattle.nv_recover.specs.Standing.{files_of}
-use Rattle.nv_top.specs.Commands.{IsBasis, IsNotRun}
+use Rattle.nv_top.specs.Commands.{IsBasis, IsNotRun, RestsNotRun}
 use Rattle.nv_trace.specs.Said.{said_place}
 use Rattle.nv_top.specs.Headline.{HasStopped}
 use Rattle.nv_top.specs.Runs.{basis_over}
 use Rattle.nv_top.specs.Stopping.{HasStoppedOn, IsAway}
+use Rattle.nv_open.specs.declared.error.Refusal.TheVariants.{TooManyFiles}
 use Rattle.nv_top.specs.Stops.{stop_of_opening}
 use Rattle.nv_top.specs.declared.ending.Stop.TheVariants.{Region}
 use Rattle.nv_top.proofs.CommandLemmas.{if_told, mid_told, told_at}
@@ -165,3 +166,19 @@ returns-in_err-opened-clause-never_falls g c =
 
 pub returns-clause-never_falls : goal.returns-clause-never_falls
 returns-clause-never_falls g c = omega (arith, c.in_ok-opened.ensures.counts, c.run_to_stop.ensures.never_falls)
+
+pub returns-in_err-opened-clause-rests : goal.returns-in_err-opened-clause-rests
+returns-in_err-opened-clause-rests g c is arms =
+    let old = g.T.Bench.state c.args.bench.now in
+    let new = g.T.Bench.state c.open.new.bench in
+    let error = c.in_err-opened.field-0.0 in
+    let trace = c.args.trace.now in
+    let stop : Region TooManyFiles ≡ stop_of_opening error = err_has c.from_residual-in_err-opened.result (λ stop. stop ≡ stop_of_opening error) (Region TooManyFiles) is c.from_residual-in_err-opened.ensures.1 in
+    if_told old.told (λ holding. RestsNotRun c.args.options holding trace.names new.told) (λ holding told.
+    let With : List (List ℕ) → Type 0 = λ wanted. RestsNotRun c.args.options holding wanted new.told in
+    subst With (c.in_ok-wanted.ensures ∙ c.names.ensures) (record {
+      geometry = _;
+      page_is = refl;
+      entries_are = refl;
+      rests = told_at old.told _ holding told (c.in_err-opened.ensures.rests (ap Err (opening_refused error TooManyFiles (sym stop))));
+    }))

@@ -3,7 +3,7 @@ use Rattle.std.specs.Prelude.{IfOk, IfSome}
 use Rattle.std.proofs.lemmas.Result.{IfOk-weaker}
 use Rattle.nv_trace.specs.Traced.{Traced}
 use Rattle.nv_load.specs.Generated.{generated}
-use Rattle.nv_top.specs.Commands.{HasRunOn, IsNotRun}
+use Rattle.nv_top.specs.Commands.{HasRunOn, IsNotRun, RestsNotRun}
 use Rattle.nv_top.specs.Lives.{LeavesRun}
 use Rattle.nv_top.specs.Loads.{HasGenerated, load_options}
 use Rattle.nv_top.specs.declared.show.Show.TheVariants.{Summary}
@@ -47,3 +47,11 @@ returns-clause-life g c =
     let new = g.T.Bench.state c.run.new.bench in
     let Left : RunOptions → Traced → Type 0 = λ options trace. IfSome old.told (λ was. LeavesRun options was trace new.told) in
     subst (Left load_options) c.in_ok-trace.ensures.trace (subst (λ (options : RunOptions). Left options c.in_ok-trace.trace) c.options.ensures c.run.ensures.life)
+
+pub returns-clause-rests : goal.returns-clause-rests
+returns-clause-rests g c is =
+    let old = g.T.Bench.state c.args.bench.now in
+    let new = g.T.Bench.state c.run.new.bench in
+    let Rests : RunOptions → List (List ℕ) → Type 0 = λ options names. IfSome old.told (λ holding. RestsNotRun options holding names new.told) in
+    subst (Rests load_options) (ap (λ (trace : Traced). trace.names) c.in_ok-trace.ensures.trace)
+    (subst (λ (options : RunOptions). Rests options c.in_ok-trace.trace.names) c.options.ensures (c.run.ensures.rests is))

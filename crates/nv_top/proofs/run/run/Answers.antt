@@ -13,7 +13,8 @@ use Rattle.nv_trace.specs.Said.{said_place}
 use Rattle.nv_top.proofs.NameLemmas.{wanted_known}
 use Rattle.nv_top.proofs.RowLemmas.{present}
 use Rattle.std.proofs.Common.{Err}
-use Rattle.nv_top.specs.Commands.{IsNotRun}
+use Rattle.nv_top.specs.Commands.{IsNotRun, RestsNotRun}
+use Rattle.nv_open.specs.declared.error.Refusal.TheVariants.{TooManyFiles}
 use Rattle.nv_top.specs.Stops.{stop_of_opening}
 use Rattle.nv_top.specs.declared.ending.Stop.TheVariants.{Region}
 use Rattle.nv_top.proofs.StopLemmas.{err_has, opening_refused}
@@ -177,4 +178,20 @@ returns-clause-life g c =
           (λ disks are. back_again region.names holding.stores disks (home_distinct old holding (g.met.T.Bench.named c.args.bench.now) told c.requires.home)
           (sym (states_many (map held ended.stores.items) disks are ∙ length-map ended.stores.items held ∙ c.run_over-parts.ensures.count ∙ made.one_each)) region.is_region.names_are.distinct)
           (λ now disks now_are disks_are. c.give_back.ensures.told now disks now_are disks_are ∙ back_is old mid region.names holding made.lent c.requires.home told now disks);
+    }))
+
+pub returns-in_err-region-clause-rests : goal.returns-in_err-region-clause-rests
+returns-in_err-region-clause-rests g c is =
+    let old = g.T.Bench.state c.args.bench.now in
+    let new = g.T.Bench.state c.open.new.bench in
+    let error = c.in_err-region.field-0.0 in
+    let trace = c.args.trace.now in
+    let stop : Region TooManyFiles ≡ stop_of_opening error = err_has c.from_residual-in_err-region.result (λ stop. stop ≡ stop_of_opening error) (Region TooManyFiles) is c.from_residual-in_err-region.ensures.1 in
+    if_told old.told (λ holding. RestsNotRun c.args.options holding trace.names new.told) (λ holding told.
+    let With : List (List ℕ) → Type 0 = λ wanted. RestsNotRun c.args.options holding wanted new.told in
+    subst With (c.in_ok-wanted.ensures ∙ c.names.ensures) (record {
+      geometry = _;
+      page_is = refl;
+      entries_are = refl;
+      rests = told_at old.told _ holding told (c.in_err-region.ensures.rests (ap Err (opening_refused error TooManyFiles (sym stop))));
     }))
