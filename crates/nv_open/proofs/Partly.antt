@@ -64,7 +64,7 @@ many_entries : (image : Image) (numbers : List ℕ) (files : Files) → length (
 many_entries image [] files = refl
 many_entries image (number ∷ later) files = many_entries image later (with_entry image files number) ∙ length-set files.contents _ _
 
-many_recovered : (image : Image) (files : Files) → length (recovered image files).files.contents ≡ length files.contents
+pub many_recovered : (image : Image) (files : Files) → length (recovered image files).files.contents ≡ length files.contents
 many_recovered image files = many_entries image (flat_map (group_numbers image) (committed image)) files
 
 -- one whose log is empty stands for what the stores hold

@@ -19,3 +19,4 @@ pub mod WordLemmas
 pub mod LifeLemmas
 pub mod CompleteLemmas
 pub mod NextLemmas
+pub mod FoundLemmas

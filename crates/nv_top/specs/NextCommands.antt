@@ -1,13 +1,28 @@
 -- Next commands: what a command asks of a bench, and that one that ended with status 0 leaves it so for the next.
-use Rattle.std.specs.Prelude.{◌≡◌, ℕ, ◌+◌, ◌^◌, ◌<◌, ◌≤◌, false, List, [], Option, Some, IfSome}
+use Rattle.std.specs.Prelude.{◌≡◌, ◌⊎◌, ℕ, ◌+◌, ◌^◌, ◌<◌, ◌≤◌, Bool, false, List, [], ◌∷◌, ◌++◌, length, Option, Some, IfSome}
+use Rattle.std.specs.List.{flat_map}
+use Rattle.nv_plain.specs.declared.call.Reply.{Reply}
+use Rattle.nv_plain.specs.declared.call.Reply.TheVariants.{Count, Done}
+use Rattle.nv_plain.specs.Faults.{Rose}
+use Rattle.nv_plain.specs.Files.{Files}
+use Rattle.nv_plain.specs.Histories.{Answered, IsLegal, after}
 use Rattle.nv_bench.specs.Benches.{BenchState}
 use Rattle.nv_bench.specs.Holding.{Holding, IsQuietHolding}
-use Rattle.nv_open.specs.Adding.{all_names}
-use Rattle.nv_runner.specs.Faithful.{Basis}
-use Rattle.nv_runner.specs.Reports.{Report}
+use Rattle.nv_bench.specs.Naming.{AreDistinct, names_of}
+use Rattle.nv_open.specs.Adding.{all_names, new_names}
+use Rattle.nv_open.specs.Begun.{files_behind}
+use Rattle.nv_open.specs.Held.{files_named, header_names}
+use Rattle.nv_runner.specs.Faithful.{Basis, IsFaithful, descriptors_in, file_call, files_shown, history_of}
+use Rattle.nv_runner.specs.Reports.{OpenCall, Report}
+use Rattle.nv_trace.specs.declared.report.Fate.{Fate}
+use Rattle.nv_trace.specs.declared.report.Fate.TheVariants.{Kept, Lost}
+use Rattle.nv_trace.specs.declared.trace.Descriptor.{Descriptor}
+use Rattle.nv_trace.specs.declared.trace_call.TraceCall.{TraceCall}
+use Rattle.nv_trace.specs.declared.trace_call.TraceCall.TheVariants.{Pread, Pwrite, Fsync}
+use Rattle.nv_trace.specs.Shape.{IsWellFormed}
 use Rattle.nv_trace.specs.Traced.{Traced}
-use Rattle.nv_top.specs.Commands.{HasRunOn, IsBasis}
-use Rattle.nv_top.specs.Headline.{HasInput, IsLeftBy, IsShown, expected_faults}
+use Rattle.nv_top.specs.Commands.{HasRecovered, HasRunOn, IsBasis, IsLookedAt}
+use Rattle.nv_top.specs.Headline.{HasInput, HasStopped, IsLeftBy, IsShown, expected_faults}
 use Rattle.nv_top.specs.Runs.{next_behind}
 use Rattle.nv_top.specs.declared.show.Show.{Show}
 use Rattle.nv_top.specs.declared.words.Command.{Command}
@@ -40,3 +55,80 @@ abbrev pub NextBeginsBehind : Type 0
 NextBeginsBehind =
     (show : Show) (options later : RunOptions) (holding : Holding) (told : Option Holding) (trace : Traced) (text : List ℕ) (ran : HasRunOn show options holding told trace text) (wanted : List (List ℕ)) (basis : Basis)
     → IsBasis later ran.left.now wanted basis → BeginsBehind ran.basis ran.report wanted basis
+
+-- ---- the files that a next command finds
+
+-- No two stores have the same name: so it is wherever a bench tells and nothing is lent, by a law of each (`named`).
+abbrev pub HasOwnNames : Holding → Type 0
+HasOwnNames holding = AreDistinct (names_of holding.stores)
+
+-- A run begins with these names and files, on a bench that holds this: behind them stand the new names, and what their stores hold.
+pub record BeginsWith (names : List (List ℕ)) (files : Files) (holding : Holding) (wanted : List (List ℕ)) (basis : Basis) : Type 0 where
+  pub names_are : basis.names ≡ all_names names wanted
+  pub files_are : basis.files ≡ files_behind files (new_names names wanted) holding.stores
+
+-- A bench that holds this stands for these files, under these names: a recovery shows them, and a look; and each run begins with them, whatever it asks for.
+pub record FindsFiles (names : List (List ℕ)) (files : Files) (holding : Holding) : Type 0 where
+  pub names_are : header_names holding.parts ≡ names
+  pub files_are : files_named holding.parts names holding.stores ≡ files
+  pub begins : (options : RunOptions) (wanted : List (List ℕ)) (basis : Basis) → IsBasis options holding wanted basis → BeginsWith names files holding wanted basis
+
+-- Behind a run without a stop, also one of a load, a command finds the files that the run's report shows.
+abbrev pub NextFindsRun : Type 0
+NextFindsRun =
+    (show : Show) (options : RunOptions) (holding : Holding) (told : Option Holding) (trace : Traced) (text : List ℕ) (ran : HasRunOn show options holding told trace text)
+    → HasOwnNames ran.left.now → FindsFiles ran.basis.names (files_shown ran.basis trace ran.report) ran.left.now
+
+-- So it does behind a run that was stopped: the kept ones of its open writes are whole in them, and nothing is of the lost ones.
+abbrev pub NextFindsStopped : Type 0
+NextFindsStopped =
+    (options : RunOptions) (old new : BenchState) (holding : Holding) (trace : Traced) (text : List ℕ) (run : HasStopped (Rose old.faults new.faults) options old.picked holding new trace text)
+    → HasOwnNames run.stopped.rests.now → FindsFiles run.basis.names (files_shown run.basis trace run.stopped.report) run.stopped.rests.now
+
+-- Behind a recovery it finds the files that the recovery shows, which are those that the bench stood for before.
+abbrev pub NextFindsRecovered : Type 0
+NextFindsRecovered =
+    (holding : Holding) (told : Option Holding) (text : List ℕ) (recovered : HasRecovered holding told text)
+    → HasOwnNames recovered.left.now
+    → FindsFiles (header_names holding.parts) (files_named holding.parts (header_names holding.parts) holding.stores) recovered.left.now
+
+-- A run behind a look begins as it would have without the look.
+abbrev pub NextFindsLooked : Type 0
+NextFindsLooked =
+    (files : Bool) (old new : BenchState) (holding now : Holding) → IsLookedAt files old new → old.told ≡ Some holding → new.told ≡ Some now → HasOwnNames holding
+    → (options : RunOptions) (wanted : List (List ℕ)) (basis : Basis) → IsBasis options now wanted basis → IsBasis options holding wanted basis
+
+-- ---- the history of two runs
+
+-- what a write is answered with that was done: the count of its bytes
+abbrev pub whole_reply : TraceCall → Reply
+whole_reply (Pread fd at len) = Done
+whole_reply (Pwrite fd at bytes) = Count (length bytes)
+whole_reply (Fsync fd) = Done
+
+-- an open write that was kept, as one that was done; a lost one is none
+abbrev pub done_so : List Descriptor → OpenCall → Fate → List Answered
+done_so descriptors o Kept = record { caller = o.call.thread; call = file_call descriptors o.call.call; reply = whole_reply o.call.call } ∷ []
+done_so descriptors o Lost = []
+
+-- all that a run did of its files: the calls of its history, and behind them the kept ones of its open writes
+abbrev pub done_by : Basis → Traced → Report → List Answered
+done_by basis trace report =
+    let descriptors = descriptors_in basis.names trace in
+    history_of descriptors report.history ++ flat_map (λ o. done_so descriptors o o.fate) report.open_calls
+
+-- A report of a run is faithful: of one by which no device failed, or of one that was stopped, where some may have.
+abbrev pub IsReportOf : (worker : Bool) → Basis → Traced → Report → Type 0
+IsReportOf worker basis trace report = IsFaithful ⊥ worker basis trace report ⊎ ((before : ℕ) × (now : ℕ) × IsFaithful (Rose before now) worker basis trace report)
+
+-- Two runs, one behind the other on one bench and each stopped or not, have one history: what the first did and then what the second did, legal from the files that the first began with and, behind them, those of
+-- the second's new names. It leaves the files that the second shows.
+abbrev pub RunsHaveOneHistory : Type 0
+RunsHaveOneHistory =
+    (options asked : RunOptions) (holding now : Holding) (trace next : Traced) (first second : Basis) (report last : Report)
+    → IsBasis options holding trace.names first → IsReportOf options.worker first trace report → IsWellFormed trace
+    → FindsFiles first.names (files_shown first trace report) now
+    → IsBasis asked now next.names second → IsReportOf asked.worker second next last
+    → let all = files_behind first.files (new_names first.names next.names) now.stores in
+    let both = done_by first trace report ++ done_by second next last in
+    IsLegal both all × (files_shown second next last ≡ after both all)

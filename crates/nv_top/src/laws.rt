@@ -1,5 +1,5 @@
 //! Laws of reports, and of commands one behind the other.
-ghost use Rattle.nv_top.specs.NextCommands.{NextBeginsBehind, NextIsReady};
+ghost use Rattle.nv_top.specs.NextCommands.{NextBeginsBehind, NextFindsLooked, NextFindsRecovered, NextFindsRun, NextFindsStopped, NextIsReady, RunsHaveOneHistory};
 ghost use Rattle.nv_top.specs.Readings.{OneNumber, OneReading, OneRecoveryReading};
 
 /// The text of a report has one reading: reports of one text list the same lines, field by field, those of runs and those of
@@ -14,7 +14,15 @@ pub fn report_has_one_reading()
 /// all that [`nv_main`](crate::nv_main) asks of a bench follows from its clauses `back`, `counts` and `report`, but that it was armed
 /// less than 2^63 - 1 times before. A run behind a run begins with the region that the first one left, at the number behind the last
 /// that its calls drew.
+///
+/// A command behind a run, stopped or not, or behind a recovery finds the files that this one showed, under their names: a recovery and
+/// a look show them, and a run begins with them. So two runs, one behind the other, have one history.
 pub fn a_next_command_may_follow()
     ensures ready { NextIsReady }
     ensures begins { NextBeginsBehind }
+    ensures finds_run { NextFindsRun }
+    ensures finds_stopped { NextFindsStopped }
+    ensures finds_recovered { NextFindsRecovered }
+    ensures finds_looked { NextFindsLooked }
+    ensures one_history { RunsHaveOneHistory }
 {}
