@@ -64,9 +64,14 @@ module _ (old mid : BenchState) (names : List (List ℕ)) (holding : Holding) (l
     };
   }
 
--- a bench that is left with the files of some names is so with those of the same names
-pub leaves_by : {want : Option Geometry} {names other : List (List ℕ)} {holding : Holding} {then : Option Holding} (parts : List Part) (backing : List NamedStore) → names ≡ other
-    → Leaves want names (files_named parts names backing) holding then → Leaves want other (files_named parts other backing) holding then
-leaves_by {want} {names} {other} {holding} {then} parts backing same left =
-    let LeftWith : List (List ℕ) → Type 0 = λ by. Leaves want by (files_named parts by backing) holding then in
+-- A bench is left with the files of these names, and with a region of these sizes whose log goes on with this number.
+abbrev pub LeavesAt : (page entries next : ℕ) (want : Option Geometry) (names : List (List ℕ)) (files : Files) (was : Holding) (told : Option Holding) → Type 0
+LeavesAt page entries next want names files was told =
+    (left : Leaves want names files was told) × (left.left.page ≡ page) × (left.left.entries ≡ entries) × (left.left.next ≡ next)
+
+-- one that is left with the files of some names is so with those of the same names
+pub leaves_by : {want : Option Geometry} {names other : List (List ℕ)} {holding : Holding} {then : Option Holding} (parts : List Part) (backing : List NamedStore) (page entries next : ℕ) → names ≡ other
+    → LeavesAt page entries next want names (files_named parts names backing) holding then → LeavesAt page entries next want other (files_named parts other backing) holding then
+leaves_by {want} {names} {other} {holding} {then} parts backing page entries next same left =
+    let LeftWith : List (List ℕ) → Type 0 = λ by. LeavesAt page entries next want by (files_named parts by backing) holding then in
     subst LeftWith same left

@@ -3,12 +3,15 @@ use Rattle.std.proofs.Common.{◌≡◌, ℕ, ◌+◌, ◌<◌, ◌≤◌, ◌==
 use Rattle.std.specs.Prelude.{IfSome}
 use Rattle.std.proofs.lemmas.List.Elements.{All-nil, All-cons, All-head, All-tail, All-append}
 use Rattle.nv_plain.specs.Files.{Files}
+use Rattle.nv_plain.specs.Layouts.{version_1}
 use Rattle.nv_plain.specs.Recovered.{next_after, recovered}
 use Rattle.nv_pmem.specs.Rows.{row_words}
 use Rattle.nv_pmem.proofs.ImageLaws.{image_of_now}
 use Rattle.nv_pmem.specs.declared.picker.Pick.{Pick}
 use Rattle.nv_bench.specs.Opening.{is_blank}
+use Rattle.nv_header.specs.Regions.{IsAtRest}
 use Rattle.nv_open.specs.Adding.{all_names}
+use Rattle.nv_open.specs.Held.{header_names}
 use Rattle.nv_open.proofs.Stands.{names_read}
 use Rattle.nv_recover.proofs.AlikeLaws.{no_commit}
 use Rattle.nv_recover.proofs.EmptyLaws.{empty_none}
@@ -20,14 +23,16 @@ use Rattle.nv_open.specs.Looking.{names_until, told_by}
 use Rattle.nv_open.proofs.Homes.{kept_in_all}
 use Rattle.nv_open.proofs.Returns.{named_quiet}
 use Rattle.nv_recover.specs.Standing.{AreQuietStores}
-use Rattle.nv_top.specs.Commands.{IsGivenBack, IsLookedAt}
+use Rattle.nv_top.specs.Commands.{IsBasis, IsGivenBack, IsLookedAt}
 use Rattle.nv_top.specs.Headline.{IsLeftAfter, IsShown, IsShownOf, expected_faults}
 use Rattle.nv_top.specs.Leaving.{Leaves}
-use Rattle.nv_top.specs.NextCommands.{IsReady, NextBeginsBehind, NextIsReady}
-use Rattle.nv_top.specs.Stopping.{IsPoweredBack, RestsWith}
+use Rattle.nv_top.specs.NextCommands.{BeginsAt, IsReady, NextBeginsBehind, NextBeginsBehindRecovery, NextBeginsBehindStop, NextIsReady}
+use Rattle.nv_top.specs.Stopping.{IsPoweredBack, RestsWith, next_in}
 use Rattle.nv_top.specs.declared.words.Command.TheVariants.{Run, Recover, Look, Gen}
 use Rattle.nv_top.proofs.CommandLemmas.{told_at}
 use Rattle.nv_trace.specs.Traced.{Traced}
+use Rattle.nv_top.specs.declared.words.RunOptions.{RunOptions}
+use Rattle.nv_runner.specs.Faithful.{Basis}
 
 abbrev Still : List NamedStore → Type 0
 Still stores = All (λ (named : NamedStore). IsQuietStore named.store) stores
@@ -54,8 +59,8 @@ left_quiet {want} {names} {files} {was} {told} quiet leaves =
           (kept_in_all (λ (named : NamedStore). IsQuietStore named.store) names was.stores quiet.stores) leaves.left.synced;
     })
 
-rests_quiet : {names : List (List ℕ)} {files : _} {told : Option Holding} → RestsWith names files told → IfSome told IsQuietHolding
-rests_quiet {names} {files} {told} rests =
+rests_quiet : {page entries : ℕ} {names : List (List ℕ)} {next : ℕ} {files : _} {told : Option Holding} → RestsWith page entries names next files told → IfSome told IsQuietHolding
+rests_quiet {page} {entries} {names} {next} {files} {told} rests =
     told_quiet told rests.now rests.told_is (record { parts = rests.rest.quiet; stores = both_still rests.others names rests.disks rests.now.stores rests.stores_are rests.still rests.synced })
 
 module _ (old new : BenchState) (holding : Holding) (ready : IsReady old) (told : old.told ≡ Some holding) (room : old.arms + 1 < 2 ^ 63) (counts : new.faults ≡ expected_faults old new) where
@@ -126,21 +131,35 @@ next_is_ready (Gen load) input old new holding text ready told room has left cou
 
 -- ---- where the next run begins
 
+-- over a region at rest it begins with the sizes and at the number of that
+begins_at : (page entries next : ℕ) (names : List (List ℕ)) (now : Holding) (later : RunOptions) (wanted : List (List ℕ)) (basis : Basis) → IsAtRest version_1 page entries names next now.parts → IsBasis later now wanted basis
+    → BeginsAt page entries next basis × (basis.names ≡ all_names names wanted)
+begins_at page entries next names now later wanted basis rest begins =
+    let image = row_words now.parts in
+    let empty = rest.empty image (record { each = λ i. image_of_now (slice_index_or now.parts i []) }) in
+    let none = empty_none page entries names next image empty in
+    let blank : is_blank now.parts ≡ false = ap (λ (magic : ℕ). magic == 0) empty.header.readable.fields.magic in
+    let kept = (begins.begun.kept blank).recovered in
+    let files : Files = record { contents = [] } in
+    let known : begins.known ≡ names = kept.names_are ∙ names_read now.parts ∙ empty.header.names_are in
+    let goes_on : (recovered image files).next ≡ next = ap (next_after image) (no_commit image none) ∙ empty.header.tail_is in (
+      record { page_is = kept.page_is ∙ empty.header.page_is; entries_is = kept.entries_is ∙ empty.header.entries_is; next_is = kept.next_is ∙ kept.log.next files ∙ goes_on },
+      begins.names_are ∙ ap (λ known. all_names known wanted) known,
+    )
+
 pub next_begins_behind : NextBeginsBehind
 next_begins_behind show options later holding told trace text ran wanted basis second =
-    let now = ran.left.now in
     let left = ran.left.left in
-    let image = row_words now.parts in
-    let empty = left.rest.empty image (record { each = λ i. image_of_now (slice_index_or now.parts i []) }) in
-    let none = empty_none left.page left.entries ran.basis.names left.next image empty in
-    let blank : is_blank now.parts ≡ false = ap (λ (magic : ℕ). magic == 0) empty.header.readable.fields.magic in
-    let kept = (second.begun.kept blank).recovered in
-    let files : Files = record { contents = [] } in
-    let known : second.known ≡ ran.basis.names = kept.names_are ∙ names_read now.parts ∙ empty.header.names_are in
-    let goes_on : (recovered image files).next ≡ left.next = ap (next_after image) (no_commit image none) ∙ empty.header.tail_is in
-    record {
-      page = kept.page_is ∙ empty.header.page_is ∙ ran.page_is;
-      entries = kept.entries_is ∙ empty.header.entries_is ∙ ran.entries_is;
-      names = second.names_are ∙ ap (λ known. all_names known wanted) known;
-      next = kept.next_is ∙ kept.log.next files ∙ goes_on ∙ ran.next_is;
-    }
+    let (at, names) = begins_at left.page left.entries left.next ran.basis.names ran.left.now later wanted basis left.rest second in
+    record { page = at.page_is ∙ ran.page_is; entries = at.entries_is ∙ ran.entries_is; names = names; next = at.next_is ∙ ran.next_is }
+
+pub next_begins_behind_stop : NextBeginsBehindStop
+next_begins_behind_stop options later old new holding trace text run wanted basis second =
+    let rests = run.stopped.rests in
+    (begins_at run.basis.sizes.page run.basis.sizes.entries (next_in run.stopped.parts run.basis.files) run.basis.names rests.now later wanted basis rests.rest second).0
+
+pub next_begins_behind_recovery : NextBeginsBehindRecovery
+next_begins_behind_recovery later holding told text recovered wanted basis second =
+    let left = recovered.left.left in
+    let at = (begins_at left.page left.entries left.next (header_names holding.parts) recovered.left.now later wanted basis left.rest second).0 in
+    record { page_is = at.page_is ∙ recovered.page_is; entries_is = at.entries_is ∙ recovered.entries_is; next_is = at.next_is ∙ recovered.next_is }

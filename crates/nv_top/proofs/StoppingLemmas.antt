@@ -30,6 +30,7 @@ use Rattle.nv_header.specs.Heads.{first_names}
 use Rattle.nv_header.specs.Regions.{IsAtRest}
 use Rattle.nv_open.specs.Held.{HoldFiles, IsRecovered, files_named, header_names}
 use Rattle.nv_open.specs.Lending.{all_lent, stores_named, without_named, without_stores}
+use Rattle.nv_open.specs.Refusals.{head_image}
 use Rattle.nv_recover.specs.Standing.{AreStoreImages, ReadableStandsForRecovered, files_of}
 use Rattle.nv_recover.specs.Recovering.{HasFoundAll}
 use Rattle.nv_recover.specs.declared.recovering.Recovered as recover
@@ -73,7 +74,7 @@ use Rattle.nv_runner.specs.Told.{AreTold, DescriptorsSayFiles, RunsAreTold}
 use Rattle.nv_top.specs.Fates.{fate_of, fated, fated_report}
 use Rattle.nv_top.specs.Reports.{report_text}
 use Rattle.nv_top.specs.Runs.{BeginsMount}
-use Rattle.nv_top.specs.Stopping.{HasFate, HaveFates, HasStoppedOn, IsAway, RestsWith, ShowsRecovered}
+use Rattle.nv_top.specs.Stopping.{HasFate, HaveFates, HasStoppedOn, IsAway, RestsWith, ShowsRecovered, next_in}
 use Rattle.nv_top.specs.Stops.{CountHasCause, StopHasCause}
 use Rattle.nv_top.specs.declared.ending.Stop.{Stop}
 use Rattle.nv_top.specs.declared.ending.Stop.TheVariants.{Usage, BadLine, InputLong, Read, Device, Region, NoMemory}
@@ -126,7 +127,9 @@ pub shows : (old lent : BenchState) (new_told : Option Holding) (holding : Holdi
     → ShowsRecovered holding sorted new_told text
 shows old lent new_told holding sorted text found page entries next names shown parts_row row told_is quiet home lent_is same text_of recovered holds tell rest gives =
     let now = present parts_row tell in
-    let Rests : List (List ℕ) → Type 0 = λ names. RestsWith names (files_named holding.parts names holding.stores) new_told in
+    let header = header_of (head_image holding.parts) in
+    let Rests : List (List ℕ) → Type 0 = λ names. RestsWith header.page header.entries names found.next (files_named holding.parts names holding.stores) new_told in
+    let files = files_named holding.parts names holding.stores in
     record {
       found = found;
       log = recovered.log;
@@ -135,20 +138,19 @@ shows old lent new_told holding sorted text found page entries next names shown 
           ∙ ap (λ names. report_text (fated_report sorted found names (files_of holds.held))) (sym same)
           ∙ ap (λ files. report_text (fated_report sorted found names files)) holds.files_are
           ∙ ap (λ names. report_text (fated_report sorted found names (files_named holding.parts names holding.stores))) recovered.names_are;
-      left = subst Rests recovered.names_are (record {
-        now = record { parts = now.states; stores = without_stores names holding.stores ++ named_stores names holds.held };
-        told_is = gives now.states holds.held now.are holds.are ∙ told_again old lent holding names now.states holds.held told_is home lent_is;
-        page = page;
-        entries = entries;
-        next = next;
-        rest = row_tells_at parts_row (IsAtRest version_1 page entries names next) now.states now.are rest;
-        others = without_stores names holding.stores;
-        still = kept_in_all (λ (named : NamedStore). IsQuietStore named.store) names holding.stores quiet.stores;
-        disks = holds.held;
-        stores_are = refl;
-        files_are = holds.files_are;
-        synced = holds.quiet;
-      });
+      left = subst Rests recovered.names_are
+          (subst (λ page. RestsWith page header.entries names found.next files new_told) recovered.page_is (subst (λ entries. RestsWith page entries names found.next files new_told) recovered.entries_is
+          (subst (λ next. RestsWith page entries names next files new_told) recovered.next_is (record {
+            now = record { parts = now.states; stores = without_stores names holding.stores ++ named_stores names holds.held };
+            told_is = gives now.states holds.held now.are holds.are ∙ told_again old lent holding names now.states holds.held told_is home lent_is;
+            rest = row_tells_at parts_row (IsAtRest version_1 page entries names next) now.states now.are rest;
+            others = without_stores names holding.stores;
+            still = kept_in_all (λ (named : NamedStore). IsQuietStore named.store) names holding.stores quiet.stores;
+            disks = holds.held;
+            stores_are = refl;
+            files_are = holds.files_are;
+            synced = holds.quiet;
+          }))));
     }
 
 -- ---- a report is as faithful where less is said of what failed
@@ -390,8 +392,11 @@ module _ (basis : Basis) (trace : Traced) (mount : MountState) (pass zero : Pass
 
       pub has_stopped : HasStoppedOn failed plan.worker plan.image before basis trace bench text
       has_stopped =
-          let NamesRest : List (List ℕ) → Type 0 = λ names. RestsWith names shown_files bench.told in
-          let FilesRest : Files → Type 0 = λ files. RestsWith basis.names files bench.told in
+          let header = header_of (head_image after_power.parts) in
+          let NamesRest : List (List ℕ) → Type 0 = λ names. RestsWith header.page header.entries names found.next shown_files bench.told in
+          let FilesRest : Files → Type 0 = λ files. RestsWith basis.sizes.page basis.sizes.entries basis.names (next_in after_power.parts basis.files) files bench.told in
+          let page_so : header.page ≡ basis.sizes.page = left.header.page_is ∙ ap (λ (o : Opened). o.sizes.page) same_opened ∙ sym run.begins.is_mount.page in
+          let entries_so : header.entries ≡ basis.sizes.entries = left.header.entries_is ∙ ap (λ (o : Opened). o.sizes.entries) same_opened ∙ sym run.begins.is_mount.entries in
           record {
             report = report;
             faithful = is_faithful;
@@ -401,7 +406,10 @@ module _ (basis : Basis) (trace : Traced) (mount : MountState) (pass zero : Pass
             parts = after_power.parts;
             power_left = power_left;
             fated = fates;
-            rests = subst FilesRest files_are (subst NamesRest names_so shows_so.left);
+            rests = subst FilesRest files_are
+                (subst (λ page. RestsWith page basis.sizes.entries basis.names (next_in after_power.parts basis.files) shown_files bench.told) page_so
+                (subst (λ entries. RestsWith header.page entries basis.names (next_in after_power.parts basis.files) shown_files bench.told) entries_so
+                (subst (λ next. RestsWith header.page header.entries basis.names next shown_files bench.told) (shows_so.log.next basis.files) (subst NamesRest names_so shows_so.left))));
           }
 
 -- ---- the bench

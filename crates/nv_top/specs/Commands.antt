@@ -1,5 +1,6 @@
 -- Commands: what each makes of a bench.
 use Rattle.std.specs.Prelude.{◌≡◌, ℕ, Bool, true, false, List, [], length, Option, Some, None}
+use Rattle.nv_plain.specs.Images.{header_of}
 use Rattle.nv_plain.specs.Layouts.{version_1}
 use Rattle.nv_plain.specs.Recovered.{Fits, recovered}
 use Rattle.nv_pmem.specs.Rows.{row_words}
@@ -12,7 +13,7 @@ use Rattle.nv_open.specs.declared.error.Refusal.{Refusal}
 use Rattle.nv_open.specs.Held.{files_named, header_names}
 use Rattle.nv_open.specs.Lending.{stores_named}
 use Rattle.nv_open.specs.Looking.{ShowsFiles, ShowsRegion, names_until, told_by}
-use Rattle.nv_open.specs.Refusals.{AreLong, CanBeRead, IsBadHeader, IsRefusedFor}
+use Rattle.nv_open.specs.Refusals.{AreLong, CanBeRead, IsBadHeader, IsRefusedFor, head_image}
 use Rattle.nv_open.specs.Unopened.{RestsUnopened, TellsOf}
 use Rattle.nv_recover.specs.Standing.{files_of}
 use Rattle.nv_trace.specs.Traced.{Traced}
@@ -89,7 +90,7 @@ recovery_of holding =
     }
 
 -- The region of a bench that held this could be recovered: the text is that of the report, and the bench is left with the files that
--- it shows.
+-- it shows. The region has the sizes that its header said, and its log goes on with the number that is shown.
 pub record HasRecovered (holding : Holding) (told : Option Holding) (text : List ℕ) : Type 0 where
   pub readable : CanBeRead holding.parts
   pub long : AreLong holding.parts
@@ -97,6 +98,9 @@ pub record HasRecovered (holding : Holding) (told : Option Holding) (text : List
   pub plain : HavePlainNames (recovery_of holding).files
   pub text_is : text ≡ recovery_text (recovery_of holding)
   pub left : Leaves None (header_names holding.parts) (files_named holding.parts (header_names holding.parts) holding.stores) holding told
+  pub page_is : left.left.page ≡ (header_of (head_image holding.parts)).page
+  pub entries_is : left.left.entries ≡ (header_of (head_image holding.parts)).entries
+  pub next_is : left.left.next ≡ (recovery_of holding).next
 
 -- ---- a look
 

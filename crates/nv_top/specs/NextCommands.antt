@@ -6,12 +6,14 @@ use Rattle.nv_plain.specs.declared.call.Reply.TheVariants.{Count, Done}
 use Rattle.nv_plain.specs.Faults.{Rose}
 use Rattle.nv_plain.specs.Files.{Files}
 use Rattle.nv_plain.specs.Histories.{Answered, IsLegal, after}
+use Rattle.nv_plain.specs.Images.{header_of}
 use Rattle.nv_bench.specs.Benches.{BenchState}
 use Rattle.nv_bench.specs.Holding.{Holding, IsQuietHolding}
 use Rattle.nv_bench.specs.Naming.{AreDistinct, names_of}
 use Rattle.nv_open.specs.Adding.{all_names, new_names}
 use Rattle.nv_open.specs.Begun.{files_behind}
 use Rattle.nv_open.specs.Held.{files_named, header_names}
+use Rattle.nv_open.specs.Refusals.{head_image}
 use Rattle.nv_runner.specs.Faithful.{Basis, IsFaithful, descriptors_in, file_call, files_shown, history_of}
 use Rattle.nv_runner.specs.Reports.{OpenCall, Report}
 use Rattle.nv_trace.specs.declared.report.Fate.{Fate}
@@ -21,9 +23,10 @@ use Rattle.nv_trace.specs.declared.trace_call.TraceCall.{TraceCall}
 use Rattle.nv_trace.specs.declared.trace_call.TraceCall.TheVariants.{Pread, Pwrite, Fsync}
 use Rattle.nv_trace.specs.Shape.{IsWellFormed}
 use Rattle.nv_trace.specs.Traced.{Traced}
-use Rattle.nv_top.specs.Commands.{HasRecovered, HasRunOn, IsBasis, IsLookedAt}
+use Rattle.nv_top.specs.Commands.{HasRecovered, HasRunOn, IsBasis, IsLookedAt, recovery_of}
 use Rattle.nv_top.specs.Headline.{HasInput, HasStopped, IsLeftBy, IsShown, expected_faults}
 use Rattle.nv_top.specs.Runs.{next_behind}
+use Rattle.nv_top.specs.Stopping.{next_in}
 use Rattle.nv_top.specs.declared.show.Show.{Show}
 use Rattle.nv_top.specs.declared.words.Command.{Command}
 use Rattle.nv_top.specs.declared.words.RunOptions.{RunOptions}
@@ -55,6 +58,25 @@ abbrev pub NextBeginsBehind : Type 0
 NextBeginsBehind =
     (show : Show) (options later : RunOptions) (holding : Holding) (told : Option Holding) (trace : Traced) (text : List ℕ) (ran : HasRunOn show options holding told trace text) (wanted : List (List ℕ)) (basis : Basis)
     → IsBasis later ran.left.now wanted basis → BeginsBehind ran.basis ran.report wanted basis
+
+-- A run begins with a region of these sizes, whatever it asks for, at this number.
+pub record BeginsAt (page entries next : ℕ) (basis : Basis) : Type 0 where
+  pub page_is : basis.sizes.page ≡ page
+  pub entries_is : basis.sizes.entries ≡ entries
+  pub next_is : basis.next ≡ next
+
+-- Behind a run that was stopped it begins with the sizes of that one, at the number behind the log that power left.
+abbrev pub NextBeginsBehindStop : Type 0
+NextBeginsBehindStop =
+    (options later : RunOptions) (old new : BenchState) (holding : Holding) (trace : Traced) (text : List ℕ) (run : HasStopped (Rose old.faults new.faults) options old.picked holding new trace text) (wanted : List (List ℕ)) (basis : Basis)
+    → IsBasis later run.stopped.rests.now wanted basis → BeginsAt run.basis.sizes.page run.basis.sizes.entries (next_in run.stopped.parts run.basis.files) basis
+
+-- Behind a recovery it begins with the sizes that the header said, at the next number that the recovery shows.
+abbrev pub NextBeginsBehindRecovery : Type 0
+NextBeginsBehindRecovery =
+    (later : RunOptions) (holding : Holding) (told : Option Holding) (text : List ℕ) (recovered : HasRecovered holding told text) (wanted : List (List ℕ)) (basis : Basis)
+    → IsBasis later recovered.left.now wanted basis
+    → BeginsAt (header_of (head_image holding.parts)).page (header_of (head_image holding.parts)).entries (recovery_of holding).next basis
 
 -- ---- the files that a next command finds
 

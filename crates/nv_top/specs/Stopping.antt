@@ -2,6 +2,7 @@
 use Rattle.std.specs.Prelude.{◌≡◌, ◌⊎◌, ℕ, ◌+◌, ◌≤◌, Bool, false, List, [], ◌∷◌, ◌++◌, All, Option, Some, Result, Ok, Err}
 use Rattle.nv_plain.specs.Faults.{Rose}
 use Rattle.nv_plain.specs.Files.{Files}
+use Rattle.nv_plain.specs.Images.{header_of}
 use Rattle.nv_plain.specs.Layouts.{version_1}
 use Rattle.nv_plain.specs.Recovered.{recovered}
 use Rattle.nv_pmem.specs.Part.{Part}
@@ -13,6 +14,7 @@ use Rattle.nv_recover.specs.Standing.{AreQuietStores, files_of}
 use Rattle.nv_bench.specs.Benches.{BenchState}
 use Rattle.nv_bench.specs.Holding.{Holding, NamedStore, is_named, named_stores}
 use Rattle.nv_open.specs.Held.{files_named, header_names}
+use Rattle.nv_open.specs.Refusals.{head_image}
 use Rattle.nv_recover.specs.Recovering.{HasFoundAll}
 use Rattle.nv_recover.specs.declared.recovering.Recovered as recover
 use Rattle.nv_trace.specs.Traced.{Traced}
@@ -74,14 +76,11 @@ IsSettledStop settled now (Err stop) = StopSettles settled now stop
 abbrev pub IsAway : List (List ℕ) → Holding → Type 0
 IsAway names holding = All (λ name. All (λ named. is_named name named ≡ false) holding.stores) names
 
--- A bench tells that it holds a region with these names, at rest with an empty log, and behind its other stores those of these names,
--- which hold these files, durable; the others are quiet.
-pub record RestsWith (names : List (List ℕ)) (files : Files) (told : Option Holding) : Type 0 where
+-- A bench tells that it holds a region of these sizes with these names, at rest with an empty log that goes on with this number, and behind its other
+-- stores those of these names, which hold these files, durable; the others are quiet.
+pub record RestsWith (page entries : ℕ) (names : List (List ℕ)) (next : ℕ) (files : Files) (told : Option Holding) : Type 0 where
   pub now : Holding
   pub told_is : told ≡ Some now
-  pub page : ℕ
-  pub entries : ℕ
-  pub next : ℕ
   pub rest : IsAtRest version_1 page entries names next now.parts
   pub others : List NamedStore
   pub still : All (λ named. IsQuietStore named.store) others
@@ -90,19 +89,24 @@ pub record RestsWith (names : List (List ℕ)) (files : Files) (told : Option Ho
   pub files_are : files_of disks ≡ files
   pub synced : AreQuietStores disks
 
--- The text is that of a report of what a recovery made of a bench that held this, and the bench rests with the files shown.
+-- The text is that of a report of what a recovery made of a bench that held this, and the bench rests with the files shown, and with the sizes that the header said; the log goes on where it was found to end.
 pub record ShowsRecovered (holding : Holding) (sorted : SortedCalls) (told : Option Holding) (text : List ℕ) : Type 0 where
   pub found : recover.Recovered
   pub log : HasFoundAll (row_words holding.parts) found
   pub text_is : text ≡ report_text (fated_report sorted found (header_names holding.parts)
       (files_named holding.parts (header_names holding.parts) holding.stores))
-  pub left : RestsWith (header_names holding.parts) (files_named holding.parts (header_names holding.parts) holding.stores) told
+  pub left : RestsWith (header_of (head_image holding.parts)).page (header_of (head_image holding.parts)).entries (header_names holding.parts) found.next
+      (files_named holding.parts (header_names holding.parts) holding.stores) told
 
 -- the fate of a write that drew this number, by what the log recovers to that stands in these parts
 abbrev pub fate_in : List Part → Files → ℕ → Fate
 fate_in parts files number =
     let log = recovered (row_words parts) files in
     fate_of log.first log.groups number
+
+-- the number behind the log that stands in these parts
+abbrev pub next_in : List Part → Files → ℕ
+next_in parts files = (recovered (row_words parts) files).next
 
 -- A write that was left open is one of these calls that drew, and has its fate by its number: that is no lower than the first one that the log recovers to that stands in these parts, which says what became of
 -- the write.
@@ -116,7 +120,7 @@ pub record HaveFates (basis : Basis) (parts : List Part) (report : Report) : Typ
   pub each : All (HasFate parts basis.files drew.drawn) report.open_calls
 
 -- The text is that of a faithful report of a run of the trace, whose fates are those of the parts as power left them, and the bench rests
--- with the files that it shows. Power went off once more than with those picks, with this one.
+-- with the files that it shows, and with the sizes of the basis; its log goes on where that ended which power left. Power went off once more than with those picks, with this one.
 pub record HasStoppedOn (failed : Type 0) (worker : Bool) (pick : Pick) (before : List Pick) (basis : Basis) (trace : Traced) (bench : BenchState) (text : List ℕ) : Type 0 where
   pub report : Report
   pub faithful : IsFaithful failed worker basis trace report
@@ -126,4 +130,4 @@ pub record HasStoppedOn (failed : Type 0) (worker : Bool) (pick : Pick) (before 
   pub parts : List Part
   pub power_left : bench.left ≡ Some parts
   pub fated : HaveFates basis parts report
-  pub rests : RestsWith basis.names (files_shown basis trace report) bench.told
+  pub rests : RestsWith basis.sizes.page basis.sizes.entries basis.names (next_in parts basis.files) (files_shown basis trace report) bench.told

@@ -1,4 +1,4 @@
-use Rattle.std.proofs.Common.{◌≡◌, ◌∙◌, ℕ, List, None, length, map, sym, ap, subst}
+use Rattle.std.proofs.Common.{◌≡◌, ◌∙◌, ℕ, List, None, length, map, refl, sym, ap, subst}
 use Rattle.std.proofs.Common.{◌++◌, ◌<◌, All}
 use Rattle.nv_bench.specs.Holding.{named_stores}
 use Rattle.nv_open.specs.Lending.{without_stores}
@@ -73,6 +73,10 @@ returns-clause-recovered g c =
     let base = files_of (stores_named names holding.stores) in
     let log = recovered (row_words holding.parts) base in
     let shown_names = named names (files_named holding.parts names holding.stores) in
+    let leaving =
+    leaves old mid region.names holding made.lent c.requires.home told None history held (files_named holding.parts region.names holding.stores) parts_back stores_back _ (ap length same_parts ∙ told_at old.told _ holding told made.many) left c.give_back.ensures.told in
+    let left_so =
+    leaves_by holding.parts holding.stores region.geometry.page region.geometry.entries region.next recovery.names_are (leaving, refl, refl, refl) in
     record {
       readable = recovery.readable;
       long = recovery.long;
@@ -87,8 +91,10 @@ returns-clause-recovered g c =
           ∙ ap (λ first. recovery_text (record { first = first; next = found.next; groups = length found.groups; files = shown_names })) (recovery.log.first base)
           ∙ ap (λ next. recovery_text (record { first = log.first; next = next; groups = length found.groups; files = shown_names })) (recovery.log.next base)
           ∙ ap (λ (groups : List ℕ). recovery_text (record { first = log.first; next = log.next; groups = length groups; files = shown_names })) (recovery.log.groups base);
-      left = leaves_by holding.parts holding.stores recovery.names_are
-          (leaves old mid region.names holding made.lent c.requires.home told None history held (files_named holding.parts region.names holding.stores) parts_back stores_back _ (ap length same_parts ∙ told_at old.told _ holding told made.many) left c.give_back.ensures.told);
+      left = left_so.0;
+      page_is = left_so.1 ∙ recovery.page_is;
+      entries_is = left_so.2 ∙ recovery.entries_is;
+      next_is = left_so.3 ∙ recovery.next_is ∙ recovery.log.next base;
     }))
     c.show-report.ensures.text
 
