@@ -21,6 +21,8 @@ mod reads;
 #[cfg(test)]
 mod runs;
 #[cfg(test)]
+mod schedules;
+#[cfg(test)]
 mod syncs;
 #[cfg(test)]
 mod threads;

@@ -40,12 +40,12 @@ module _ (one other run : List Event) (a : IsPrefix one run) (b : IsPrefix other
   longer_begins : IsPrefix one (longer one other) × IsPrefix other (longer one other) × IsPrefix (longer one other) run
   longer_begins = chosen (nat_lt (length one) (length other)) refl
 
-in_turn_on : (trail xs ys : List Event) → IsPrefix xs ys → InTurn trail xs → InTurn trail ys
+pub in_turn_on : (trail xs ys : List Event) → IsPrefix xs ys → InTurn trail xs → InTurn trail ys
 in_turn_on trail xs ys begins turn = subst (InTurn trail) (sym begins.1) (in_turn_more trail xs begins.0 turn)
 
 -- ---- the events of a step
 
-own_if : (number : ℕ) (event : Event) (later : List Event) → event.by ≡ number → own number (event ∷ later) ≡ event ∷ own number later
+pub own_if : (number : ℕ) (event : Event) (later : List Event) → event.by ≡ number → own number (event ∷ later) ≡ event ∷ own number later
 own_if number event later is = ap (λ (b : Bool). if b then event ∷ own number later else own number later) (eq-eqb event.by number is)
 
 pub own_all : (number : ℕ) (works : List Work) (act : Act) → own number (events number works act) ≡ events number works act
@@ -68,7 +68,7 @@ pub record MadeOne (made : List Event) (old new : PassState) : Type 0 where
   pub all : own old.view.number made ≡ made
   pub number : new.view.number ≡ old.view.number
 
-own_seen : (number : ℕ) (seen run : List Event) → SeesAll number seen run → own number run ≡ own number seen
+pub own_seen : (number : ℕ) (seen run : List Event) → SeesAll number seen run → own number run ≡ own number seen
 own_seen number seen run all = ap (own number) all.goes_on ∙ own_both number seen all.rest ∙ ap (λ l. own number seen ++ l) all.quiet ∙ append-nil (own number seen)
 
 pub made_one : (step : PassStep) (old new : PassState) → HasTaken step old new → MadeOne (events_of old.view.number step) old new

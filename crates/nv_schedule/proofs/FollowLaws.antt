@@ -1,5 +1,5 @@
 -- Following: callers by their places, and how advances add up to those of tokens.
-use Rattle.std.proofs.Common.{◌≡◌, ◌≢◌, ℕ, zero, suc, ◌+◌, ◌-◌, ◌<◌, ◌≤◌, Bool, true, false, List, [], ◌∷◌, ◌++◌, length, refl, sym, ap, subst, ◌∙◌, arith, length-append}
+use Rattle.std.proofs.Common.{◌≡◌, ◌≢◌, ℕ, zero, suc, ◌+◌, ◌-◌, ◌<◌, ◌≤◌, Bool, true, false, List, [], ◌∷◌, ◌++◌, length, inl, inr, refl, sym, ap, subst, ◌∙◌, arith, length-append}
 use Rattle.std.specs.Prelude.{All, IfOk, OnErr, Option, None, Some, Result, Ok, Err, is_err, drop, take, slice_index_or, slice_set}
 use Rattle.std.proofs.lemmas.Bool.{true≢false}
 use Rattle.std.proofs.lemmas.Grind.{common_steps}
@@ -7,14 +7,15 @@ use Rattle.std.proofs.lemmas.List.{append-nil, append_assoc}
 use Rattle.std.proofs.lemmas.List.Elements.{All-get_or, All-set}
 use Rattle.nv_plain.specs.declared.memory.NoMemory.{NoMemory}
 use Rattle.nv_core.specs.steps.Events.{Event}
-use Rattle.nv_table.specs.state.States.{IsOf}
+use Rattle.nv_table.specs.state.States.{IsOf, PassState}
 use Rattle.nv_mount.specs.Mounts.{MountState}
 use Rattle.nv_mount.specs.declared.fds.Fd.{Fd}
 use Rattle.nv_op.specs.declared.kinds.Kind.{Kind}
 use Rattle.nv_schedule.specs.Following.{FallShort, Follows, GoesTo, OneTurns, ScheduleTells, Stands, TokenTells, UsesUp, all_events, most_advances, next_at}
 use Rattle.nv_schedule.specs.Orders.{ComeBehind, InTurn}
 use Rattle.nv_schedule.specs.Reaches.{has_come, is_there, place_of}
-use Rattle.nv_schedule.specs.Turns.{CallerState, HasTurned, next_kind_of}
+use Rattle.nv_schedule.specs.Turns.{CallerState, HasTurned, MovesBy, next_kind_of}
+use Rattle.nv_schedule.proofs.BehindLaws.{made_one}
 use Rattle.nv_schedule.specs.declared.schedule_error.ScheduleError.{ScheduleError}
 use Rattle.nv_schedule.specs.declared.schedule_error.ScheduleError.TheVariants.{NoMemory as WantsMemory, TurnsUsed}
 use Rattle.nv_trace.specs.declared.token.Reach.{Reach}
@@ -46,11 +47,15 @@ index_any (caller ∷ later) (suc place) d e less = index_any later place d e (o
 
 -- ---- an advance
 
+pub number_kept : (events : List Event) (old new : PassState) → MovesBy events old new → new.view.number ≡ old.view.number
+number_kept events old new (inl still) = ap (λ (p : PassState). p.view.number) still.0
+number_kept events old new (inr one) = (made_one one.0 old new one.1).number
+
 module _ (mount : MountState) (callers : List CallerState) (place : ℕ) (d then_ : CallerState) (view after : List Event) (within : place < length callers) where
   turned_stand : (result : Result Bool NoMemory) → Stands mount (slice_index_or callers place d) → IsOf mount.board then_.pass
       → IfOk result (λ answered. (events : List Event) × HasTurned mount.fds answered events (slice_index_or callers place d) then_ × ComeBehind events view after) → OnErr result (then_ ≡ slice_index_or callers place d)
       → Stands mount then_
-  turned_stand (Ok answered) stands board turned memory = (board, stands.1, turned.1.come stands.1 stands.2)
+  turned_stand (Ok answered) stands board turned memory = (board, λ none. stands.1 (sym (number_kept turned.0 _ _ turned.1.moved) ∙ none), stands.2, turned.1.come stands.2 stands.3)
   turned_stand (Err none) stands board turned memory = subst (Stands mount) (sym memory) stands
 
   pub all_stand : (result : Result Bool NoMemory) → All (Stands mount) callers → IsOf mount.board then_.pass

@@ -1,5 +1,5 @@
 -- Fresh: a caller that has begun nothing has come to where it is.
-use Rattle.std.proofs.Common.{◌≡◌, ◌⊎◌, ℕ, ◌+◌, ◌<◌, ◌≤◌, List, [], ◌∷◌, ◌++◌, length, map, inl, inr, refl, sym, ap, subst, ◌∙◌, arith, length-append}
+use Rattle.std.proofs.Common.{◌≡◌, ◌⊎◌, ℕ, ◌+◌, ◌<◌, ◌≤◌, false, List, [], ◌∷◌, ◌++◌, length, map, inl, inr, refl, sym, ap, subst, ◌∙◌, arith, length-append}
 use Rattle.std.proofs.lemmas.Bool.{cases_lt}
 use Rattle.std.proofs.lemmas.List.{get_or_append_left, get_or_push, map-append}
 use Rattle.std.proofs.lemmas.List.FromFn.{map-range_with_len_more}
@@ -25,6 +25,7 @@ fresh_come fds (Calls thread) pass fresh idle = record {
   last = pass;
   made = subst (λ (made : List MadeCall). AreAnswered fds made pass pass) (sym fresh.1) refl;
   at = subst (λ (hand : Option Hand). IsAtCall fds thread.left hand pass pass) (sym fresh.0) (at_next fds thread.left pass idle);
+  unbegun = λ not. (fresh.0, refl);
 }
 fresh_come fds (Batches cleaner) pass fresh idle = record {
   results = [];
@@ -46,10 +47,10 @@ fresh_more mount callers caller fresh one i d less = by (cases_lt i (length call
 
 -- the works of threads, and then of one more
 pub works_more : (calls : List TracedCall) (number : ℕ) (old new : List CallerState) (caller : CallerState) → map (λ (one : CallerState). one.work) old ≡ thread_works calls number → new ≡ old ++ caller ∷ []
-    → caller.work ≡ Calls (record { left = calls_of_thread number calls; hand = None; made = [] }) → map (λ (one : CallerState). one.work) new ≡ thread_works calls (number + 1)
+    → caller.work ≡ Calls (record { left = calls_of_thread number calls; begun = false; hand = None; made = [] }) → map (λ (one : CallerState). one.work) new ≡ thread_works calls (number + 1)
 works_more calls number old new caller works more is =
     ap (map (λ (one : CallerState). one.work)) more
     ∙ map-append (λ (one : CallerState). one.work) old (caller ∷ [])
     ∙ ap (λ l. l ++ caller.work ∷ []) works
     ∙ ap (λ w. thread_works calls number ++ w ∷ []) is
-    ∙ sym (map-range_with_len_more (λ n. Calls (record { left = calls_of_thread n calls; hand = None; made = [] })) 0 number number (omega arith))
+    ∙ sym (map-range_with_len_more (λ n. Calls (record { left = calls_of_thread n calls; begun = false; hand = None; made = [] })) 0 number number (omega arith))

@@ -9,7 +9,7 @@ use Rattle.nv_table.proofs.state.ViewLaws.{own_both}
 use Rattle.nv_table.specs.state.States.{PassState}
 use Rattle.nv_table.specs.steps.SeatSteps.{act_of, events}
 use Rattle.nv_mount.specs.declared.fds.Fd.{Fd}
-use Rattle.nv_schedule.specs.Following.{FallShort, Follows, GoesTo, OneTurns, all_events, next_at}
+use Rattle.nv_schedule.specs.Following.{FallShort, Follows, GoesTo, OneTurns, UsesUp, all_events, next_at}
 use Rattle.nv_schedule.specs.Growing.{AreApart, GrowBy, number_of, run_of}
 use Rattle.nv_schedule.specs.Reaches.{is_there, place_of}
 use Rattle.nv_schedule.specs.Turns.{CallerState, MovesBy}
@@ -152,3 +152,9 @@ schedule_grows fds (Advance turn reach ∷ later) callers trail then_ apart foll
     let one = token_grows fds reach (place_of turn) callers follows.0 follows.1 (is_there reach (next_at callers (place_of turn))) apart follows.3 in
     subst (GrowBy callers then_) (sym follows.4)
     (grow_both callers follows.1 then_ (all_events follows.0) follows.2 one (schedule_grows fds later follows.1 follows.2 then_ (apart_on callers follows.1 (all_events follows.0) one apart) follows.5))
+
+pub used_up_grows : (fds : List Fd) (tokens : List Token) (callers : List CallerState) (trail : List Event) (then_ : List CallerState) → AreApart callers → UsesUp fds tokens callers trail then_ → GrowBy callers then_ trail
+used_up_grows fds tokens callers trail then_ apart used =
+    let first = schedule_grows fds used.before callers used.first used.middle apart used.follows in
+    subst (GrowBy callers then_) (sym used.trail_is)
+    (grow_both callers used.middle then_ used.first (all_events used.advances) first (short_grows fds used.reach (place_of used.turn) used.middle used.advances then_ (apart_on callers used.middle used.first first apart) used.fell))

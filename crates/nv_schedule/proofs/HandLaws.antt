@@ -1,7 +1,10 @@
 -- Hands: a try goes on as its machine does.
 use Rattle.std.proofs.Common.{◌≡◌, List, [], ◌++◌, length, ℕ, sym, ap, subst, ◌∙◌, arith}
 use Rattle.std.proofs.lemmas.Grind.{common_steps}
-use Rattle.std.specs.Prelude.{drop, take}
+use Rattle.std.specs.Prelude.{IfOk, None, Option, Some, Result, Ok, Err, drop, take}
+use Rattle.nv_mirror.specs.declared.answers.Done.{Done}
+use Rattle.nv_mirror.specs.declared.answers.Refusal.{Refusal}
+use Rattle.nv_calls.specs.calls.CallAnswers.{done_at, done_of}
 use Rattle.nv_table.specs.state.States.{PassState}
 use Rattle.nv_mount.specs.declared.fds.Fd.{Fd}
 use Rattle.nv_calls.specs.declared.progress.Progress.{Progress}
@@ -10,7 +13,7 @@ use Rattle.nv_calls.specs.declared.syncing.SyncMachine.{SyncMachine}
 use Rattle.nv_calls.specs.declared.writing.WriteMachine.{WriteMachine}
 use Rattle.nv_calls.specs.fsync.SyncMachines.{SyncGoes}
 use Rattle.nv_calls.specs.reads.ReadMachines.{IsSameRead, ReadGoes}
-use Rattle.nv_calls.specs.writes.WriteMachines.{IsSameWrite, WriteGoes}
+use Rattle.nv_calls.specs.writes.WriteMachines.{IsSameWrite, WriteGoes, place_so_far}
 use Rattle.nv_trace.specs.declared.trace_call.TraceCall.{TraceCall}
 use Rattle.nv_trace.specs.declared.trace_call.TraceCall.TheVariants.{Pread, Pwrite, Fsync}
 use Rattle.nv_schedule.specs.declared.hand.ReadAtHand.{ReadAtHand}
@@ -54,7 +57,14 @@ module _ (fds : List Fd) (call : TraceCall) (old new : WriteMachine) (begun pass
 
   pub write_goes : (progress : Progress) → WriteGoes fds begun new trying.0 now progress → TryGoes fds call (Writing new) begun now progress
   write_goes More way = (trying.0, write_call, way)
-  write_goes (Ended result) over = subst (λ c. IsTryOver fds c [] begun now result) (sym write_call) over.2
+  write_goes (Ended result) over = subst (λ c. IsTryOver fds c [] begun now result) (sym write_call) (written result (place_so_far new) over.0, over.2)
+    where
+      written : (result : Result Done Refusal) (place : Option ℕ) → done_at new.len place ≡ done_of result → IfOk result (λ (done : Done). done.len ≡ length trying.0)
+      written (Err refusal) place is = tt
+      written (Ok done) None is = absurd (cc)
+      written (Ok done) (Some place) is =
+          let one : ◌≡◌ {A = Done} (record { place = place; len = new.len }) done = cc in
+          sym (ap (λ (d : Done). d.len) one) ∙ same.len ∙ sym trying.2.room
 
 -- ---- a sync
 

@@ -1,12 +1,17 @@
+mod AnswerLaws
 mod BatchLaws
 mod BehindLaws
 mod DeedLaws
+mod EndLaws
 mod FollowLaws
 mod FreshLaws
 mod GrowLaws
 mod HandLaws
 mod OrderLaws
 mod RanLaws
+mod SinceLaws
 mod ThreadLaws
+mod ToldLaws
 mod TurnLaws
 mod WayLaws
+mod WholeLaws

@@ -17,7 +17,7 @@ use Rattle.nv_schedule.specs.declared.schedule_error.ScheduleError.TheVariants.{
 use Rattle.nv_trace.specs.declared.token.Token.{Token}
 
 pub fresh_stand : (mount : MountState) (callers : List CallerState) → AreFresh mount callers → All (Stands mount) callers
-fresh_stand mount callers fresh i d less = let one = fresh i d less in (one.board, (slice_index_or callers i d).pass, one.come)
+fresh_stand mount callers fresh i d less = let one = fresh i d less in (one.board, λ zero. (let n = one.number in omega (arith, n, zero)), (slice_index_or callers i d).pass, one.come)
 
 pub run_tells : (mount : MountState) (tokens : List Token) (calls : List TracedCall) (batch : ℕ) (first then_ : List CallerState) (zero : PassState) (view after : List Event) (done : Result (Unit {0}) ScheduleError)
     → AreFresh mount first → map (λ (caller : CallerState). caller.work) first ≡ works_of calls batch → ScheduleTells mount.fds tokens first then_ view after done

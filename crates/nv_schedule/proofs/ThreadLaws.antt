@@ -1,6 +1,7 @@
 -- Threads: how a thread's calls go on.
-use Rattle.std.proofs.Common.{◌≡◌, ℕ, ◌-◌, Bool, if◌then◌else◌, List, [], ◌∷◌, ◌++◌, length, drop, refl, sym, ap, subst, ◌∙◌, arith, eq-eqb}
+use Rattle.std.proofs.Common.{◌≡◌, ℕ, ◌-◌, ◌≤◌, Bool, true, if◌then◌else◌, List, [], ◌∷◌, ◌++◌, length, drop, get_or, refl, sym, ap, subst, ◌∙◌, arith, eq-eqb}
 use Rattle.std.specs.Prelude.{Some, None, take}
+use Rattle.std.proofs.lemmas.Bool.{true≢false}
 use Rattle.std.proofs.lemmas.Grind.{common_steps}
 use Rattle.nv_table.specs.invariant.Idle.{IsIdle}
 use Rattle.nv_table.specs.state.States.{PassState}
@@ -21,6 +22,11 @@ pub own_first : (number : ℕ) (calls : List TracedCall) (call : TracedCall) (la
 own_first number calls call later own is =
     ap (calls_of_thread number) is
     ∙ ap (λ (b : Bool). if b then call ∷ calls_of_thread number later else calls_of_thread number later) (eq-eqb call.thread number (subst (IsAtOwn number) is own))
+
+-- the first one of some, and the others
+pub first_and_rest : (calls : List TracedCall) (call : TracedCall) → 1 ≤ length calls → call ≡ get_or calls 0 call → calls ≡ call ∷ drop 1 calls
+first_and_rest [] call some is = absurd (omega (arith, some))
+first_and_rest (first ∷ later) call some is = ap (λ c. c ∷ later) (sym is)
 
 -- all calls but the first
 pub rest_whole : (calls : List TracedCall) → take (length calls - 1) (drop 1 calls) ≡ drop 1 calls
@@ -49,12 +55,13 @@ module _ (fds : List Fd) (old new : ThreadState) (call : TracedCall) (later : Li
   at_present last at = subst (λ left. IsAtCall fds left old.hand last pass) present at
 
   -- it goes on
-  pub come_on : new.left ≡ old.left → new.made ≡ old.made
+  pub come_on : new.left ≡ old.left → new.made ≡ old.made → new.begun ≡ true
       → ((after : List TracedCall) (last : PassState) → IsAtCall fds (call ∷ after) old.hand last pass → CallGoes fds call after new.hand last now None) → ThreadHasCome fds old start pass → ThreadHasCome fds new start now
-  come_on same_left same_made goes come = record {
+  come_on same_left same_made has_begun goes come = record {
     last = come.last;
     made = subst (λ made. AreAnswered fds made start come.last) (sym same_made) come.made;
     at = subst (λ left. IsAtCall fds left new.hand come.last now) (sym (same_left ∙ present)) (goes later come.last (at_present come.last come.at));
+    unbegun = λ not. absurd (true≢false (sym has_begun ∙ not));
   }
 
   -- it is answered
@@ -67,4 +74,5 @@ module _ (fds : List Fd) (old new : ThreadState) (call : TracedCall) (later : Li
         last = now;
         made = subst (λ made. AreAnswered fds made start now) (sym more) (answered_on fds old.made call answer start come.last now come.made gone.1);
         at = subst (λ hand. IsAtCall fds new.left hand now now) (sym gone.0) (at_next fds new.left now gone.2);
+        unbegun = λ not. (gone.0, refl);
       }

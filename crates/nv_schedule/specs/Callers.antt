@@ -46,9 +46,10 @@ abbrev pub IsAtOwn : (thread : ℕ) → List TracedCall → Type 0
 IsAtOwn thread [] = Unit {0}
 IsAtOwn thread (call ∷ later) = call.thread ≡ thread
 
--- the calls that it has left, its present one first; what it has of that at hand, where that has begun; and what the others were answered
+-- the calls that it has left, its present one first; whether that has begun, by an advance, and what it has of it at hand; and what the others were answered
 pub record ThreadState : Type 0 where
   pub left : List TracedCall
+  pub begun : Bool
   pub hand : Option Hand
   pub made : List MadeCall
 
@@ -63,11 +64,12 @@ abbrev pub CallGoes : List Fd → TracedCall → (later : List TracedCall) → O
 CallGoes fds call later hand last now None = IsAtCall fds (call ∷ later) hand last now
 CallGoes fds call later hand last now (Some answer) = (hand ≡ None) × IsAnsweredBy fds call.call last now answer × IsIdle now
 
--- So it has come to where it is.
+-- So it has come to where it is. Of a call that hasn't begun nothing was done.
 pub record ThreadHasCome (fds : List Fd) (thread : ThreadState) (start now : PassState) : Type 0 where
   pub last : PassState
   pub made : AreAnswered fds thread.made start last
   pub at : IsAtCall fds thread.left thread.hand last now
+  pub unbegun : thread.begun ≡ false → (thread.hand ≡ None) × (now ≡ last)
 
 -- the kind of its next step, where it has a call left
 abbrev pub kind_at_call : Sizes → TraceCall → Option Hand → Kind
@@ -78,10 +80,10 @@ abbrev pub next_of_calls : Sizes → List TracedCall → Option Hand → Option 
 next_of_calls sizes [] hand = None
 next_of_calls sizes (call ∷ later) hand = Some (kind_at_call sizes call.call hand)
 
--- Its present call was answered by an advance, or not.
+-- Its present call was answered by an advance, and the next one hasn't begun; or not, and it has.
 abbrev pub CallEnds : (answered : Bool) → (old new : ThreadState) → Type 0
-CallEnds false old new = (new.left ≡ old.left) × (new.made ≡ old.made)
-CallEnds true old new = (m : MadeCall) × (old.left ≡ m.call ∷ new.left) × (new.made ≡ old.made ++ m ∷ [])
+CallEnds false old new = (new.left ≡ old.left) × (new.made ≡ old.made) × (new.begun ≡ true)
+CallEnds true old new = (m : MadeCall) × (old.left ≡ m.call ∷ new.left) × (new.made ≡ old.made ++ m ∷ []) × (new.begun ≡ false)
 
 -- ---- a cleaner
 

@@ -1,5 +1,5 @@
 -- Following: the advances of callers, token after token.
-use Rattle.std.specs.Prelude.{◌≡◌, ℕ, ◌<◌, ◌≤◌, zero, suc, Bool, true, false, List, [], ◌∷◌, ◌++◌, length, slice_index_or, slice_set, Option, None, Result, Ok, Err}
+use Rattle.std.specs.Prelude.{◌≡◌, ◌≢◌, ℕ, ◌<◌, ◌≤◌, zero, suc, Bool, true, false, List, [], ◌∷◌, ◌++◌, length, slice_index_or, slice_set, Option, None, Result, Ok, Err}
 use Rattle.nv_core.specs.steps.Events.{Event}
 use Rattle.nv_table.specs.state.States.{IsOf, PassState}
 use Rattle.nv_mount.specs.Mounts.{MountState}
@@ -86,9 +86,9 @@ pub record UsesUp (fds : List Fd) (tokens : List Token) (callers : List CallerSt
 
 -- ---- what is told meanwhile
 
--- each caller is one of the mount, and has come to where it is since some start
+-- each caller is one of the mount, by a pass beside pass 0, and has come to where it is since some start
 abbrev pub Stands : MountState → CallerState → Type 0
-Stands mount caller = IsOf mount.board caller.pass × (start : PassState) × HasCome mount.fds caller.work start caller.pass
+Stands mount caller = IsOf mount.board caller.pass × (caller.pass.view.number ≢ 0) × (start : PassState) × HasCome mount.fds caller.work start caller.pass
 
 -- what became of a token, between two views of the run
 abbrev pub TokenTells : List Fd → Reach → (place : ℕ) → (callers then_ : List CallerState) → (view after : List Event) → Result (Unit {0}) ScheduleError → Type 0

@@ -6,5 +6,7 @@ pub mod Hands
 pub mod Orders
 pub mod Ran
 pub mod Reaches
+pub mod Scheduled
+pub mod Told
 pub mod Tries
 pub mod Turns

@@ -1,5 +1,5 @@
 -- Tries: the tries of a call that is made one step at a time, and again where another one stood in its way.
-use Rattle.std.specs.Prelude.{◌≡◌, ℕ, Bool, true, false, List, length, take, Option, Result, Ok, Err}
+use Rattle.std.specs.Prelude.{◌≡◌, ℕ, Bool, true, false, List, length, take, IfOk, Option, Result, Ok, Err}
 use Rattle.nv_plain.specs.declared.call.Reply.{Reply}
 use Rattle.nv_plain.specs.declared.call.Reply.TheVariants as replies
 use Rattle.nv_table.specs.state.States.{PassState}
@@ -34,10 +34,10 @@ WereTried fds (Pread fd at len) start now = (tries : List Try) × WereBusy fds f
 WereTried fds (Pwrite fd at bytes) start now = (tries : List Refusal) × WereMadeAgain fds fd at bytes tries start now
 WereTried fds (Fsync fd) start now = now ≡ start
 
--- A try is over: what a read left in its list, as many bytes as it asks for, and what it came to.
+-- A try is over: what a read left in its list, as many bytes as it asks for, and what it came to. A write that is done has written all its bytes.
 abbrev pub IsTryOver : List Fd → TraceCall → (list : List ℕ) → (begun now : PassState) → Result Done Refusal → Type 0
 IsTryOver fds (Pread fd at len) list begun now result = (length list ≡ len) × IsReadOver fds fd at list begun now result
-IsTryOver fds (Pwrite fd at bytes) list begun now result = IsWriteOver fds fd at bytes begun now result
+IsTryOver fds (Pwrite fd at bytes) list begun now result = IfOk result (λ done. done.len ≡ length bytes) × IsWriteOver fds fd at bytes begun now result
 IsTryOver fds (Fsync fd) list begun now result = IsSyncEnded (file_of_fd fds fd) begun now result
 
 -- ---- its answer

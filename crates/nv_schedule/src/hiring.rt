@@ -3,6 +3,7 @@ ghost use Rattle.std.specs.Prelude.{◌≡◌, ◌+◌, ◌<◌, ◌^◌, ◌++�
 ghost use Rattle.nv_table.specs.state.Views.{made_of};
 ghost use Rattle.nv_runner.specs.Workers.{IsZero};
 ghost use Rattle.nv_schedule.specs.Fresh.{AreFresh, IsFresh, IsFreshWork, works_of};
+ghost use Rattle.nv_schedule.specs.Scheduled.{IsAside};
 ghost use Rattle.nv_schedule.specs.Turns.{CallerState};
 
 use crate::batches::Batches;
@@ -31,6 +32,8 @@ pub(crate) fn new_caller<'a, L: Lines + Drop, B: Backing + Drop>(
     ensures caller { IfOk result (λ caller. IsFresh mount.now (made_of zero.old.view) caller × (caller.work ≡ work.entry)) }
     ensures made { OnOk result (made_of zero.new.view ≡ made_of zero.old.view + 1) }
     ensures none { OnErr result (made_of zero.new.view ≡ made_of zero.old.view) }
+    ensures aside { IsAside zero.old zero.new }
+    ensures ended { zero.new.view.ended ≡ zero.old.view.ended }
 {
     passes_stay_between_calls();
     newcomers_begin_behind();
@@ -56,6 +59,8 @@ fn hire_one<'a, L: Lines + Drop, B: Backing + Drop>(
     ensures count { made_of zero.new.view ≡ length callers.new.items }
     ensures more { OnOk result ((caller : CallerState) × (callers.new.items ≡ callers.old.items ++ caller ∷ []) × (caller.work ≡ work.entry)) }
     ensures none { OnErr result (callers.new.items ≡ callers.old.items) }
+    ensures aside { IsAside zero.old zero.new }
+    ensures ended { zero.new.view.ended ≡ zero.old.view.ended }
 {
     callers.reserve(1)?;
     let caller = new_caller(alloc, mount, zero, work)?;
@@ -78,6 +83,9 @@ pub(crate) fn hire<'a, L: Lines + Drop, B: Backing + Drop>(
     ensures zero { IsZero mount.now zero.new }
     ensures fresh { AreFresh mount.now callers.new.items }
     ensures works { OnOk result (map (λ caller. caller.work) callers.new.items ≡ works_of calls.now batch) }
+    ensures count { made_of zero.new.view ≡ length callers.new.items }
+    ensures aside { IsAside zero.old zero.new }
+    ensures ended { zero.new.view.ended ≡ zero.old.view.ended }
 {
     let mut number = 0;
     while number < 8 {

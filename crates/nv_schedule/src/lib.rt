@@ -3,14 +3,18 @@
 
 mod batches;
 mod caller;
+mod ending;
 mod hand;
 mod hiring;
 mod laws;
 mod reaches;
 mod running;
 mod schedule_error;
+mod scheduled;
 mod thread;
 mod tokens;
 
 pub use laws::schedules_are_the_deeds;
+pub use running::run_schedule;
 pub use schedule_error::ScheduleError;
+pub use scheduled::{Scheduled, ScheduledCalls};

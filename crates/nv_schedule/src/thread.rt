@@ -1,5 +1,5 @@
 //! A thread of a schedule: its calls, one after another.
-ghost use Rattle.std.specs.Prelude.{◌≡◌, ◌≢◌, ◌∷◌, List, [], Option, None, Some, IfOk, OnErr, OnOk, length, take};
+ghost use Rattle.std.specs.Prelude.{◌≡◌, ◌≢◌, ◌∷◌, false, List, [], Option, None, Some, IfOk, OnErr, OnOk, length, take};
 ghost use Rattle.nv_core.specs.state.Words.{Sizes};
 ghost use Rattle.nv_mount.specs.declared.fds.Fd.{Fd};
 ghost use Rattle.nv_table.specs.invariant.Drawn.{drawn_by};
@@ -24,11 +24,12 @@ use nv_trace::{TraceCall, TracedCall};
 use std::alloc::Global;
 use std::marker::Model;
 
-/// Its number; the calls of the trace from its present one on; what it has of that at hand; and what the ones before were answered.
+/// Its number; the calls of the trace from its present one on; whether that has begun, and what it has of it at hand; and what the ones before were answered.
 #[derive(Drop)]
 pub(crate) struct Thread<'a> {
     pub(crate) number: u64,
     pub(crate) left: &'a [TracedCall],
+    pub(crate) begun: bool,
     pub(crate) hand: Option<Hand>,
     pub(crate) answered: Vec<AnsweredCall<'a>>,
 }
@@ -40,7 +41,7 @@ impl<'a> Model for Thread<'a> {
 
     ghost Value = { ThreadState };
 
-    ghost view = { λ t. record { left = calls_of_thread t.number t.left.now; hand = t.hand; made = made_calls t.answered.items } };
+    ghost view = { λ t. record { left = calls_of_thread t.number t.left.now; begun = t.begun; hand = t.hand; made = made_calls t.answered.items } };
 
     ghost invariant = { λ t. IsAtOwn t.number t.left.now };
 }
@@ -131,11 +132,12 @@ fn answer(
 impl<'a> Thread<'a> {
     /// A thread that has made none of its calls among these.
     pub(crate) fn new(alloc: Global, number: u64, calls: &'a [TracedCall]) -> Thread<'a>
-        ensures { result ≡ record { left = calls_of_thread number calls.now; hand = None; made = [] } }
+        ensures { result ≡ record { left = calls_of_thread number calls.now; begun = false; hand = None; made = [] } }
     {
         Thread {
             number,
             left: from_own(calls, number),
+            begun: false,
             hand: None,
             answered: Vec::new(alloc),
         }
@@ -179,10 +181,14 @@ impl<'a> Thread<'a> {
         };
         self.answered.reserve(1)?;
         match advance_call(alloc, mount, pass, workspace, call, &mut self.hand)? {
-            None => Ok(false),
+            None => {
+                self.begun = true;
+                Ok(false)
+            }
             Some(answer) => {
                 self.answered.push_reserved(AnsweredCall { call, answer });
                 self.left = from_own(later, self.number);
+                self.begun = false;
                 Ok(true)
             }
         }

@@ -2,10 +2,14 @@
 use Rattle.std.proofs.Common.{◌≡◌, List, length, sym, ap, subst, ◌∙◌, rules}
 use Rattle.std.specs.Prelude.{All}
 use Rattle.nv_table.specs.state.States.{PassState}
+use Rattle.nv_table.specs.passes.PassesMade.{imported_by}
+use Rattle.nv_table.specs.state.Views.{made_of}
 use Rattle.nv_runner.specs.Workers.{IsZero}
 use Rattle.nv_schedule.specs.Following.{ScheduleTells, Stands}
 use Rattle.nv_schedule.specs.Ran.{RunTells}
+use Rattle.nv_schedule.specs.Scheduled.{IsAside}
 use Rattle.nv_schedule.specs.Turns.{CallerState}
+use Rattle.nv_schedule.proofs.EndLaws.{aside_on, told_aside}
 use Rattle.nv_schedule.proofs.RanLaws.{fresh_stand, run_tells, written_whole, zero_told}
 use Rattle.nv_schedule.proofs.running.run_on.Goals as goal
 
@@ -31,3 +35,34 @@ pub returns-clause-zero : goal.returns-clause-zero
 returns-clause-zero g c =
     subst (IsZero c.args.mount.now) (sym c.import_view.ensures.to)
     (zero_told c.args.mount.now c.export_view-view.new.from c.follow-after.result.0.run (subst (IsZero c.args.mount.now) (sym c.export_view-view.ensures.from) c.hire.ensures.zero))
+
+pub returns-clause-aside : goal.returns-clause-aside
+returns-clause-aside g c =
+    let after = c.follow-after.result.0.run in
+    aside_on c.args.zero.now c.hire.new.zero c.import_view.new.to c.hire.ensures.aside
+    (subst (IsAside c.hire.new.zero) (sym (c.import_view.ensures.to ∙ ap (λ (p : PassState). imported_by p after) c.export_view-view.ensures.from)) (told_aside c.hire.new.zero after))
+
+pub returns-clause-ended : goal.returns-clause-ended
+returns-clause-ended g c =
+    ap (λ (p : PassState). p.view.ended) c.import_view.ensures.to ∙ ap (λ (p : PassState). p.view.ended) c.export_view-view.ensures.from ∙ c.hire.ensures.ended
+
+pub returns-clause-count : goal.returns-clause-count
+returns-clause-count g c =
+    let then_ = c.follow-after.new.callers in
+    let len : c.hire.new.callers.len ≡ length c.hire.new.callers.items = search rules in
+    let size : length then_ ≡ length c.hire.new.callers.items = c.follow-after.auto.callers ∙ ap length c.as_mut_slice.ensures.value in
+    ap (λ (p : PassState). made_of p.view) c.import_view.ensures.to
+    ∙ ap (λ (p : PassState). made_of p.view) c.export_view-view.ensures.from
+    ∙ c.hire.ensures.count
+    ∙ sym size
+    ∙ sym (ap length (written_whole c.hire.new.callers.len c.hire.new.callers.items then_ len size))
+
+pub returns-clause-stand : goal.returns-clause-stand
+returns-clause-stand g c =
+    let then_ = c.follow-after.new.callers in
+    let len : c.hire.new.callers.len ≡ length c.hire.new.callers.items = search rules in
+    let size : length then_ ≡ length c.hire.new.callers.items = c.follow-after.auto.callers ∙ ap length c.as_mut_slice.ensures.value in
+    subst (All (Stands c.args.mount.now)) (sym (written_whole c.hire.new.callers.len c.hire.new.callers.items then_ len size)) c.follow-after.ensures.stand
+
+pub returns-in_err-hire-clause-stand : goal.returns-in_err-hire-clause-stand
+returns-in_err-hire-clause-stand g c = fresh_stand c.args.mount.now c.hire.new.callers.items c.hire.ensures.fresh

@@ -13,7 +13,7 @@ turn_behind-requires-clause-board g c = (c.requires.stand c.args.place c.index-c
 pub turn_behind-requires-clause-come : goal.turn_behind-requires-clause-come
 turn_behind-requires-clause-come g c =
     let stands = c.requires.stand c.args.place c.index-callers-place.result c.requires.within in
-    (stands.1, stands.2)
+    (stands.2, stands.3)
 
 pub returns-clause-stand : goal.returns-clause-stand
 returns-clause-stand g c =

@@ -1,12 +1,12 @@
 -- Its present call goes on, or is answered and the next one is present.
-use Rattle.std.proofs.Common.{◌≡◌, ◌∷◌, ◌++◌, [], drop, sym, ap, subst, ◌∙◌, rules}
+use Rattle.std.proofs.Common.{◌≡◌, true, false, ◌∷◌, ◌++◌, [], drop, refl, sym, ap, subst, ◌∙◌, rules}
 use Rattle.std.specs.Prelude.{Option}
 use Rattle.std.proofs.lemmas.List.{map-append}
 use Rattle.nv_runner.specs.Lists.{made_call, made_calls}
 use Rattle.nv_runner.specs.Shifts.{calls_of_thread}
 use Rattle.nv_schedule.specs.declared.hand.Hand.{Hand}
 use Rattle.nv_schedule.specs.Callers.{CallGoes, IsAtCall, ThreadState}
-use Rattle.nv_schedule.proofs.ThreadLaws.{at_present, come_on, come_past, own_first, rest_whole}
+use Rattle.nv_schedule.proofs.ThreadLaws.{at_present, come_on, come_past, first_and_rest, own_first, rest_whole}
 use Rattle.nv_schedule.proofs.thread.Thread.turn.Goals as goal
 
 pub advance_call-requires-clause-at : goal.advance_call-requires-clause-at
@@ -29,11 +29,11 @@ returns-in-None-clause-come g c = λ start come.
     let calls = c.self.inside.left.now in
     let call = c.call-item.result in
     let is : calls ≡ call ∷ drop 1 calls = search rules in
-    let new : ThreadState = record { left = calls_of_thread c.self.inside.number calls; hand = c.advance_call.new.hand; made = made_calls c.reserve.new.self.items } in
+    let new : ThreadState = record { left = calls_of_thread c.self.inside.number calls; begun = true; hand = c.advance_call.new.hand; made = made_calls c.reserve.new.self.items } in
     come_on fds old new call (calls_of_thread c.self.inside.number (drop 1 calls)) start c.args.pass.now c.advance_call.new.pass
     (ap (λ (t : ThreadState). t.left) (sym c.self.view_is) ∙ own_first c.self.inside.number calls call (drop 1 calls) c.self.invariant is)
     (ap (λ (t : ThreadState). t.left) c.self.view_is)
-    (ap made_calls c.reserve.ensures.items ∙ ap (λ (t : ThreadState). t.made) c.self.view_is)
+    (ap made_calls c.reserve.ensures.items ∙ ap (λ (t : ThreadState). t.made) c.self.view_is) refl
     (λ after last at.
     subst (CallGoes fds call after c.advance_call.new.hand last c.advance_call.new.pass) c.in-None.is
     (c.in_ok-advance_call.ensures.goes after last
@@ -44,13 +44,14 @@ pub returns-in-Some-clause-ends : goal.returns-in-Some-clause-ends
 returns-in-Some-clause-ends g c =
     let calls = c.self.inside.left.now in
     let call = c.call-item.result in
-    let is : calls ≡ call ∷ drop 1 calls = search rules in
+    let is : calls ≡ call ∷ drop 1 calls = first_and_rest calls call c.in-len1-up.len_at_least c.call-item.is in
     let same : calls_of_thread c.self.inside.number c.from_own-self-inside.result.now ≡ calls_of_thread c.self.inside.number (drop 1 calls) = c.from_own-self-inside.ensures.same ∙ ap (calls_of_thread c.self.inside.number) (rest_whole calls) in
     let more : made_calls c.push_reserved.new.self.items ≡ made_calls c.reserve.new.self.items ++ record { call = call; answer = c.in-Some.answer } ∷ [] =
     ap made_calls c.push_reserved.ensures.items ∙ map-append made_call c.reserve.new.self.items _ in (
       record { call = call; answer = c.in-Some.answer },
       ap (λ (t : ThreadState). t.left) (sym c.self.view_is) ∙ own_first c.self.inside.number calls call (drop 1 calls) c.self.invariant is ∙ ap (λ later. call ∷ later) (sym same),
       more ∙ ap (λ made. made ++ record { call = call; answer = c.in-Some.answer } ∷ []) (ap made_calls c.reserve.ensures.items ∙ ap (λ (t : ThreadState). t.made) c.self.view_is),
+      refl,
     )
 
 pub returns-in-Some-clause-come : goal.returns-in-Some-clause-come
@@ -60,8 +61,8 @@ returns-in-Some-clause-come g c = λ start come.
     let old = c.args.self.now in
     let calls = c.self.inside.left.now in
     let call = c.call-item.result in
-    let is : calls ≡ call ∷ drop 1 calls = search rules in
-    let new : ThreadState = record { left = calls_of_thread c.self.inside.number c.from_own-self-inside.result.now; hand = c.advance_call.new.hand; made = made_calls c.push_reserved.new.self.items } in
+    let is : calls ≡ call ∷ drop 1 calls = first_and_rest calls call c.in-len1-up.len_at_least c.call-item.is in
+    let new : ThreadState = record { left = calls_of_thread c.self.inside.number c.from_own-self-inside.result.now; begun = false; hand = c.advance_call.new.hand; made = made_calls c.push_reserved.new.self.items } in
     come_past fds old new call (calls_of_thread c.self.inside.number (drop 1 calls)) start c.args.pass.now c.advance_call.new.pass
     (ap (λ (t : ThreadState). t.left) (sym c.self.view_is) ∙ own_first c.self.inside.number calls call (drop 1 calls) c.self.invariant is)
     c.in-Some.answer (returns-in-Some-clause-ends g c).2

@@ -1,0 +1,83 @@
+//! Schedules that are followed over a mount, one step after another on one thread.
+use crate::given::{region, stores};
+use crate::syncs::opened_over;
+use nv_plain::Reply;
+use nv_pmem::Fuse;
+use nv_runner::sort_out;
+use nv_schedule::{ScheduleError, ScheduledCalls, run_schedule};
+use nv_trace::{Form, MemSource, Trace, read_trace};
+use std::alloc::Global;
+use std::test::Fail;
+
+/// A read begins while a write stands before its place, and is made again behind it.
+const BEHIND: &str =
+    "file a\nfd 0 a rw\n0 pwrite 0 0 11\n1 pread 0 0 1\nsteps 0:place 1 0:done 1:done\n";
+
+/// A write waits for a lock that another one holds, which makes no step.
+const WAITING: &str = "file a\nfd 0 a rw\n0 pwrite 0 0 01\n1 pwrite 0 0 02\nsteps 0:place 1:done\n";
+
+/// A write stands before its place, another has made no step, and a third is done.
+const STOPPED: &str =
+    "file a\nfd 0 a rw\n0 fsync 0\n0 pwrite 0 0 11\n1 fsync 0\nsteps 0:done 0:place\n";
+
+// A trace with a schedule.
+fn traced(alloc: Global, text: &str) -> Result<Trace, Fail> {
+    let mut source = MemSource::new(alloc, text.as_bytes(), &[])?;
+    Ok(read_trace(alloc, Form::Sched, &mut source)?)
+}
+
+// What its schedule comes to over a mount of one new file.
+fn followed<'a>(
+    alloc: Global,
+    trace: &'a Trace,
+) -> Result<Result<ScheduledCalls<'a>, ScheduleError>, Fail> {
+    let stores = stores(alloc, &[], Fuse::new(alloc, &[])?)?;
+    let (mount, pass) = opened_over(alloc, region(alloc)?, stores)?;
+    let scheduled = run_schedule(alloc, mount, pass, trace.calls(), trace.tokens(), 4);
+    Ok(scheduled.outcome)
+}
+
+#[test]
+fn a_read_comes_behind_the_write_that_it_found(rt: HostRuntime) -> Result<(), Fail> {
+    let alloc = rt.alloc();
+    let trace = traced(alloc, BEHIND)?;
+    let calls = followed(alloc, &trace)??;
+    assert!(rt; calls.unanswered.is_empty());
+    let sorted = sort_out(alloc, calls.answered)?;
+    assert_eq!(rt; sorted.placed.len(), 2);
+    for (place, one) in sorted.placed.iter().enumerate() {
+        assert_eq!(rt; one.place, place as u64);
+        assert_eq!(rt; one.call.thread, place as u64);
+        match &one.reply {
+            Reply::Count(len) => assert_eq!(rt; *len, 1),
+            Reply::Bytes(bytes) => assert!(rt; bytes.as_slice() == [0x11].as_slice()),
+            Reply::Done => assert!(rt; false),
+        }
+    }
+    Ok(())
+}
+
+#[test]
+fn a_token_that_waits_for_ever_uses_its_turns_up(rt: HostRuntime) -> Result<(), Fail> {
+    let alloc = rt.alloc();
+    let trace = traced(alloc, WAITING)?;
+    let outcome = followed(alloc, &trace)?;
+    assert!(rt; matches!(outcome, Err(ScheduleError::TurnsUsed)));
+    Ok(())
+}
+
+#[test]
+fn calls_that_were_begun_are_told_and_no_others(rt: HostRuntime) -> Result<(), Fail> {
+    let alloc = rt.alloc();
+    let trace = traced(alloc, STOPPED)?;
+    let calls = followed(alloc, &trace)??;
+    assert_eq!(rt; calls.answered.len(), 1);
+    assert_eq!(rt; calls.unanswered.len(), 1);
+    for one in &calls.answered {
+        assert_eq!(rt; one.call.line, 3);
+    }
+    for one in &calls.unanswered {
+        assert_eq!(rt; one.line, 4);
+    }
+    Ok(())
+}

@@ -1,0 +1,166 @@
+-- Since: what is so of each caller by its own advances is so by a schedule; and the events of a schedule are deeds.
+use Rattle.std.proofs.Common.{◌≡◌, ◌≢◌, ◌⊎◌, ℕ, ◌<◌, Bool, true, false, List, [], ◌∷◌, ◌++◌, length, inl, inr, refl, sym, ap, subst, ◌∙◌, arith, append_assoc}
+use Rattle.std.specs.Prelude.{slice_index_or}
+use Rattle.std.proofs.lemmas.Bool.{cases_eq}
+use Rattle.std.proofs.lemmas.List.{get_or-set_other, get_or-set_same, length-set, map-append}
+use Rattle.nv_core.specs.steps.Events.{Event}
+use Rattle.nv_table.specs.state.States.{PassState}
+use Rattle.nv_mount.specs.declared.fds.Fd.{Fd}
+use Rattle.nv_runner.specs.Lists.{MadeCall, calls_made}
+use Rattle.nv_trace.specs.declared.trace_call.TracedCall.{TracedCall}
+use Rattle.nv_schedule.specs.Callers.{CallEnds, ThreadState}
+use Rattle.nv_schedule.specs.Following.{FallShort, Follows, GoesTo, OneTurns, UsesUp, all_events, next_at}
+use Rattle.nv_schedule.specs.Growing.{number_of}
+use Rattle.nv_schedule.specs.Orders.{AreDeeds}
+use Rattle.nv_schedule.specs.Reaches.{is_there, place_of}
+use Rattle.nv_schedule.specs.Scheduled.{asked_by}
+use Rattle.nv_schedule.specs.Turns.{CallerState, HasCome, HasTurned, WorkEnds}
+use Rattle.nv_schedule.specs.declared.caller.Work.{Work}
+use Rattle.nv_schedule.specs.declared.caller.Work.TheVariants.{Calls, Batches}
+use Rattle.nv_trace.specs.declared.token.Reach.{Reach}
+use Rattle.nv_trace.specs.declared.token.Token.{Token}
+use Rattle.nv_trace.specs.declared.token.Token.TheVariants.{Advance, Cut}
+use Rattle.nv_schedule.proofs.DeedLaws.{turn_is_deeds}
+use Rattle.nv_schedule.proofs.FollowLaws.{all_events_on, number_kept}
+use Rattle.nv_schedule.proofs.OrderLaws.{are_deeds_both}
+
+-- ---- one caller goes on
+
+-- By the same pass and with the same calls, it has come further from wherever it has come.
+pub record GoesOn (fds : List Fd) (old new : CallerState) : Type 0 where
+  pub number : number_of new ≡ number_of old
+  pub asked : asked_by new.work ≡ asked_by old.work
+  pub come : (start : PassState) → HasCome fds old.work start old.pass → HasCome fds new.work start new.pass
+
+on_self : (fds : List Fd) (caller : CallerState) → GoesOn fds caller caller
+on_self fds caller = record { number = refl; asked = refl; come = λ start come. come }
+
+on_both : (fds : List Fd) (old middle new : CallerState) → GoesOn fds old middle → GoesOn fds middle new → GoesOn fds old new
+on_both fds old middle new one more = record { number = more.number ∙ one.number; asked = more.asked ∙ one.asked; come = λ start come. more.come start (one.come start come) }
+
+thread_asked : (answered : Bool) (old new : ThreadState) → CallEnds answered old new → calls_made new.made ++ new.left ≡ calls_made old.made ++ old.left
+thread_asked false old new ends = ap (λ (made : List MadeCall). calls_made made ++ new.left) ends.1 ∙ ap (λ (left : List TracedCall). calls_made old.made ++ left) ends.0
+thread_asked true old new ends =
+    ap (λ (made : List MadeCall). calls_made made ++ new.left) ends.2
+    ∙ ap (λ (calls : List TracedCall). calls ++ new.left) (map-append (λ (m : MadeCall). m.call) old.made (ends.0 ∷ []))
+    ∙ append_assoc (calls_made old.made) (ends.0.call ∷ []) new.left
+    ∙ sym (ap (λ (left : List TracedCall). calls_made old.made ++ left) ends.1)
+
+work_asked : (answered : Bool) (old new : Work) → WorkEnds answered old new → asked_by new ≡ asked_by old
+work_asked answered (Calls old) (Calls new) ends = thread_asked answered old new ends
+work_asked answered (Batches old) (Batches new) ends = refl
+work_asked answered (Calls old) (Batches new) ends = absurd ends
+work_asked answered (Batches old) (Calls new) ends = absurd ends
+
+turned_on : (fds : List Fd) (answered : Bool) (made : List Event) (old new : CallerState) → HasTurned fds answered made old new → GoesOn fds old new
+turned_on fds answered made old new turned =
+    record { number = number_kept made old.pass new.pass turned.moved; asked = work_asked answered old.work new.work turned.ends; come = turned.come }
+
+-- ---- all of them
+
+pub record AllGoOn (fds : List Fd) (old new : List CallerState) : Type 0 where
+  pub count : length new ≡ length old
+  pub each : (i : ℕ) (d : CallerState) → i < length old → GoesOn fds (slice_index_or old i d) (slice_index_or new i d)
+
+all_self : (fds : List Fd) (callers : List CallerState) → AllGoOn fds callers callers
+all_self fds callers = record { count = refl; each = λ i d less. on_self fds (slice_index_or callers i d) }
+
+all_both : (fds : List Fd) (old middle new : List CallerState) → AllGoOn fds old middle → AllGoOn fds middle new → AllGoOn fds old new
+all_both fds old middle new one more = record {
+  count = more.count ∙ one.count;
+  each = λ i d less. on_both fds (slice_index_or old i d) (slice_index_or middle i d) (slice_index_or new i d) (one.each i d less) (more.each i d (let n = one.count in omega (arith, less, n)));
+}
+
+module _ (fds : List Fd) (place : ℕ) (answered : Bool) (made : List Event) (old new : List CallerState) (one : OneTurns fds place answered made old new) where
+  here : (d : CallerState) → slice_index_or new place d ≡ one.then_
+  here d = ap (λ l. slice_index_or l place d) one.new_is ∙ get_or-set_same old place one.then_ d one.there
+
+  else_ : (i : ℕ) (d : CallerState) → i ≢ place → slice_index_or new i d ≡ slice_index_or old i d
+  else_ i d ne = ap (λ l. slice_index_or l i d) one.new_is ∙ get_or-set_other old place i one.then_ d ne
+
+  at_place : (d : CallerState) → GoesOn fds (slice_index_or old place d) (slice_index_or new place d)
+  at_place d =
+      subst (λ (c : CallerState). GoesOn fds c (slice_index_or new place d)) (sym (one.is d))
+      (subst (GoesOn fds one.caller) (sym (here d)) (turned_on fds answered made one.caller one.then_ one.turned))
+
+  each_on : (i : ℕ) (d : CallerState) → (i ≡ place) ⊎ (i ≢ place) → GoesOn fds (slice_index_or old i d) (slice_index_or new i d)
+  each_on i d (inl is) = subst (λ k. GoesOn fds (slice_index_or old k d) (slice_index_or new k d)) (sym is) (at_place d)
+  each_on i d (inr ne) = subst (GoesOn fds (slice_index_or old i d)) (sym (else_ i d ne)) (on_self fds (slice_index_or old i d))
+
+  one_on : AllGoOn fds old new
+  one_on = record { count = ap length one.new_is ∙ length-set old place one.then_; each = λ i d less. each_on i d (cases_eq i place) }
+
+short_on : (fds : List Fd) (reach : Reach) (place : ℕ) (callers : List CallerState) (advances : List (List Event)) (then_ : List CallerState) → FallShort fds reach place callers advances then_ → AllGoOn fds callers then_
+short_on fds reach place callers [] then_ same = subst (AllGoOn fds callers) (sym same) (all_self fds callers)
+short_on fds reach place callers (made ∷ later) then_ fell =
+    all_both fds callers fell.1 then_ (one_on fds place fell.0 made callers fell.1 fell.2) (short_on fds reach place fell.1 later then_ fell.4)
+
+token_on : (fds : List Fd) (reach : Reach) (place : ℕ) (callers : List CallerState) (advances : List (List Event)) (then_ : List CallerState) (there : Bool) → GoesTo there fds reach place callers advances then_
+    → AllGoOn fds callers then_
+token_on fds reach place callers advances then_ true goes = subst (AllGoOn fds callers) (sym goes.1) (all_self fds callers)
+token_on fds reach place callers advances then_ false goes =
+    let come = goes.0 in
+    all_both fds callers come.middle then_ (short_on fds reach place callers come.short come.middle come.fell) (one_on fds place come.answered come.last come.middle then_ come.one)
+
+pub schedule_on : (fds : List Fd) (tokens : List Token) (callers : List CallerState) (trail : List Event) (then_ : List CallerState) → Follows fds tokens callers trail then_ → AllGoOn fds callers then_
+schedule_on fds [] callers trail then_ nothing = subst (AllGoOn fds callers) (sym nothing.1) (all_self fds callers)
+schedule_on fds (Cut number ∷ later) callers trail then_ follows = schedule_on fds later callers trail then_ follows
+schedule_on fds (Advance turn reach ∷ later) callers trail then_ follows =
+    all_both fds callers follows.1 then_ (token_on fds reach (place_of turn) callers follows.0 follows.1 (is_there reach (next_at callers (place_of turn))) follows.3)
+    (schedule_on fds later follows.1 follows.2 then_ follows.5)
+
+pub used_up_on : (fds : List Fd) (tokens : List Token) (callers : List CallerState) (trail : List Event) (then_ : List CallerState) → UsesUp fds tokens callers trail then_ → AllGoOn fds callers then_
+used_up_on fds tokens callers trail then_ used =
+    all_both fds callers used.middle then_ (schedule_on fds used.before callers used.first used.middle used.follows) (short_on fds used.reach (place_of used.turn) used.middle used.advances then_ used.fell)
+
+-- ---- their events are deeds
+
+-- each is by a pass beside pass 0, and has come to where it is
+abbrev pub AreFirm : List Fd → List CallerState → Type 0
+AreFirm fds callers = (i : ℕ) (d : CallerState) → i < length callers → (number_of (slice_index_or callers i d) ≢ 0) × (start : PassState) × HasCome fds (slice_index_or callers i d).work start (slice_index_or callers i d).pass
+
+firm_on : (fds : List Fd) (old new : List CallerState) → AllGoOn fds old new → AreFirm fds old → AreFirm fds new
+firm_on fds old new on firm i d less =
+    let there : i < length old = (let n = on.count in omega (arith, less, n)) in
+    let one = firm i d there in
+    let goes = on.each i d there in
+    (λ none. one.0 (sym goes.number ∙ none), one.1, goes.come one.1 one.2)
+
+one_deeds : (fds : List Fd) (place : ℕ) (answered : Bool) (made : List Event) (old new : List CallerState) → OneTurns fds place answered made old new → AreFirm fds old → AreDeeds made
+one_deeds fds place answered made old new one firm =
+    let here = firm place one.caller one.there in
+    let same : slice_index_or old place one.caller ≡ one.caller = one.is one.caller in
+    turn_is_deeds fds answered made one.caller one.then_ one.turned here.1
+    (subst (λ (c : CallerState). HasCome fds c.work here.1 c.pass) same here.2) (λ none. here.0 (ap number_of same ∙ none))
+
+short_deeds : (fds : List Fd) (reach : Reach) (place : ℕ) (callers : List CallerState) (advances : List (List Event)) (then_ : List CallerState) → FallShort fds reach place callers advances then_ → AreFirm fds callers
+    → AreDeeds (all_events advances)
+short_deeds fds reach place callers [] then_ same firm = tt
+short_deeds fds reach place callers (made ∷ later) then_ fell firm =
+    are_deeds_both made (all_events later) (one_deeds fds place fell.0 made callers fell.1 fell.2 firm)
+    (short_deeds fds reach place fell.1 later then_ fell.4 (firm_on fds callers fell.1 (one_on fds place fell.0 made callers fell.1 fell.2) firm))
+
+token_deeds : (fds : List Fd) (reach : Reach) (place : ℕ) (callers : List CallerState) (advances : List (List Event)) (then_ : List CallerState) (there : Bool) → GoesTo there fds reach place callers advances then_
+    → AreFirm fds callers → AreDeeds (all_events advances)
+token_deeds fds reach place callers advances then_ true goes firm = subst (λ (l : List (List Event)). AreDeeds (all_events l)) (sym goes.0) tt
+token_deeds fds reach place callers advances then_ false goes firm =
+    let come = goes.0 in
+    let first = short_on fds reach place callers come.short come.middle come.fell in
+    subst AreDeeds (sym (ap all_events come.all ∙ all_events_on come.short come.last))
+    (are_deeds_both (all_events come.short) come.last (short_deeds fds reach place callers come.short come.middle come.fell firm)
+    (one_deeds fds place come.answered come.last come.middle then_ come.one (firm_on fds callers come.middle first firm)))
+
+pub schedule_deeds : (fds : List Fd) (tokens : List Token) (callers : List CallerState) (trail : List Event) (then_ : List CallerState) → Follows fds tokens callers trail then_ → AreFirm fds callers → AreDeeds trail
+schedule_deeds fds [] callers trail then_ nothing firm = subst AreDeeds (sym nothing.0) tt
+schedule_deeds fds (Cut number ∷ later) callers trail then_ follows firm = schedule_deeds fds later callers trail then_ follows firm
+schedule_deeds fds (Advance turn reach ∷ later) callers trail then_ follows firm =
+    let there = is_there reach (next_at callers (place_of turn)) in
+    subst AreDeeds (sym follows.4)
+    (are_deeds_both (all_events follows.0) follows.2 (token_deeds fds reach (place_of turn) callers follows.0 follows.1 there follows.3 firm)
+    (schedule_deeds fds later follows.1 follows.2 then_ follows.5 (firm_on fds callers follows.1 (token_on fds reach (place_of turn) callers follows.0 follows.1 there follows.3) firm)))
+
+pub used_up_deeds : (fds : List Fd) (tokens : List Token) (callers : List CallerState) (trail : List Event) (then_ : List CallerState) → UsesUp fds tokens callers trail then_ → AreFirm fds callers → AreDeeds trail
+used_up_deeds fds tokens callers trail then_ used firm =
+    subst AreDeeds (sym used.trail_is)
+    (are_deeds_both used.first (all_events used.advances) (schedule_deeds fds used.before callers used.first used.middle used.follows firm)
+    (short_deeds fds used.reach (place_of used.turn) used.middle used.advances then_ used.fell (firm_on fds callers used.middle (schedule_on fds used.before callers used.first used.middle used.follows) firm)))

@@ -1,0 +1,156 @@
+-- Scheduled: what a schedule over a mount came to, behind which the mount was closed.
+use Rattle.std.specs.Prelude.{◌≡◌, ◌⊎◌, ℕ, ◌<◌, Bool, true, List, [], ◌∷◌, ◌++◌, length, map, slice_index_or, Result, Ok, Err}
+use Rattle.nv_plain.specs.Histories.{Answered}
+use Rattle.nv_core.specs.state.Words.{Word}
+use Rattle.nv_core.specs.steps.Events.{Event, own}
+use Rattle.nv_table.specs.passes.PassesMade.{PutsBack}
+use Rattle.nv_table.specs.passes.Seats.{past_of}
+use Rattle.nv_table.specs.state.States.{IsOf, PassState}
+use Rattle.nv_table.specs.state.Views.{AllBegin, Past, PassView, made_of, pass_of}
+use Rattle.nv_mount.specs.Mounts.{MountState}
+use Rattle.nv_mount.specs.WholeRuns.{history_then}
+use Rattle.nv_mount.specs.declared.fds.Fd.{Fd}
+use Rattle.nv_plain.specs.declared.memory.NoMemory.{NoMemory as AnyNoMemory}
+use Rattle.nv_runner.specs.Lists.{MadeCall, calls_made, made_calls}
+use Rattle.nv_trace.specs.declared.token.Token.{Token}
+use Rattle.nv_trace.specs.declared.trace_call.TracedCall.{TracedCall}
+use Rattle.nv_schedule.specs.Fresh.{AreFresh, works_of}
+use Rattle.nv_schedule.specs.Growing.{number_of}
+use Rattle.nv_schedule.specs.Orders.{deeds}
+use Rattle.nv_schedule.specs.Ran.{RanAs}
+use Rattle.nv_schedule.specs.Told.{IsToldOf}
+use Rattle.nv_schedule.specs.Turns.{CallerState, HasCome}
+use Rattle.nv_schedule.specs.declared.caller.Work.{Work}
+use Rattle.nv_schedule.specs.declared.caller.Work.TheVariants.{Calls, Batches}
+use Rattle.nv_schedule.specs.declared.schedule_error.ScheduleError.{ScheduleError}
+use Rattle.nv_schedule.specs.declared.schedule_error.ScheduleError.TheVariants.{NoMemory, TurnsUsed}
+use Rattle.nv_schedule.specs.declared.scheduled.ScheduledCalls.{ScheduledCalls}
+
+-- ---- pass 0 meanwhile
+
+-- Pass 0 owns nothing and has put nothing back, whatever those are at that it has taken in.
+pub record IsTaker (mount : MountState) (zero : PassState) : Type 0 where
+  pub board : IsOf mount.board zero
+  pub number : zero.view.number ≡ 0
+  pub left : (pass_of zero.view).left ≡ []
+  pub nothing : zero.now ≡ []
+
+-- It made no step of a call or of a batch, and the parts that have no slot are with it.
+pub record IsAside (old new : PassState) : Type 0 where
+  pub spare : new.spare ≡ old.spare
+  pub mine : (pass_of new.view).mine ≡ (pass_of old.view).mine
+  pub deedless : deeds (own 0 new.view.run) ≡ deeds (own 0 old.view.run)
+
+-- ---- passes that are taken in as they stand
+
+-- A pass was taken in as it stood: it has put back what it owned, and has done nothing else.
+pub record IsTakenAsItStood (pass : PassState) (past : Past) : Type 0 where
+  pub cells : List (Word × ℕ)
+  pub last : PassView
+  pub back : PutsBack cells pass.view last
+  pub is : past ≡ past_of last
+
+-- so were those of some callers, and no other
+abbrev pub AreTakenAsTheyStood : List CallerState → List Past → Type 0
+AreTakenAsTheyStood [] [] = Unit {0}
+AreTakenAsTheyStood (caller ∷ later) (past ∷ before) = IsTakenAsItStood caller.pass past × AreTakenAsTheyStood later before
+AreTakenAsTheyStood callers pasts = ⊥
+
+-- Pass 0 has taken in those of some callers, the first one's last, and was told nothing meanwhile. The run that it has seen then begins with all that it was told before.
+pub record HasTakenIn (old new : PassState) (callers : List CallerState) : Type 0 where
+  pub aside : IsAside old new
+  pub made : made_of new.view ≡ made_of old.view
+  pub told : new.view.told ≡ old.view.told
+  pub taken : AreTakenAsTheyStood callers new.view.ended
+  pub behind : (callers ≡ []) ⊎ AllBegin new.view.told new.view.run
+
+-- ---- what became of calls
+
+-- the calls of a caller that were answered, with their answers
+abbrev pub made_by : Work → List MadeCall
+made_by (Calls thread) = thread.made
+made_by (Batches cleaner) = []
+
+-- its present one, where that has begun
+abbrev pub begun_of : (begun : Bool) → (left : List TracedCall) → List TracedCall
+begun_of true (call ∷ later) = call ∷ []
+begun_of begun left = []
+
+abbrev pub unanswered_by : Work → List TracedCall
+unanswered_by (Calls thread) = begun_of thread.begun thread.left
+unanswered_by (Batches cleaner) = []
+
+-- those of some callers: each one's in their order, and the last one's first
+abbrev pub made_of_all : List CallerState → List MadeCall
+made_of_all [] = []
+made_of_all (caller ∷ later) = made_of_all later ++ made_by caller.work
+
+abbrev pub unanswered_of_all : List CallerState → List TracedCall
+unanswered_of_all [] = []
+unanswered_of_all (caller ∷ later) = unanswered_of_all later ++ unanswered_by caller.work
+
+-- They are those that a schedule tells.
+pub record AreCallsOf (callers : List CallerState) (calls : ScheduledCalls) : Type 0 where
+  pub answered : made_calls calls.answered.items ≡ made_of_all callers
+  pub unanswered : map (λ call. call.now) calls.unanswered.items ≡ unanswered_of_all callers
+
+-- ---- the run of the mount
+
+-- all calls of a caller, those that were answered first
+abbrev pub asked_by : Work → List TracedCall
+asked_by (Calls thread) = calls_made thread.made ++ thread.left
+asked_by (Batches cleaner) = []
+
+-- By the same pass, and with the same calls, a caller has come to where it is.
+pub record HasComeSince (fds : List Fd) (old new : CallerState) : Type 0 where
+  pub number : number_of new ≡ number_of old
+  pub asked : asked_by new.work ≡ asked_by old.work
+  pub come : HasCome fds new.work old.pass new.pass
+
+abbrev pub HaveComeSince : List Fd → (first then_ : List CallerState) → Type 0
+HaveComeSince fds first then_ = (i : ℕ) (d : CallerState) → i < length first → HasComeSince fds (slice_index_or first i d) (slice_index_or then_ i d)
+
+-- the history tells of all callers what became of their calls, each by the number of its pass
+abbrev pub AreAllTold : List Fd → (first then_ : List CallerState) → List Answered → Type 0
+AreAllTold fds first then_ history =
+    (i : ℕ) (d : CallerState) → i < length first → IsToldOf fds (number_of (slice_index_or first i d)) (slice_index_or then_ i d).work (slice_index_or first i d).pass history
+
+-- The callers of a trace's calls, which had begun nothing, followed a schedule: by the whole of it, or up to a token that used up its advances. Then the deeds of the whole run are theirs, in the order of the
+-- tokens, one after another with no event between. Their passes were taken in as they stood, and their calls are those of the history; pass 0 has made none.
+pub record HasFollowed (mount : MountState) (tokens : List Token) (calls : List TracedCall) (batch : ℕ) (done : Result (Unit {0}) ScheduleError) (then_ : List CallerState) (zero : PassState) : Type 0 where
+  pub first : List CallerState
+  pub fresh : AreFresh mount first
+  pub works : map (λ caller. caller.work) first ≡ works_of calls batch
+  pub trail : List Event
+  pub ran : RanAs mount tokens first then_ trail done
+  pub only : deeds zero.view.run ≡ trail
+  pub count : length then_ ≡ length first
+  pub come : HaveComeSince mount.fds first then_
+  pub taken : AreTakenAsTheyStood then_ zero.view.ended
+  pub told : AreAllTold mount.fds first then_ (history_then zero.view)
+  pub none : (pass_of zero.view).mine ≡ []
+
+-- What is answered: the calls that were begun; or that a token has used up its advances. Where memory is wanting nothing is told.
+abbrev pub HasTold : MountState → List Token → (calls : List TracedCall) → (batch : ℕ) → (zero : PassState) → Result ScheduledCalls ScheduleError → Type 0
+HasTold mount tokens calls batch zero (Ok told) = (then_ : List CallerState) × HasFollowed mount tokens calls batch (Ok tt) then_ zero × AreCallsOf then_ told
+HasTold mount tokens calls batch zero (Err TurnsUsed) = (then_ : List CallerState) × HasFollowed mount tokens calls batch (Err TurnsUsed) then_ zero
+HasTold mount tokens calls batch zero (Err NoMemory) = Unit {0}
+
+-- A schedule over a new mount has come to this, whatever it is answered: the mount is the same, with the same parts.
+pub record HasScheduled (mount : MountState) (tokens : List Token) (calls : List TracedCall) (batch : ℕ) (start zero : PassState) (outcome : Result ScheduledCalls ScheduleError) : Type 0 where
+  pub opened : zero.view.opened ≡ start.view.opened
+  pub spare : zero.spare ≡ start.spare
+  pub told : HasTold mount tokens calls batch zero outcome
+
+-- ---- what is answered
+
+-- of two that may fail
+abbrev pub IsOfBoth : (first then_ : Result (Unit {0}) AnyNoMemory) → Result (Unit {0}) AnyNoMemory → Type 0
+IsOfBoth (Ok done) then_ result = result ≡ then_
+IsOfBoth (Err wanting) then_ result = result ≡ Err wanting
+
+-- the error of a schedule; or that there was no memory to put its calls down; or these
+abbrev pub IsToldBy : (ran : Result (Unit {0}) ScheduleError) → (taken : Result (Unit {0}) AnyNoMemory) → ScheduledCalls → Result ScheduledCalls ScheduleError → Type 0
+IsToldBy (Err error) taken calls outcome = outcome ≡ Err error
+IsToldBy (Ok done) (Err wanting) calls outcome = outcome ≡ Err NoMemory
+IsToldBy (Ok done) (Ok noted) calls outcome = outcome ≡ Ok calls

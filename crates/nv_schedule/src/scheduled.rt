@@ -1,0 +1,23 @@
+//! What a schedule came to.
+use crate::ScheduleError;
+use nv_runner::AnsweredCall;
+use nv_table::Closed;
+use nv_trace::TracedCall;
+
+/// The calls that a schedule has begun.
+#[derive(Debug, Drop)]
+pub struct ScheduledCalls<'a> {
+    /// Those that were answered, with their answers: each thread's in their order, and the last thread's first.
+    pub answered: Vec<AnsweredCall<'a>>,
+    /// Those that were not: they stand in mid-call, or between two tries. At most one of each thread, and the last thread's first.
+    pub unanswered: Vec<&'a TracedCall>,
+}
+
+/// What is left of a mount over which a schedule was followed.
+#[derive(Drop)]
+pub struct Scheduled<'a, L, B> {
+    /// What comes out of the mount.
+    pub closed: Closed<L, B>,
+    /// The calls that were begun; or why there is nothing to tell of them.
+    pub outcome: Result<ScheduledCalls<'a>, ScheduleError>,
+}
