@@ -3,7 +3,7 @@ use crate::given::{region, stores};
 use crate::syncs::opened_over;
 use nv_plain::Reply;
 use nv_pmem::Fuse;
-use nv_runner::sort_out;
+use nv_runner::{Answer, sort_out};
 use nv_schedule::{ScheduleError, ScheduledCalls, run_schedule};
 use nv_trace::{Form, MemSource, Trace, read_trace};
 use std::alloc::Global;
@@ -16,9 +16,16 @@ const BEHIND: &str =
 /// A write waits for a lock that another one holds, which makes no step.
 const WAITING: &str = "file a\nfd 0 a rw\n0 pwrite 0 0 01\n1 pwrite 0 0 02\nsteps 0:place 1:done\n";
 
-/// A write stands before its place, another has made no step, and a third is done.
+/// A write stands before its draw, another call has made no step, and a third is done.
 const STOPPED: &str =
-    "file a\nfd 0 a rw\n0 fsync 0\n0 pwrite 0 0 11\n1 fsync 0\nsteps 0:done 0:place\n";
+    "file a\nfd 0 a rw\n0 fsync 0\n0 pwrite 0 0 11\n1 fsync 0\nsteps 0:done 0:draw\n";
+
+/// A write stands before its place.
+const DRAWN: &str = "file a\nfd 0 a rw\n0 pwrite 0 0 11\nsteps 0:place\n";
+
+/// A write and a read stand behind their places, and have no answer yet.
+const PLACED: &str =
+    "file a\nfd 0 a rw\n0 pwrite 0 64 22\n0 pwrite 0 0 11\n1 pread 0 64 1\nsteps 0:done 0:place 0 1:place 1\n";
 
 // A trace with a schedule.
 fn traced(alloc: Global, text: &str) -> Result<Trace, Fail> {
@@ -78,6 +85,38 @@ fn calls_that_were_begun_are_told_and_no_others(rt: HostRuntime) -> Result<(), F
     }
     for one in &calls.unanswered {
         assert_eq!(rt; one.line, 4);
+    }
+    Ok(())
+}
+
+#[test]
+fn a_write_that_has_drawn_is_told_as_open(rt: HostRuntime) -> Result<(), Fail> {
+    let alloc = rt.alloc();
+    let trace = traced(alloc, DRAWN)?;
+    let calls = followed(alloc, &trace)??;
+    assert!(rt; calls.unanswered.is_empty());
+    assert_eq!(rt; calls.answered.len(), 1);
+    for one in &calls.answered {
+        assert!(rt; matches!(one.answer, Answer::Open { number: 0 }));
+    }
+    Ok(())
+}
+
+#[test]
+fn calls_behind_their_places_are_told_as_placed(rt: HostRuntime) -> Result<(), Fail> {
+    let alloc = rt.alloc();
+    let trace = traced(alloc, PLACED)?;
+    let calls = followed(alloc, &trace)??;
+    assert!(rt; calls.unanswered.is_empty());
+    let sorted = sort_out(alloc, calls.answered)?;
+    assert_eq!(rt; sorted.placed.len(), 3);
+    for (place, one) in sorted.placed.iter().enumerate() {
+        assert_eq!(rt; one.place, place as u64);
+        match &one.reply {
+            Reply::Count(len) => assert_eq!(rt; *len, 1),
+            Reply::Bytes(bytes) => assert!(rt; bytes.as_slice() == [0x22].as_slice()),
+            Reply::Done => assert!(rt; false),
+        }
     }
     Ok(())
 }

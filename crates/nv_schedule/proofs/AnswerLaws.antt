@@ -45,7 +45,7 @@ use Rattle.nv_runner.proofs.OpenLaws.{told_behind}
 use Rattle.nv_runner.proofs.TryLaws.{answer_on, write_answer_on}
 use Rattle.nv_schedule.specs.Callers.{AreAnswered, IsAnsweredBy}
 use Rattle.nv_schedule.specs.Tries.{IsTryOver, WereTried, answer_of, begins_anew}
-use Rattle.nv_schedule.proofs.WayLaws.{over_idle}
+use Rattle.nv_schedule.proofs.WayLaws.{first_bytes, over_idle}
 
 -- the laws of calls that are over
 pub record CallLaws : Type 0 where
@@ -170,10 +170,6 @@ tried_since laws fds (Pwrite fd at bytes) start now mount tried = again_since la
 tried_since laws fds (Fsync fd) start now mount same = subst (IsSince start) (sym same) (since_self start)
 
 -- ---- the answer of a read
-
-first_bytes : (bytes rest : List ℕ) → take (length bytes) (bytes ++ rest) ≡ bytes
-first_bytes [] rest = refl
-first_bytes (x ∷ bytes) rest = ap (λ l. x ∷ l) (first_bytes bytes rest)
 
 module _ (laws : CallLaws) (fds : List Fd) (fd at len : ℕ) (start begun now : PassState) (list : List ℕ) (mount : IsMount (mount_of start.view.opened)) (idle : IsIdle start) (tries : List Try)
     (busy : WereBusy fds fd at len tries start begun) (size : length list ≡ len) where

@@ -24,7 +24,8 @@ use Rattle.nv_runner.specs.Workers.{IsZero}
 use Rattle.nv_trace.specs.declared.trace_call.TracedCall.{TracedCall}
 use Rattle.nv_schedule.specs.Callers.{IsAtBatch, IsAtCall}
 use Rattle.nv_schedule.specs.Orders.{deeds, is_deed, is_deed_op}
-use Rattle.nv_schedule.specs.Scheduled.{AreCallsOf, AreTakenAsTheyStood, HasTakenIn, IsAside, IsOfBoth, IsTakenAsItStood, IsTaker, made_by, unanswered_by}
+use Rattle.nv_schedule.specs.Scheduled.{AreCallsOf, AreTakenAsTheyStood, HasTakenIn, IsAside, IsOfBoth, IsTakenAsItStood, IsTaker}
+use Rattle.nv_schedule.specs.Listed.{listed, unanswered}
 use Rattle.nv_schedule.specs.Turns.{CallerState, HasCome}
 use Rattle.nv_schedule.specs.declared.caller.Work.{Work}
 use Rattle.nv_schedule.specs.declared.caller.Work.TheVariants.{Calls, Batches}
@@ -189,10 +190,10 @@ pub no_calls : (calls : ScheduledCalls) → calls.answered.items ≡ [] → call
 no_calls calls none none_too = record { answered = ap made_calls none; unanswered = ap (map (λ call. call.now)) none_too }
 
 pub calls_more : (first then_ result : Result (Unit {0}) NoMemory) (callers : List CallerState) (caller : CallerState) (old new : ScheduledCalls) → IsOfBoth first then_ result → OnOk first (AreCallsOf callers old)
-    → OnOk then_ (made_calls new.answered.items ≡ made_calls old.answered.items ++ made_by caller.work)
-    → OnOk then_ (map (λ call. call.now) new.unanswered.items ≡ map (λ call. call.now) old.unanswered.items ++ unanswered_by caller.work) → OnOk result (AreCallsOf (caller ∷ callers) new)
-calls_more (Ok done) (Ok noted) result callers caller old new is are answered unanswered =
+    → OnOk then_ (made_calls new.answered.items ≡ made_calls old.answered.items ++ listed caller)
+    → OnOk then_ (map (λ call. call.now) new.unanswered.items ≡ map (λ call. call.now) old.unanswered.items ++ unanswered caller) → OnOk result (AreCallsOf (caller ∷ callers) new)
+calls_more (Ok done) (Ok noted) result callers caller old new is are more others =
     subst (λ (r : Result (Unit {0}) NoMemory). OnOk r (AreCallsOf (caller ∷ callers) new)) (sym is)
-    record { answered = answered ∙ ap (λ l. l ++ made_by caller.work) are.answered; unanswered = unanswered ∙ ap (λ l. l ++ unanswered_by caller.work) are.unanswered }
-calls_more (Ok done) (Err wanting) result callers caller old new is are answered unanswered = subst (λ (r : Result (Unit {0}) NoMemory). OnOk r (AreCallsOf (caller ∷ callers) new)) (sym is) tt
-calls_more (Err wanting) then_ result callers caller old new is are answered unanswered = subst (λ (r : Result (Unit {0}) NoMemory). OnOk r (AreCallsOf (caller ∷ callers) new)) (sym is) tt
+    record { answered = more ∙ ap (λ l. l ++ listed caller) are.answered; unanswered = others ∙ ap (λ l. l ++ unanswered caller) are.unanswered }
+calls_more (Ok done) (Err wanting) result callers caller old new is are more others = subst (λ (r : Result (Unit {0}) NoMemory). OnOk r (AreCallsOf (caller ∷ callers) new)) (sym is) tt
+calls_more (Err wanting) then_ result callers caller old new is are more others = subst (λ (r : Result (Unit {0}) NoMemory). OnOk r (AreCallsOf (caller ∷ callers) new)) (sym is) tt

@@ -1,10 +1,11 @@
 -- Ways: what is so of a pass whose call is tried, or whose try is over.
-use Rattle.std.proofs.Common.{◌≡◌, ◌⊎◌, ℕ, true, List, [], ◌∷◌, length, inl, inr, refl, sym, ap, subst, ◌∙◌}
+use Rattle.std.proofs.Common.{◌≡◌, ℕ, true, List, [], ◌∷◌, ◌++◌, length, refl, sym, ap, subst, ◌∙◌}
 use Rattle.std.specs.Borrow.{Bor}
-use Rattle.std.specs.Prelude.{Option, Some, None, Result, Ok, Err}
+use Rattle.std.specs.Prelude.{Option, Some, None, Result, Ok, Err, take}
 use Rattle.nv_plain.specs.Modes.{can_read, can_write}
 use Rattle.nv_plain.specs.declared.call.FileCall.{FileCall}
 use Rattle.nv_plain.specs.declared.call.FileCall.TheVariants.{Read, Write, Sync}
+use Rattle.nv_core.specs.state.Passes.{at_of, file_of}
 use Rattle.nv_core.specs.steps.Opening.{IsMount}
 use Rattle.nv_table.specs.invariant.Idle.{IsIdle}
 use Rattle.nv_table.specs.passes.PassesMade.{IsShownStill}
@@ -14,7 +15,8 @@ use Rattle.nv_table.specs.state.States.{PassState}
 use Rattle.nv_table.specs.state.Views.{pass_of}
 use Rattle.nv_mount.specs.declared.fds.Fd.{Fd}
 use Rattle.nv_plain.specs.declared.call.Reply.{Reply}
-use Rattle.nv_mirror.specs.Answers.{IsPlacedAs, IsUnplaced, place_in_answer, refusal_in_answer}
+use Rattle.nv_plain.specs.declared.call.Reply.TheVariants as replies
+use Rattle.nv_mirror.specs.Answers.{IsPlacedAs, IsReadPlaced, IsUnplaced, place_in_answer, refusal_in_answer}
 use Rattle.nv_mirror.specs.Controls.{InCall, IsOver, Mirror, Told}
 use Rattle.nv_mirror.specs.declared.answers.Done.{Done}
 use Rattle.nv_mirror.specs.declared.answers.Refusal.{Refusal}
@@ -22,13 +24,19 @@ use Rattle.nv_mirror.specs.declared.answers.Refusal.TheVariants.{Busy}
 use Rattle.nv_cache.specs.declared.read.RunningRead.{RunningRead}
 use Rattle.nv_cache.specs.declared.read.RunningRead.TheVariants as running_reads
 use Rattle.nv_cache.specs.RunningReads as read
+use Rattle.nv_cache.specs.ReadSteps.{answer_at, read_answer}
 use Rattle.nv_cache.specs.Searches.{search_call_of}
 use Rattle.nv_mirror.specs.Loads.{load_call_of}
+use Rattle.nv_mirror.specs.Pageless as pageless
+use Rattle.nv_mirror.specs.Pageless.{pageless_place_at}
+use Rattle.nv_mirror.specs.declared.pageless.PagelessControl.{PagelessControl}
+use Rattle.nv_mirror.specs.declared.pageless.PagelessControl.TheVariants as pageless_controls
 use Rattle.nv_ring.specs.declared.write.RunningWrite.{RunningWrite}
 use Rattle.nv_ring.specs.declared.write.RunningWrite.TheVariants as running_writes
 use Rattle.nv_ring.specs.RunningWrites as write
-use Rattle.nv_ring.specs.WriteSteps.{with_list}
+use Rattle.nv_ring.specs.WriteSteps.{with_list, write_place}
 use Rattle.nv_op.specs.Ops.{call_asked}
+use Rattle.nv_calls.specs.calls.CallAnswers.{done_at}
 use Rattle.nv_calls.specs.calls.EarlyRefusals.{early_refusal}
 use Rattle.nv_calls.specs.calls.EndedCalls.{IsOverBy}
 use Rattle.nv_calls.specs.declared.reading.ReadControl.{ReadControl}
@@ -49,98 +57,160 @@ use Rattle.nv_schedule.specs.declared.hand.Hand.{Hand}
 use Rattle.nv_schedule.specs.declared.hand.Hand.TheVariants.{Reading, Writing, Syncing}
 use Rattle.nv_schedule.specs.Hands.{IsTrying}
 use Rattle.nv_runner.specs.Calls.{call_on, fd_of}
-use Rattle.nv_schedule.specs.Told.{IsPresentTold}
+use Rattle.nv_schedule.specs.Listed.{placed_at_hand, reply_at_hand}
 use Rattle.nv_schedule.specs.Tries.{IsTryOver, WereTried, begins_anew}
 
--- the call of a file has its place, or the history is as its pass saw it at the start
-abbrev HasToldSo : FileCall → (begun now : PassState) → Type 0
-HasToldSo call begun now = IsUnplaced begun.view now.view ⊎ ((reply : Reply) × (place : ℕ) × IsPlacedAs begun.view now.view call reply place)
+-- the call of a file has its place, and this reply there; or the history is as its pass saw it at the start
+abbrev HasToldSo : FileCall → (reply : ℕ → Reply) → Option Done → (begun now : PassState) → Type 0
+HasToldSo call reply None begun now = IsUnplaced begun.view now.view
+HasToldSo call reply (Some done) begun now = IsPlacedAs begun.view now.view call (reply done.len) done.place
 
 -- Its pass was idle at the start, and has put nothing back; it is the same mount; and no device call has come since its last step.
-record UnderwayOf (call : FileCall) (begun now : PassState) : Type 0 where
+record UnderwayOf (call : FileCall) (reply : ℕ → Reply) (done : Option Done) (begun now : PassState) : Type 0 where
   pub idle : IsIdle begun
   pub left : (pass_of now.view).left ≡ []
   pub mount : now.view.opened ≡ begun.view.opened
   pub number : now.view.number ≡ begun.view.number
   pub still : IsShownStill now
-  pub told : HasToldSo call begun now
+  pub told : HasToldSo call reply done begun now
 
-told_so : (call : FileCall) (place : Option ℕ) (begun now : PassState) → Told call place begun now → HasToldSo call begun now
-told_so call None begun now told = inl told
-told_so call (Some place) begun now told = inr (told.0, place, told.2)
+of_in_call : {State : Type 0} (mirror : Mirror State) (call : FileCall) (opens : Option FileCall) (is : State) (refusal : Option Refusal) (place : Option ℕ) (begun now : PassState) (reply : ℕ → Reply) (done : Option Done)
+    → (Told call place begun now → HasToldSo call reply done begun now) → InCall mirror call opens is refusal place begun now → UnderwayOf call reply done begun now
+of_in_call mirror call opens is refusal place begun now reply answer told c = record { idle = c.idle; left = c.left; mount = c.mount; number = c.later.number; still = c.still; told = told c.told }
 
-of_in_call : {State : Type 0} (mirror : Mirror State) (call : FileCall) (opens : Option FileCall) (is : State) (refusal : Option Refusal) (place : Option ℕ) (begun now : PassState)
-    → InCall mirror call opens is refusal place begun now → UnderwayOf call begun now
-of_in_call mirror call opens is refusal place begun now c = record { idle = c.idle; left = c.left; mount = c.mount; number = c.later.number; still = c.still; told = told_so call place begun now c.told }
+of_part : {State : Type 0} (mirror : Mirror State) (asks call : FileCall) (opens : Option FileCall) (is : State) (refusal : Option Refusal) (place : Option ℕ) (begun now : PassState) (reply : ℕ → Reply) (done : Option Done) → asks ≡ call
+    → (Told call place begun now → HasToldSo call reply done begun now) → InCall mirror asks opens is refusal place begun now → UnderwayOf call reply done begun now
+of_part mirror asks call opens is refusal place begun now reply done same told c =
+    of_in_call mirror call opens is refusal place begun now reply done told (subst (λ one. InCall mirror one opens is refusal place begun now) same c)
 
-of_part : {State : Type 0} (mirror : Mirror State) (asks call : FileCall) (opens : Option FileCall) (is : State) (refusal : Option Refusal) (place : Option ℕ) (begun now : PassState) → asks ≡ call
-    → InCall mirror asks opens is refusal place begun now → UnderwayOf call begun now
-of_part mirror asks call opens is refusal place begun now same c = subst (λ one. UnderwayOf one begun now) same (of_in_call mirror asks opens is refusal place begun now c)
+-- A call in mid-call has its place already.
+pub record HasPlaceAlready (fds : List Fd) (call : TraceCall) (reply : Reply) (place : ℕ) (begun now : PassState) : Type 0 where
+  pub file : ℕ
+  pub file_is : file_of_fd fds (fd_of call) ≡ Some file
+  pub placed : IsPlacedAs begun.view now.view (call_on call file) reply place
+
+-- or the history is as its pass saw it before
+abbrev pub IsPresentTold : List Fd → TraceCall → (reply : ℕ → Reply) → Option Done → (begun now : PassState) → Type 0
+IsPresentTold fds call reply None begun now = IsUnplaced begun.view now.view
+IsPresentTold fds call reply (Some done) begun now = HasPlaceAlready fds call (reply done.len) done.place begun now
 
 -- so is that of a descriptor's file
-pub record Underway (fds : List Fd) (call : TraceCall) (begun now : PassState) : Type 0 where
+pub record Underway (fds : List Fd) (call : TraceCall) (reply : ℕ → Reply) (done : Option Done) (begun now : PassState) : Type 0 where
   pub idle : IsIdle begun
   pub left : (pass_of now.view).left ≡ []
   pub mount : now.view.opened ≡ begun.view.opened
   pub number : now.view.number ≡ begun.view.number
   pub still : IsShownStill now
-  pub told : IsPresentTold fds call begun now
+  pub told : IsPresentTold fds call reply done begun now
 
-of_file : (fds : List Fd) (call : TraceCall) (file : ℕ) (begun now : PassState) → file_of_fd fds (fd_of call) ≡ Some file → UnderwayOf (call_on call file) begun now → Underway fds call begun now
-of_file fds call file begun now file_is way = record { idle = way.idle; left = way.left; mount = way.mount; number = way.number; still = way.still; told = by way.told }
+of_file : (fds : List Fd) (call : TraceCall) (file : ℕ) (begun now : PassState) (reply : ℕ → Reply) (done : Option Done) → file_of_fd fds (fd_of call) ≡ Some file → UnderwayOf (call_on call file) reply done begun now
+    → Underway fds call reply done begun now
+of_file fds call file begun now reply done file_is way = record { idle = way.idle; left = way.left; mount = way.mount; number = way.number; still = way.still; told = by done way.told }
   where
-    by : HasToldSo (call_on call file) begun now → IsPresentTold fds call begun now
-    by (inl none) = inl none
-    by (inr some) = inr record { file = file; file_is = file_is; reply = some.0; place = some.1; placed = some.2 }
+    by : (answer : Option Done) → HasToldSo (call_on call file) reply answer begun now → IsPresentTold fds call reply answer begun now
+    by None none = none
+    by (Some answer) placed = record { file = file; file_is = file_is; placed = placed }
 
-of_begin : (fds : List Fd) (call : TraceCall) (begun now : PassState) → IsIdle begun → now ≡ begun → Underway fds call begun now
-of_begin fds call begun now idle same =
-    subst (Underway fds call begun) (sym same) record { idle = idle; left = idle.left; mount = refl; number = refl; still = idle_is_still begun idle; told = inl (record { seen = refl; mine = refl }) }
+of_begin : (fds : List Fd) (call : TraceCall) (begun now : PassState) (reply : ℕ → Reply) → IsIdle begun → now ≡ begun → Underway fds call reply None begun now
+of_begin fds call begun now reply idle same =
+    subst (Underway fds call reply None begun) (sym same) record { idle = idle; left = idle.left; mount = refl; number = refl; still = idle_is_still begun idle; told = record { seen = refl; mine = refl } }
 
--- ---- a call that is tried
+-- ---- a read that is tried
 
-of_read : (call : FileCall) (list room : List ℕ) (begun now : PassState) (r : RunningRead) → read.IsOpen r → read.StandsAt call r list room begun now → UnderwayOf call begun now
-of_read call list room begun now (running_reads.Pageless m) open_ s = of_part _ _ call _ _ _ _ begun now s.0 s.1.1
-of_read call list room begun now (running_reads.Front m) open_ s = of_part _ _ call _ _ _ _ begun now s.0 s.1.1
-of_read call list room begun now (running_reads.Search of_ m) open_ s = of_part _ _ call _ _ _ _ begun now (ap search_call_of s.2 ∙ s.0) s.3.called
-of_read call list room begun now (running_reads.Load of_ m) open_ s = of_part _ _ call _ _ _ _ begun now (ap load_call_of s.2 ∙ s.0) s.3.1.called
-of_read call list room begun now (running_reads.TakePlace m) open_ s = of_part _ _ call _ _ _ _ begun now s.0 s.2.1.called
-of_read call list room begun now (running_reads.Release m copied) open_ s = of_part _ _ call _ _ _ _ begun now s.0 s.1.1
-of_read call list room begun now (running_reads.Over result) open_ s = absurd open_
+pub first_bytes : (bytes rest : List ℕ) → take (length bytes) (bytes ++ rest) ≡ bytes
+first_bytes [] rest = refl
+first_bytes (x ∷ bytes) rest = ap (λ l. x ∷ l) (first_bytes bytes rest)
 
-of_write : (call : FileCall) (begun now : PassState) (w : RunningWrite) → write.IsOpen w → write.IsUnderWay call w begun now → UnderwayOf call begun now
-of_write call begun now (running_writes.Pageless m) open_ s = of_part _ _ call _ _ _ _ begun now s.0 s.1.1
-of_write call begun now (running_writes.Front m) open_ s = of_part _ _ call _ _ _ _ begun now s.0 s.2.1
-of_write call begun now (running_writes.Draw m) open_ s = of_part _ _ call _ _ _ _ begun now s.0 s.1.1.called
-of_write call begun now (running_writes.Append m) open_ s = of_part _ _ call _ _ _ _ begun now s.0 s.1.1.called
-of_write call begun now (running_writes.Release m) open_ s = of_part _ _ call _ _ _ _ begun now s.0 s.1.1
-of_write call begun now (running_writes.Over result) open_ s = absurd open_
+-- the first bytes of its list are its reply
+abbrev first_of : List ℕ → ℕ → Reply
+first_of list len = replies.Bytes (take len list)
 
-of_put_in : (file at : ℕ) (bytes : List ℕ) (lent : Bor (List ℕ)) (begun now : PassState) (w : RunningWrite) → write.IsOpen w → write.IsUnderWay (Write file at bytes) (with_list lent w) begun now → UnderwayOf (Write file at bytes) begun now
-of_put_in file at bytes lent begun now (running_writes.Pageless w) open_ way = of_write _ begun now (with_list lent (running_writes.Pageless w)) open_ way
-of_put_in file at bytes lent begun now (running_writes.Front w) open_ way = of_write _ begun now (with_list lent (running_writes.Front w)) open_ way
-of_put_in file at bytes lent begun now (running_writes.Draw w) open_ way = of_write _ begun now (with_list lent (running_writes.Draw w)) open_ way
-of_put_in file at bytes lent begun now (running_writes.Append w) open_ way = of_write _ begun now (with_list lent (running_writes.Append w)) open_ way
-of_put_in file at bytes lent begun now (running_writes.Release w) open_ way = of_write _ begun now (with_list lent (running_writes.Release w)) open_ way
-of_put_in file at bytes lent begun now (running_writes.Over result) open_ way = absurd open_
+read_placed : (call : FileCall) (list : List ℕ) (begun now : PassState) (done : Done) → call ≡ Read (file_of call) (at_of call) (length list) → IsReadPlaced (file_of call) (at_of call) list begun.view now.view done
+    → HasToldSo call (first_of list) (Some done) begun now
+read_placed call list begun now done asks is =
+    let bytes : take done.len list ≡ is.bytes = ap (λ l. take done.len l) is.list_is ∙ ap (λ n. take n (is.bytes ++ is.rest)) is.count ∙ first_bytes is.bytes is.rest in
+    subst (λ c. IsPlacedAs begun.view now.view c (first_of list done.len) done.place) (sym asks)
+    (subst (λ b. IsPlacedAs begun.view now.view (Read (file_of call) (at_of call) (length list)) (replies.Bytes b) done.place) (sym bytes) is.placed)
 
-pub of_trying : (fds : List Fd) (call : TraceCall) (hand : Hand) (begun now : PassState) → IsTrying fds call hand begun now → Underway fds call begun now
-of_trying fds call (Reading r) begun now t = subst (λ (c : TraceCall). Underway fds c begun now) (sym t.0) (at_read r.machine.control t.1.stands)
+-- one without a page has no place before it is over
+pageless_told : (call : FileCall) (reply : ℕ → Reply) (answer : Option ℕ → Option Done) (control : PagelessControl) (begun now : PassState) → answer None ≡ None → pageless.IsOpen control → Told call (pageless_place_at control) begun now
+    → HasToldSo call reply (answer (pageless_place_at control)) begun now
+pageless_told call reply answer control begun now none open_ told =
+    subst (λ place. Told call place begun now → HasToldSo call reply (answer place) begun now) (sym (unplaced control open_)) (λ told. subst (λ done. HasToldSo call reply done begun now) (sym none) told) told
   where
-    at_read : (control : ReadControl) → reads.StandsAt fds r.machine r.list.items begun now control → Underway fds (Pread r.machine.fd r.machine.at r.machine.len) begun now
-    at_read read_controls.Begin s = of_begin fds _ begun now s.0 s.1
-    at_read (read_controls.Running running) s = of_file fds (Pread r.machine.fd r.machine.at r.machine.len) s.1.file begun now s.1.file_is (of_read (Read s.1.file r.machine.at r.machine.len) _ _ begun now running s.0 s.1.way.stands)
-of_trying fds call (Writing m) begun now t = subst (λ (c : TraceCall). Underway fds c begun now) (sym t.1) (at_write m.control t.2.stands)
+    unplaced : (control : PagelessControl) → pageless.IsOpen control → pageless_place_at control ≡ None
+    unplaced pageless_controls.Begin open_ = refl
+    unplaced pageless_controls.LoadOrder open_ = refl
+    unplaced pageless_controls.TakePlace open_ = refl
+    unplaced (pageless_controls.Over result) open_ = absurd open_
+
+of_read : (call : FileCall) (list room : List ℕ) (begun now : PassState) (r : RunningRead) → read.IsOpen r → call ≡ Read (file_of call) (at_of call) (length list) → read.StandsAt call r list room begun now
+    → UnderwayOf call (first_of list) (read_answer r) begun now
+of_read call list room begun now (running_reads.Pageless m) open_ asks s =
+    of_part _ _ call _ _ _ _ begun now (first_of list) _ s.0 (pageless_told call (first_of list) (λ place. answer_at place 0) m.control begun now refl open_) s.1.1
+of_read call list room begun now (running_reads.Front m) open_ asks s = of_part _ _ call _ _ _ _ begun now (first_of list) None s.0 (λ told. told) s.1.1
+of_read call list room begun now (running_reads.Search of_ m) open_ asks s = of_part _ _ call _ _ _ _ begun now (first_of list) None (ap search_call_of s.2 ∙ s.0) (λ told. told) s.3.called
+of_read call list room begun now (running_reads.Load of_ m) open_ asks s = of_part _ _ call _ _ _ _ begun now (first_of list) None (ap load_call_of s.2 ∙ s.0) (λ told. told) s.3.1.called
+of_read call list room begun now (running_reads.TakePlace m) open_ asks s = of_part _ _ call _ _ _ _ begun now (first_of list) None s.0 (λ told. told) s.2.1.called
+of_read call list room begun now (running_reads.Release m copied) open_ asks s =
+    of_part _ _ call _ _ _ _ begun now (first_of list) (Some record { place = m.place; len = copied }) s.0 (λ told. read_placed call list begun now record { place = m.place; len = copied } asks s.2) s.1.1
+of_read call list room begun now (running_reads.Over result) open_ asks s = absurd open_
+
+-- ---- a write
+
+-- It counts all its bytes.
+write_told : (file at len : ℕ) (bytes : List ℕ) (place : Option ℕ) (begun now : PassState) → length bytes ≡ len → Told (Write file at bytes) place begun now → HasToldSo (Write file at bytes) replies.Count (done_at len place) begun now
+write_told file at len bytes None begun now room told = told
+write_told file at len bytes (Some place) begun now room told =
+    subst (λ reply. IsPlacedAs begun.view now.view (Write file at bytes) reply place) (told.1 ∙ ap replies.Count room) told.2
+
+module _ (file at len : ℕ) (bytes : List ℕ) (begun now : PassState) (room : length bytes ≡ len) where
+  abbrev write_call : FileCall
+  write_call = Write file at bytes
+
+  abbrev done_of : Option ℕ → Option Done
+  done_of place = done_at len place
+
+  of_write : (w : RunningWrite) → write.IsOpen w → write.IsUnderWay write_call w begun now → UnderwayOf write_call replies.Count (done_of (write_place w)) begun now
+  of_write (running_writes.Pageless m) open_ s = of_part _ _ write_call _ _ _ _ begun now replies.Count _ s.0 (write_told file at len bytes _ begun now room) s.1.1
+  of_write (running_writes.Front m) open_ s = of_part _ _ write_call _ _ _ _ begun now replies.Count None s.0 (write_told file at len bytes None begun now room) s.2.1
+  of_write (running_writes.Draw m) open_ s = of_part _ _ write_call _ _ _ _ begun now replies.Count None s.0 (write_told file at len bytes None begun now room) s.1.1.called
+  of_write (running_writes.Append m) open_ s = of_part _ _ write_call _ _ _ _ begun now replies.Count _ s.0 (write_told file at len bytes _ begun now room) s.1.1.called
+  of_write (running_writes.Release m) open_ s = of_part _ _ write_call _ _ _ _ begun now replies.Count (done_of (Some m.place)) s.0 (write_told file at len bytes (Some m.place) begun now room) s.1.1
+  of_write (running_writes.Over result) open_ s = absurd open_
+
+  of_put_in : (lent : Bor (List ℕ)) (w : RunningWrite) → write.IsOpen w → write.IsUnderWay write_call (with_list lent w) begun now → UnderwayOf write_call replies.Count (done_of (write_place w)) begun now
+  of_put_in lent (running_writes.Pageless w) open_ way = of_write (with_list lent (running_writes.Pageless w)) open_ way
+  of_put_in lent (running_writes.Front w) open_ way = of_write (with_list lent (running_writes.Front w)) open_ way
+  of_put_in lent (running_writes.Draw w) open_ way = of_write (with_list lent (running_writes.Draw w)) open_ way
+  of_put_in lent (running_writes.Append w) open_ way = of_write (with_list lent (running_writes.Append w)) open_ way
+  of_put_in lent (running_writes.Release w) open_ way = of_write (with_list lent (running_writes.Release w)) open_ way
+  of_put_in lent (running_writes.Over result) open_ way = absurd open_
+
+-- ---- any call that is tried
+
+pub of_trying : (fds : List Fd) (call : TraceCall) (hand : Hand) (begun now : PassState) → IsTrying fds call hand begun now → Underway fds call (reply_at_hand hand) (placed_at_hand hand) begun now
+of_trying fds call (Reading r) begun now t = subst (λ (c : TraceCall). Underway fds c (first_of r.list.items) (reads.placed_by r.machine) begun now) (sym t.0) (at_read r.machine.control t.1.stands)
   where
-    at_write : (control : WriteControl) → writes.StandsAt fds m t.0 begun now control → Underway fds (Pwrite m.fd m.at t.0) begun now
-    at_write write_controls.Begin s = of_begin fds _ begun now s.0 s.1
-    at_write (write_controls.Running running) s = of_file fds (Pwrite m.fd m.at t.0) s.2.file begun now s.2.file_is (of_put_in s.2.file m.at t.0 s.1 begun now running s.0 s.2.way)
-of_trying fds call (Syncing m) begun now t = subst (λ (c : TraceCall). Underway fds c begun now) (sym t.0) (at_sync m.control t.1)
+    at_read : (control : ReadControl) → reads.StandsAt fds r.machine r.list.items begun now control → Underway fds (Pread r.machine.fd r.machine.at r.machine.len) (first_of r.list.items) (reads.answer_at control) begun now
+    at_read read_controls.Begin s = of_begin fds _ begun now (first_of r.list.items) s.0 s.1
+    at_read (read_controls.Running running) s =
+        of_file fds (Pread r.machine.fd r.machine.at r.machine.len) s.1.file begun now (first_of r.list.items) (read_answer running) s.1.file_is
+        (of_read (Read s.1.file r.machine.at r.machine.len) r.list.items _ begun now running s.0 s.1.way.asks s.1.way.stands)
+of_trying fds call (Writing m) begun now t = subst (λ (c : TraceCall). Underway fds c replies.Count (writes.placed_by m) begun now) (sym t.1) (at_write m.control t.2.stands)
   where
-    at_sync : (control : SyncControl) → syncs.StandsAt fds m.fd begun now control → Underway fds (Fsync m.fd) begun now
-    at_sync sync_controls.Begin s = of_begin fds _ begun now s.0 s.1
+    at_write : (control : WriteControl) → writes.StandsAt fds m t.0 begun now control → Underway fds (Pwrite m.fd m.at t.0) replies.Count (done_at m.len (writes.place_at control)) begun now
+    at_write write_controls.Begin s = of_begin fds _ begun now replies.Count s.0 s.1
+    at_write (write_controls.Running running) s =
+        of_file fds (Pwrite m.fd m.at t.0) s.2.file begun now replies.Count (done_at m.len (write_place running)) s.2.file_is (of_put_in s.2.file m.at m.len t.0 begun now t.2.room s.1 running s.0 s.2.way)
+of_trying fds call (Syncing m) begun now t = subst (λ (c : TraceCall). Underway fds c (λ len. replies.Done) (syncs.placed_by m) begun now) (sym t.0) (at_sync m.control t.1)
+  where
+    at_sync : (control : SyncControl) → syncs.StandsAt fds m.fd begun now control → Underway fds (Fsync m.fd) (λ len. replies.Done) (done_at 0 (pageless_place_at (syncs.at_step control))) begun now
+    at_sync sync_controls.Begin s = of_begin fds _ begun now (λ len. replies.Done) s.0 s.1
     at_sync (sync_controls.Running running) s =
-        of_file fds (Fsync m.fd) s.1.file begun now s.1.file_is (of_part _ _ (Sync s.1.file) _ _ _ _ begun now (ap call_asked s.1.running.asked) s.1.running.way.1)
+        of_file fds (Fsync m.fd) s.1.file begun now (λ len. replies.Done) (done_at 0 (pageless_place_at running.control)) s.1.file_is
+        (of_part _ _ (Sync s.1.file) _ _ _ _ begun now (λ len. replies.Done) _ (ap call_asked s.1.running.asked)
+        (pageless_told (Sync s.1.file) (λ len. replies.Done) (done_at 0) running.control begun now refl s.0) s.1.running.way.1)
 
 -- ---- a try that is over
 

@@ -134,14 +134,14 @@ module _ (mount : MountState) (tokens : List Token) (calls : List TracedCall) (b
         let here = subst (λ m. deeds (own m zero_then.view.run) ≡ deeds (own m (run_of (slice_index_or then_ i d)))) (grows.numbers i d less) seen in
         sym (here ∙ ap deeds (grows.each i d less ∙ ap (λ l. l ++ own n ran.trail) (ran.fresh i d less).unborn) ∙ sym (own_deeds n ran.trail) ∙ ap (own n) (deeds_all ran.trail are_deeds))
 
-    told_at : IsToldOf mount.fds (number_of (slice_index_or ran.first i d)) (slice_index_or then_ i d).work (slice_index_or ran.first i d).pass (history_then zero_then.view)
+    told_at : IsToldOf mount.fds (number_of (slice_index_or ran.first i d)) (slice_index_or then_ i d) (slice_index_or ran.first i d).pass (history_then zero_then.view)
     told_at =
         let f = ran.fresh i d less in
         let on = goes_on.each i d less in
         let now = (slice_index_or then_ i d).pass in
         let board = (stand i d there).0 in
         let mine = history_mine zero_then.view placed history now past.past (board.same_mount ∙ sym same) past.stood past.one in
-        caller_told laws mount.fds (slice_index_or then_ i d).work (slice_index_or ran.first i d).pass now (history_then zero_then.view)
+        caller_told laws mount.fds (slice_index_or then_ i d) (slice_index_or ran.first i d).pass (history_then zero_then.view)
         (subst (λ (o : Opened). IsMount (mount_of o)) (sym f.board.same_mount) is_mount) f.idle f.uncalled (on.come (slice_index_or ran.first i d).pass f.come)
         (subst (λ n. calls_by n (history_then zero_then.view) ≡ (pass_of now.view).mine) on.number mine)
         (history_seen zero_then.view placed history now past.past (board.same_mount ∙ sym same) past.stood past.one)

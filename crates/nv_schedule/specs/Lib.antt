@@ -3,6 +3,7 @@ pub mod Following
 pub mod Fresh
 pub mod Growing
 pub mod Hands
+pub mod Listed
 pub mod Orders
 pub mod Ran
 pub mod Reaches

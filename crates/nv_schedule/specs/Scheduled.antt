@@ -1,5 +1,5 @@
 -- Scheduled: what a schedule over a mount came to, behind which the mount was closed.
-use Rattle.std.specs.Prelude.{◌≡◌, ◌⊎◌, ℕ, ◌<◌, Bool, true, List, [], ◌∷◌, ◌++◌, length, map, slice_index_or, Result, Ok, Err}
+use Rattle.std.specs.Prelude.{◌≡◌, ◌⊎◌, ℕ, ◌<◌, List, [], ◌∷◌, ◌++◌, length, map, slice_index_or, Result, Ok, Err}
 use Rattle.nv_plain.specs.Histories.{Answered}
 use Rattle.nv_core.specs.state.Words.{Word}
 use Rattle.nv_core.specs.steps.Events.{Event, own}
@@ -11,11 +11,12 @@ use Rattle.nv_mount.specs.Mounts.{MountState}
 use Rattle.nv_mount.specs.WholeRuns.{history_then}
 use Rattle.nv_mount.specs.declared.fds.Fd.{Fd}
 use Rattle.nv_plain.specs.declared.memory.NoMemory.{NoMemory as AnyNoMemory}
-use Rattle.nv_runner.specs.Lists.{MadeCall, calls_made, made_calls}
+use Rattle.nv_runner.specs.Lists.{calls_made, made_calls}
 use Rattle.nv_trace.specs.declared.token.Token.{Token}
 use Rattle.nv_trace.specs.declared.trace_call.TracedCall.{TracedCall}
 use Rattle.nv_schedule.specs.Fresh.{AreFresh, works_of}
 use Rattle.nv_schedule.specs.Growing.{number_of}
+use Rattle.nv_schedule.specs.Listed.{all_listed, all_unanswered}
 use Rattle.nv_schedule.specs.Orders.{deeds}
 use Rattle.nv_schedule.specs.Ran.{RanAs}
 use Rattle.nv_schedule.specs.Told.{IsToldOf}
@@ -66,33 +67,10 @@ pub record HasTakenIn (old new : PassState) (callers : List CallerState) : Type 
 
 -- ---- what became of calls
 
--- the calls of a caller that were answered, with their answers
-abbrev pub made_by : Work → List MadeCall
-made_by (Calls thread) = thread.made
-made_by (Batches cleaner) = []
-
--- its present one, where that has begun
-abbrev pub begun_of : (begun : Bool) → (left : List TracedCall) → List TracedCall
-begun_of true (call ∷ later) = call ∷ []
-begun_of begun left = []
-
-abbrev pub unanswered_by : Work → List TracedCall
-unanswered_by (Calls thread) = begun_of thread.begun thread.left
-unanswered_by (Batches cleaner) = []
-
--- those of some callers: each one's in their order, and the last one's first
-abbrev pub made_of_all : List CallerState → List MadeCall
-made_of_all [] = []
-made_of_all (caller ∷ later) = made_of_all later ++ made_by caller.work
-
-abbrev pub unanswered_of_all : List CallerState → List TracedCall
-unanswered_of_all [] = []
-unanswered_of_all (caller ∷ later) = unanswered_of_all later ++ unanswered_by caller.work
-
--- They are those that a schedule tells.
+-- They are all that some callers have begun.
 pub record AreCallsOf (callers : List CallerState) (calls : ScheduledCalls) : Type 0 where
-  pub answered : made_calls calls.answered.items ≡ made_of_all callers
-  pub unanswered : map (λ call. call.now) calls.unanswered.items ≡ unanswered_of_all callers
+  pub answered : made_calls calls.answered.items ≡ all_listed callers
+  pub unanswered : map (λ call. call.now) calls.unanswered.items ≡ all_unanswered callers
 
 -- ---- the run of the mount
 
@@ -113,7 +91,7 @@ HaveComeSince fds first then_ = (i : ℕ) (d : CallerState) → i < length first
 -- the history tells of all callers what became of their calls, each by the number of its pass
 abbrev pub AreAllTold : List Fd → (first then_ : List CallerState) → List Answered → Type 0
 AreAllTold fds first then_ history =
-    (i : ℕ) (d : CallerState) → i < length first → IsToldOf fds (number_of (slice_index_or first i d)) (slice_index_or then_ i d).work (slice_index_or first i d).pass history
+    (i : ℕ) (d : CallerState) → i < length first → IsToldOf fds (number_of (slice_index_or first i d)) (slice_index_or then_ i d) (slice_index_or first i d).pass history
 
 -- The callers of a trace's calls, which had begun nothing, followed a schedule: by the whole of it, or up to a token that used up its advances. Then the deeds of the whole run are theirs, in the order of the
 -- tokens, one after another with no event between. Their passes were taken in as they stood, and their calls are those of the history; pass 0 has made none.

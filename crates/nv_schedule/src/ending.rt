@@ -8,14 +8,17 @@ ghost use Rattle.nv_table.specs.state.Views.{made_of};
 ghost use Rattle.nv_runner.specs.EndedRuns.{IsClosedBy};
 ghost use Rattle.nv_runner.specs.Lists.{made_calls};
 ghost use Rattle.nv_schedule.specs.Following.{Stands};
-ghost use Rattle.nv_schedule.specs.Scheduled.{AreCallsOf, HasTakenIn, IsOfBoth, IsTaker, made_by, unanswered_by};
+ghost use Rattle.nv_schedule.specs.Listed.{listed_by, told_present, unanswered_by};
+ghost use Rattle.nv_schedule.specs.Scheduled.{AreCallsOf, HasTakenIn, IsOfBoth, IsTaker};
 
 use crate::caller::{Caller, Work};
+use crate::hand::Hand;
 use crate::scheduled::ScheduledCalls;
 use crate::thread::Thread;
 use nv_mount::Mount;
 use nv_plain::NoMemory;
 use nv_pmem::Lines;
+use nv_runner::{Answer, AnsweredCall};
 use nv_store::Backing;
 use nv_table::{Closed, Pass, join_pass};
 
@@ -35,10 +38,21 @@ fn take_in<L: Lines + Drop, B: Backing + Drop>(
     join_pass(mount.board(), zero, other);
 }
 
-// Puts down the calls that a caller has begun.
-fn note<'a>(work: Work<'a>, calls: &mut ScheduledCalls<'a>) -> Result<(), NoMemory>
-    ensures answered { OnOk result (made_calls calls.new.answered.items ≡ made_calls calls.old.answered.items ++ made_by work.entry) }
-    ensures unanswered { OnOk result (map (λ call. call.now) calls.new.unanswered.items ≡ map (λ call. call.now) calls.old.unanswered.items ++ unanswered_by work.entry) }
+// What a thread's present call is told as, of which it has this at hand.
+fn present(hand: Option<Hand>, drawn: Option<u64>) -> Option<Answer>
+    ensures { result ≡ told_present hand drawn }
+{
+    hand?.told(drawn)
+}
+
+// Puts down the calls that a caller has begun, whose pass tells this number.
+fn note<'a>(
+    work: Work<'a>,
+    drawn: Option<u64>,
+    calls: &mut ScheduledCalls<'a>,
+) -> Result<(), NoMemory>
+    ensures answered { OnOk result (made_calls calls.new.answered.items ≡ made_calls calls.old.answered.items ++ listed_by work.entry drawn) }
+    ensures unanswered { OnOk result (map (λ call. call.now) calls.new.unanswered.items ≡ map (λ call. call.now) calls.old.unanswered.items ++ unanswered_by work.entry drawn) }
 {
     let Work::Calls(thread) = work else {
         return Ok(());
@@ -50,13 +64,16 @@ fn note<'a>(work: Work<'a>, calls: &mut ScheduledCalls<'a>) -> Result<(), NoMemo
         hand,
         mut answered,
     } = thread;
-    drop(hand);
     calls.answered.append(&mut answered)?;
     drop(answered);
-    if begun {
-        if let Some(call) = left.first() {
-            calls.unanswered.push(call)?;
-        }
+    let Some(call) = left.first() else {
+        drop(hand);
+        return Ok(());
+    };
+    match present(hand, drawn) {
+        Some(answer) => calls.answered.push(AnsweredCall { call, answer })?,
+        None if begun => calls.unanswered.push(call)?,
+        None => (),
     }
     Ok(())
 }
@@ -88,7 +105,7 @@ pub(crate) fn take_in_all<'a, L: Lines + Drop, B: Backing + Drop>(
     let mut noted = Ok(());
     while let Some(caller) = callers.pop() {
         let Caller { pass, work } = caller;
-        noted = both(noted, note(work, calls));
+        noted = both(noted, note(work, pass.drawn(), calls));
         take_in(mount, zero, pass);
     }
     callers.destroy_empty();

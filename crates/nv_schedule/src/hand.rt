@@ -7,11 +7,15 @@ ghost use Rattle.nv_table.specs.state.Workspaces.{IsWorkspace};
 ghost use Rattle.nv_calls.specs.reads.ReadMachines.{IsReadUnderWay, IsSameRead, ReadGoes};
 ghost use Rattle.nv_mount.specs.declared.fds.Fd.{Fd};
 ghost use Rattle.nv_schedule.specs.Hands.{IsOneOrNoStep, IsTrying, TryGoes, kind_at_hand, list_at_hand};
+ghost use Rattle.nv_schedule.specs.Listed.{ends_by_fault, has_drawn, told_at_hand};
 
-use nv_calls::{Kind, Progress, ReadMachine, SyncMachine, WriteMachine};
+use nv_calls::{Kind, Progress, ReadMachine, Refusal, SyncMachine, WriteControl, WriteMachine};
+use nv_mirror::{FrontControl, FrontMachine};
 use nv_mount::Mount;
-use nv_plain::NoMemory;
+use nv_plain::{Bytes, NoMemory, Reply};
 use nv_pmem::Lines;
+use nv_ring::RunningWrite;
+use nv_runner::Answer;
 use nv_store::Backing;
 use nv_table::{Pass, Workspace};
 use nv_trace::TraceCall;
@@ -52,6 +56,30 @@ pub(crate) enum Hand {
     Syncing(SyncMachine),
 }
 
+// Whether a device fault has ended a write that gives back what it holds.
+fn ends_by_fault(front: FrontMachine<'_>) -> bool
+    ensures { result ≡ ends_by_fault front.entry }
+{
+    matches!(
+        front.control,
+        FrontControl::GiveBack {
+            refusal: Refusal::RegionFault | Refusal::StoreFault,
+            ..
+        } | FrontControl::Over(Refusal::RegionFault | Refusal::StoreFault)
+    )
+}
+
+// Whether a write has drawn its numbers.
+fn has_drawn(machine: &WriteMachine) -> bool
+    ensures { result ≡ has_drawn machine.now.control }
+{
+    match machine.control {
+        WriteControl::Running(RunningWrite::Front(front)) => ends_by_fault(front),
+        WriteControl::Running(RunningWrite::Append(_) | RunningWrite::Release(_)) => true,
+        _ => false,
+    }
+}
+
 impl Hand {
     /// The machine of a call, which has made no step yet.
     pub(crate) fn new(alloc: Global, call: &TraceCall) -> Result<Hand, NoMemory>
@@ -76,6 +104,37 @@ impl Hand {
         match self {
             Hand::Reading(read) => read.list,
             Hand::Writing(_) | Hand::Syncing(_) => Vec::new(alloc),
+        }
+    }
+
+    /// What the call is told as, where its pass tells this number: placed, once it has its place; else a write that has drawn its numbers is open, and any other call is told as nothing.
+    pub(crate) fn told(self, drawn: Option<u64>) -> Option<Answer>
+        ensures { result ≡ told_at_hand self drawn }
+    {
+        match self {
+            Hand::Reading(ReadAtHand { machine, mut list }) => {
+                let done = machine.placed()?;
+                list.truncate(done.len as usize);
+                Some(Answer::Placed {
+                    place: done.place,
+                    reply: Reply::Bytes(Bytes::from_vec(list)),
+                })
+            }
+            Hand::Writing(machine) => match (machine.placed(), drawn) {
+                (Some(done), _) => Some(Answer::Placed {
+                    place: done.place,
+                    reply: Reply::Count(done.len),
+                }),
+                (None, Some(number)) if has_drawn(&machine) => Some(Answer::Open { number }),
+                _ => None,
+            },
+            Hand::Syncing(machine) => {
+                let done = machine.placed()?;
+                Some(Answer::Placed {
+                    place: done.place,
+                    reply: Reply::Done,
+                })
+            }
         }
     }
 

@@ -77,7 +77,8 @@ fn tell<'a>(
 
 /// Makes the calls of a trace over a new mount one step at a time, as the tokens of a schedule say: each thread makes its own calls in their order, each by a pass of its own, and a cleaner beside them
 /// makes batches of at most so many entries. A token makes the advances of one of them, each behind all that was done before, and as few as come to its point, but no more than 100,000. A cut makes none.
-/// Behind the last token all passes are taken in as they stand, and the mount is closed. The calls that no token has come to aren't told.
+/// Behind the last token all passes are taken in as they stand, and the mount is closed. A call that stands in mid-call then is told as placed where it has its place, and as open where it is a write that
+/// has drawn its numbers. The calls that no token has come to aren't told.
 pub fn run_schedule<'a, L: Lines + Drop, B: Backing + Drop>(
     alloc: Global,
     mount: Mount<L, B>,

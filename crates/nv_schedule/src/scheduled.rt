@@ -7,9 +7,12 @@ use nv_trace::TracedCall;
 /// The calls that a schedule has begun.
 #[derive(Debug, Drop)]
 pub struct ScheduledCalls<'a> {
-    /// Those that were answered, with their answers: each thread's in their order, and the last thread's first.
+    /// Those that were answered, with their answers: each thread's in their order, and the last thread's first. Behind a thread's stands the
+    /// one that it has in mid-call, where that has its place already, or is a write that has drawn its numbers and has none: it is told as
+    /// placed, or as open.
     pub answered: Vec<AnsweredCall<'a>>,
-    /// Those that were not: they stand in mid-call, or between two tries. At most one of each thread, and the last thread's first.
+    /// All others: they stand in mid-call, or between two tries, with neither an answer nor a place nor numbers. At most one of each thread,
+    /// and the last thread's first.
     pub unanswered: Vec<&'a TracedCall>,
 }
 
