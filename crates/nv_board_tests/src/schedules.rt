@@ -1,12 +1,14 @@
 //! Schedules that are followed over a mount, one step after another on one thread.
-use crate::given::{region, stores};
+use crate::benches::{new_bench, opened};
 use crate::syncs::opened_over;
+use nv_bench::Bench;
+use nv_open::Opened;
 use nv_plain::Reply;
-use nv_pmem::Fuse;
 use nv_runner::{Answer, sort_out};
 use nv_schedule::{ScheduleError, ScheduledCalls, run_schedule};
 use nv_trace::{Form, MemSource, Trace, read_trace};
 use std::alloc::Global;
+use std::process::Abort;
 use std::test::Fail;
 
 /// A read begins while a write stands before its place, and is made again behind it.
@@ -27,28 +29,56 @@ const DRAWN: &str = "file a\nfd 0 a rw\n0 pwrite 0 0 11\nsteps 0:place\n";
 const PLACED: &str =
     "file a\nfd 0 a rw\n0 pwrite 0 64 22\n0 pwrite 0 0 11\n1 pread 0 64 1\nsteps 0:done 0:place 0 1:place 1\n";
 
+/// A write whose first device call is refused.
+const CUT: &str = "file a\nfd 0 a rw\n0 pwrite 0 0 11\nsteps cut:1 0:done\n";
+
+/// A write and a batch, which make fewer device calls than the cut lets through.
+const UNCUT: &str = "file a\nfd 0 a rw\n0 pwrite 0 0 11\nsteps cut:60 0:done w:done\n";
+
+/// Two cuts, of which no call comes to the first.
+const CUT_TWICE: &str = "file a\nfd 0 a rw\n0 pwrite 0 0 11\nsteps cut:60 0:load cut:1 0:done\n";
+
 // A trace with a schedule.
 fn traced(alloc: Global, text: &str) -> Result<Trace, Fail> {
     let mut source = MemSource::new(alloc, text.as_bytes(), &[])?;
     Ok(read_trace(alloc, Form::Sched, &mut source)?)
 }
 
-// What its schedule comes to over a mount of one new file.
-fn followed<'a>(
-    alloc: Global,
-    trace: &'a Trace,
-) -> Result<Result<ScheduledCalls<'a>, ScheduleError>, Fail> {
-    let stores = stores(alloc, &[], Fuse::new(alloc, &[])?)?;
-    let (mount, pass) = opened_over(alloc, region(alloc)?, stores)?;
-    let scheduled = run_schedule(alloc, mount, pass, trace.calls(), trace.tokens(), 4);
-    Ok(scheduled.outcome)
+// What a schedule comes to, and how often the devices have failed then.
+struct Followed<'a> {
+    outcome: Result<ScheduledCalls<'a>, ScheduleError>,
+    faults: u64,
+}
+
+// What a trace's schedule comes to over a mount of one new file, whose devices a bench lends.
+fn followed<'a>(rt: &impl Abort, alloc: Global, trace: &'a Trace) -> Result<Followed<'a>, Fail> {
+    let mut bench = new_bench(alloc)?;
+    let Opened { region, stores } = opened(rt, alloc, &mut bench, 16)?;
+    let (mount, pass) = opened_over(alloc, region, stores)?;
+    let scheduled = run_schedule(
+        alloc,
+        &mut bench,
+        mount,
+        pass,
+        trace.calls(),
+        trace.tokens(),
+        4,
+    );
+    if scheduled.closed.stores.len() != 1 {
+        panic!(rt; "one store was lent");
+    }
+    bench.give_back(scheduled.closed.parts, scheduled.closed.stores);
+    Ok(Followed {
+        outcome: scheduled.outcome,
+        faults: bench.faults(),
+    })
 }
 
 #[test]
 fn a_read_comes_behind_the_write_that_it_found(rt: HostRuntime) -> Result<(), Fail> {
     let alloc = rt.alloc();
     let trace = traced(alloc, BEHIND)?;
-    let calls = followed(alloc, &trace)??;
+    let calls = followed(&rt, alloc, &trace)?.outcome?;
     assert!(rt; calls.unanswered.is_empty());
     let sorted = sort_out(alloc, calls.answered)?;
     assert_eq!(rt; sorted.placed.len(), 2);
@@ -68,7 +98,7 @@ fn a_read_comes_behind_the_write_that_it_found(rt: HostRuntime) -> Result<(), Fa
 fn a_token_that_waits_for_ever_uses_its_turns_up(rt: HostRuntime) -> Result<(), Fail> {
     let alloc = rt.alloc();
     let trace = traced(alloc, WAITING)?;
-    let outcome = followed(alloc, &trace)?;
+    let outcome = followed(&rt, alloc, &trace)?.outcome;
     assert!(rt; matches!(outcome, Err(ScheduleError::TurnsUsed)));
     Ok(())
 }
@@ -77,7 +107,7 @@ fn a_token_that_waits_for_ever_uses_its_turns_up(rt: HostRuntime) -> Result<(), 
 fn calls_that_were_begun_are_told_and_no_others(rt: HostRuntime) -> Result<(), Fail> {
     let alloc = rt.alloc();
     let trace = traced(alloc, STOPPED)?;
-    let calls = followed(alloc, &trace)??;
+    let calls = followed(&rt, alloc, &trace)?.outcome?;
     assert_eq!(rt; calls.answered.len(), 1);
     assert_eq!(rt; calls.unanswered.len(), 1);
     for one in &calls.answered {
@@ -93,7 +123,7 @@ fn calls_that_were_begun_are_told_and_no_others(rt: HostRuntime) -> Result<(), F
 fn a_write_that_has_drawn_is_told_as_open(rt: HostRuntime) -> Result<(), Fail> {
     let alloc = rt.alloc();
     let trace = traced(alloc, DRAWN)?;
-    let calls = followed(alloc, &trace)??;
+    let calls = followed(&rt, alloc, &trace)?.outcome?;
     assert!(rt; calls.unanswered.is_empty());
     assert_eq!(rt; calls.answered.len(), 1);
     for one in &calls.answered {
@@ -106,7 +136,7 @@ fn a_write_that_has_drawn_is_told_as_open(rt: HostRuntime) -> Result<(), Fail> {
 fn calls_behind_their_places_are_told_as_placed(rt: HostRuntime) -> Result<(), Fail> {
     let alloc = rt.alloc();
     let trace = traced(alloc, PLACED)?;
-    let calls = followed(alloc, &trace)??;
+    let calls = followed(&rt, alloc, &trace)?.outcome?;
     assert!(rt; calls.unanswered.is_empty());
     let sorted = sort_out(alloc, calls.answered)?;
     assert_eq!(rt; sorted.placed.len(), 3);
@@ -118,5 +148,40 @@ fn calls_behind_their_places_are_told_as_placed(rt: HostRuntime) -> Result<(), F
             Reply::Done => assert!(rt; false),
         }
     }
+    Ok(())
+}
+
+// The answer of a trace's only call, and how often the devices have failed.
+fn answered(rt: &impl Abort, alloc: Global, text: &str) -> Result<(Option<Answer>, u64), Fail> {
+    let trace = traced(alloc, text)?;
+    let followed = followed(rt, alloc, &trace)?;
+    let mut calls = followed.outcome?;
+    assert!(rt; calls.unanswered.is_empty());
+    Ok((calls.answered.pop().map(|one| one.answer), followed.faults))
+}
+
+#[test]
+fn a_write_is_open_whose_first_device_call_is_cut(rt: HostRuntime) -> Result<(), Fail> {
+    for text in [CUT, CUT_TWICE] {
+        let (answer, faults) = answered(&rt, rt.alloc(), text)?;
+        assert!(rt; matches!(answer, Some(Answer::Open { number: 0 })));
+        assert_eq!(rt; faults, 1);
+    }
+    Ok(())
+}
+
+#[test]
+fn a_cut_that_no_device_call_comes_to_refuses_none(rt: HostRuntime) -> Result<(), Fail> {
+    let (answer, faults) = answered(&rt, rt.alloc(), UNCUT)?;
+    assert!(rt;
+        matches!(
+            answer,
+            Some(Answer::Placed {
+                place: 0,
+                reply: Reply::Count(1)
+            })
+        )
+    );
+    assert_eq!(rt; faults, 0);
     Ok(())
 }

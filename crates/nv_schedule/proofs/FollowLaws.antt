@@ -6,16 +6,19 @@ use Rattle.std.proofs.lemmas.Grind.{common_steps}
 use Rattle.std.proofs.lemmas.List.{append-nil, append_assoc}
 use Rattle.std.proofs.lemmas.List.Elements.{All-get_or, All-set}
 use Rattle.nv_plain.specs.declared.memory.NoMemory.{NoMemory}
+use Rattle.nv_bench.specs.Benches.{BenchState}
 use Rattle.nv_core.specs.steps.Events.{Event}
 use Rattle.nv_table.specs.state.States.{IsOf, PassState}
 use Rattle.nv_mount.specs.Mounts.{MountState}
 use Rattle.nv_mount.specs.declared.fds.Fd.{Fd}
 use Rattle.nv_op.specs.declared.kinds.Kind.{Kind}
+use Rattle.nv_schedule.specs.Cuts.{IsCutBy}
 use Rattle.nv_schedule.specs.Following.{FallShort, Follows, GoesTo, OneTurns, ScheduleTells, Stands, TokenTells, UsesUp, all_events, most_advances, next_at}
 use Rattle.nv_schedule.specs.Orders.{ComeBehind, InTurn}
 use Rattle.nv_schedule.specs.Reaches.{has_come, is_there, place_of}
 use Rattle.nv_schedule.specs.Turns.{CallerState, HasTurned, MovesBy, next_kind_of}
 use Rattle.nv_schedule.proofs.BehindLaws.{made_one}
+use Rattle.nv_schedule.proofs.CutLaws.{cut_on}
 use Rattle.nv_schedule.specs.declared.schedule_error.ScheduleError.{ScheduleError}
 use Rattle.nv_schedule.specs.declared.schedule_error.ScheduleError.TheVariants.{NoMemory as WantsMemory, TurnsUsed}
 use Rattle.nv_trace.specs.declared.token.Reach.{Reach}
@@ -151,11 +154,11 @@ uses_up_on fds before more after callers middle then_ trail events follows used 
 }
 
 -- one token
-pub token_tells : (fds : List Fd) (turn : Turn) (reach : Reach) (callers then_ : List CallerState) (view after : List Event) (done : Result (Unit {0}) ScheduleError)
-    → TokenTells fds reach (place_of turn) callers then_ view after done → ScheduleTells fds (Advance turn reach ∷ []) callers then_ view after done
-token_tells fds turn reach callers then_ view after (Ok done) tells =
-    (all_events tells.0, (tells.0, then_, [], tells.1, sym (append-nil (all_events tells.0)), (refl, refl)), tells.2)
-token_tells fds turn reach callers then_ view after (Err TurnsUsed) tells = (
+pub token_tells : (fds : List Fd) (turn : Turn) (reach : Reach) (callers then_ : List CallerState) (view after : List Event) (bench : BenchState) (done : Result (Unit {0}) ScheduleError)
+    → TokenTells fds reach (place_of turn) callers then_ view after done → ScheduleTells fds (Advance turn reach ∷ []) callers then_ view after bench bench done
+token_tells fds turn reach callers then_ view after bench (Ok done) tells =
+    (all_events tells.0, (tells.0, then_, [], tells.1, sym (append-nil (all_events tells.0)), (refl, refl)), tells.2, refl)
+token_tells fds turn reach callers then_ view after bench (Err TurnsUsed) tells = (
   all_events tells.1,
   record {
     before = [];
@@ -173,25 +176,40 @@ token_tells fds turn reach callers then_ view after (Err TurnsUsed) tells = (
     trail_is = refl;
   },
   tells.4,
+  refl,
 )
-token_tells fds turn reach callers then_ view after (Err WantsMemory) tells = tt
+token_tells fds turn reach callers then_ view after bench (Err WantsMemory) tells = record { reached = []; later = Advance turn reach ∷ []; tokens_are = refl; cut = refl }
 
 -- the tokens before, and then one more
-pub schedule_on : (fds : List Fd) (before : List Token) (token : Token) (later : List Token) (callers middle then_ : List CallerState) (view between after : List Event) (trail : List Event) (done : Result (Unit {0}) ScheduleError)
-    → Follows fds before callers trail middle → ComeBehind trail view between → ScheduleTells fds (token ∷ []) middle then_ between after done → is_err done ≡ true
-    → ScheduleTells fds (before ++ token ∷ later) callers then_ view after done
-schedule_on fds before token later callers middle then_ view between after trail (Ok done) follows behind tells failed = absurd (true≢false (sym failed))
-schedule_on fds before token later callers middle then_ view between after trail (Err TurnsUsed) follows behind tells failed =
-    (trail ++ tells.0, uses_up_on fds before (token ∷ []) later callers middle then_ trail tells.0 follows tells.1, behind_on trail tells.0 view between after behind tells.2)
-schedule_on fds before token later callers middle then_ view between after trail (Err WantsMemory) follows behind tells failed = tt
+module _ (fds : List Fd) (before : List Token) (token : Token) (callers middle then_ : List CallerState) (view between after trail : List Event) (bench cut armed : BenchState)
+    (follows : Follows fds before callers trail middle) (behind : ComeBehind trail view between) (was : IsCutBy before bench cut) where
+  pub schedule_on : (later : List Token) (done : Result (Unit {0}) ScheduleError) → ScheduleTells fds (token ∷ []) middle then_ between after cut armed done → is_err done ≡ true
+      → ScheduleTells fds (before ++ token ∷ later) callers then_ view after bench armed done
+  unfolding uses_up_on
+  schedule_on later (Ok done) tells failed = absurd (true≢false (sym failed))
+  schedule_on later (Err TurnsUsed) tells failed = (
+    trail ++ tells.0,
+    uses_up_on fds before (token ∷ []) later callers middle then_ trail tells.0 follows tells.1,
+    behind_on trail tells.0 view between after behind tells.2,
+    cut_on before tells.1.before bench cut armed was tells.3,
+  )
+  schedule_on later (Err WantsMemory) tells failed = record {
+    reached = before ++ tells.reached;
+    later = tells.later ++ later;
+    tokens_are = ap (λ l. before ++ (l ++ later)) tells.tokens_are ∙ ap (λ l. before ++ l) (append_assoc tells.reached tells.later later) ∙ sym (append_assoc before tells.reached (tells.later ++ later));
+    cut = cut_on before tells.reached bench cut armed was tells.cut;
+  }
 
--- what goes on, where it was done
-pub done_on : (fds : List Fd) (before : List Token) (token : Token) (callers middle then_ : List CallerState) (view between after : List Event) (trail : List Event) (done : Result (Unit {0}) ScheduleError)
-    → Follows fds before callers trail middle → ComeBehind trail view between → ScheduleTells fds (token ∷ []) middle then_ between after done → is_err done ≡ false
-    → (more : List Event) × Follows fds (before ++ token ∷ []) callers more then_ × ComeBehind more view after
-done_on fds before token callers middle then_ view between after trail (Ok done) follows behind tells fine =
-    (trail ++ tells.0, follows_on fds before (token ∷ []) callers middle then_ trail tells.0 follows tells.1, behind_on trail tells.0 view between after behind tells.2)
-done_on fds before token callers middle then_ view between after trail (Err error) follows behind tells fine = absurd (true≢false fine)
+  -- what goes on, where it was done
+  pub done_on : (done : Result (Unit {0}) ScheduleError) → ScheduleTells fds (token ∷ []) middle then_ between after cut armed done → is_err done ≡ false
+      → (more : List Event) × Follows fds (before ++ token ∷ []) callers more then_ × ComeBehind more view after × IsCutBy (before ++ token ∷ []) bench armed
+  done_on (Ok done) tells fine = (
+    trail ++ tells.0,
+    follows_on fds before (token ∷ []) callers middle then_ trail tells.0 follows tells.1,
+    behind_on trail tells.0 view between after behind tells.2,
+    cut_on before (token ∷ []) bench cut armed was tells.3,
+  )
+  done_on (Err error) tells fine = absurd (true≢false fine)
 
 -- ---- a list but for its first element
 

@@ -1,6 +1,7 @@
 mod AnswerLaws
 mod BatchLaws
 mod BehindLaws
+mod CutLaws
 mod DeedLaws
 mod EndLaws
 mod FollowLaws

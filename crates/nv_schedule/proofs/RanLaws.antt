@@ -2,6 +2,7 @@
 use Rattle.std.proofs.Common.{◌≡◌, ℕ, List, [], ◌++◌, length, map, refl, arith}
 use Rattle.std.proofs.lemmas.Grind.{common_steps}
 use Rattle.std.specs.Prelude.{All, Result, Ok, Err, drop, slice_index_or, take}
+use Rattle.nv_bench.specs.Benches.{BenchState}
 use Rattle.nv_core.specs.steps.Events.{Event}
 use Rattle.nv_mount.specs.Mounts.{MountState}
 use Rattle.nv_table.specs.state.States.{PassState}
@@ -19,14 +20,14 @@ use Rattle.nv_trace.specs.declared.token.Token.{Token}
 pub fresh_stand : (mount : MountState) (callers : List CallerState) → AreFresh mount callers → All (Stands mount) callers
 fresh_stand mount callers fresh i d less = let one = fresh i d less in (one.board, λ zero. (let n = one.number in omega (arith, n, zero)), (slice_index_or callers i d).pass, one.come)
 
-pub run_tells : (mount : MountState) (tokens : List Token) (calls : List TracedCall) (batch : ℕ) (first then_ : List CallerState) (zero : PassState) (view after : List Event) (done : Result (Unit {0}) ScheduleError)
-    → AreFresh mount first → map (λ (caller : CallerState). caller.work) first ≡ works_of calls batch → ScheduleTells mount.fds tokens first then_ view after done
-    → RunTells mount tokens calls batch then_ (imported_by zero after) done
-run_tells mount tokens calls batch first then_ zero view after (Ok done) fresh works tells =
-    record { first = first; fresh = fresh; works = works; trail = tells.0; ran = tells.1; view = after; stands = tells.2 [] tt; before = zero.view.told; told = refl }
-run_tells mount tokens calls batch first then_ zero view after (Err TurnsUsed) fresh works tells =
-    record { first = first; fresh = fresh; works = works; trail = tells.0; ran = tells.1; view = after; stands = tells.2 [] tt; before = zero.view.told; told = refl }
-run_tells mount tokens calls batch first then_ zero view after (Err NoMemory) fresh works tells = tt
+pub run_tells : (mount : MountState) (tokens : List Token) (calls : List TracedCall) (batch : ℕ) (first then_ : List CallerState) (zero : PassState) (view after : List Event) (bench armed : BenchState) (done : Result (Unit {0}) ScheduleError)
+    → AreFresh mount first → map (λ (caller : CallerState). caller.work) first ≡ works_of calls batch → ScheduleTells mount.fds tokens first then_ view after bench armed done
+    → RunTells mount tokens calls batch then_ (imported_by zero after) bench armed done
+run_tells mount tokens calls batch first then_ zero view after bench armed (Ok done) fresh works tells =
+    (record { first = first; fresh = fresh; works = works; trail = tells.0; ran = tells.1; view = after; stands = tells.2 [] tt; before = zero.view.told; told = refl }, tells.3)
+run_tells mount tokens calls batch first then_ zero view after bench armed (Err TurnsUsed) fresh works tells =
+    (record { first = first; fresh = fresh; works = works; trail = tells.0; ran = tells.1; view = after; stands = tells.2 [] tt; before = zero.view.told; told = refl }, tells.3)
+run_tells mount tokens calls batch first then_ zero view after bench armed (Err NoMemory) fresh works tells = tells
 
 -- pass 0 is as it was, but for what it was told
 pub zero_told : (mount : MountState) (zero : PassState) (view : List Event) → IsZero mount zero → IsZero mount (imported_by zero view)

@@ -14,6 +14,7 @@ use Rattle.nv_mount.specs.Mounts.{MountState}
 use Rattle.nv_mount.specs.OneHistories.{HasOneHistory}
 use Rattle.nv_mount.specs.WholeRuns.{IsWholeRun, history_then}
 use Rattle.nv_plain.specs.declared.memory.NoMemory.{NoMemory as AnyNoMemory}
+use Rattle.nv_bench.specs.Benches.{BenchState}
 use Rattle.nv_trace.specs.declared.token.Token.{Token}
 use Rattle.nv_trace.specs.declared.trace_call.TracedCall.{TracedCall}
 use Rattle.nv_schedule.specs.Following.{Stands}
@@ -30,6 +31,7 @@ use Rattle.nv_schedule.specs.declared.schedule_error.ScheduleError.{ScheduleErro
 use Rattle.nv_schedule.specs.declared.schedule_error.ScheduleError.TheVariants.{NoMemory, TurnsUsed}
 use Rattle.nv_schedule.proofs.AnswerLaws.{CallLaws}
 use Rattle.nv_schedule.proofs.BehindLaws.{in_turn_on, own_seen}
+use Rattle.nv_schedule.proofs.CutLaws.{all_reached}
 use Rattle.nv_schedule.proofs.EndLaws.{HasPast, past_at, past_of_some, stood_deedless, stood_number}
 use Rattle.nv_schedule.proofs.GrowLaws.{schedule_grows, used_up_grows}
 use Rattle.nv_schedule.proofs.OrderLaws.{deeds_all, own_deeds, trail_is}
@@ -192,19 +194,20 @@ module _ (mount : MountState) (tokens : List Token) (calls : List TracedCall) (b
 -- ---- what is answered
 
 module _ (mount : MountState) (tokens : List Token) (calls : List TracedCall) (batch : ℕ) (then_ : List CallerState) (before zero_then : PassState)
-    (parts stores : List Value) (placed tail : ℕ) (laws : CallLaws) (is_mount : IsMount (mount_of mount.board.opened)) (same : zero_then.view.opened ≡ mount.board.opened) (stand : All (Stands mount) then_)
+    (parts stores : List Value) (placed tail : ℕ) (bench armed : BenchState) (laws : CallLaws) (is_mount : IsMount (mount_of mount.board.opened)) (same : zero_then.view.opened ≡ mount.board.opened) (stand : All (Stands mount) then_)
     (undone : deeds (own 0 before.view.run) ≡ []) (uncalled : (pass_of before.view).mine ≡ [])
     (taken : HasTakenIn before zero_then then_) (number : zero_then.view.number ≡ 0) (whole : IsWholeRun zero_then.view parts stores placed tail) (history : HasOneHistory zero_then.view placed) where
   pub has_told : (ran : Result (Unit {0}) ScheduleError) (noted : Result (Unit {0}) AnyNoMemory) (begun : ScheduledCalls) (outcome : Result ScheduledCalls ScheduleError) → IsToldBy ran noted begun outcome
-      → RunTells mount tokens calls batch then_ before ran → OnOk noted (AreCallsOf then_ begun) → HasTold mount tokens calls batch zero_then outcome
+      → RunTells mount tokens calls batch then_ before bench armed ran → OnOk noted (AreCallsOf then_ begun) → HasTold mount tokens calls batch zero_then bench armed outcome
+  unfolding has_followed
   has_told (Ok done) (Ok all) begun outcome is tells are =
-      subst (HasTold mount tokens calls batch zero_then) (sym is)
-      (then_, has_followed mount tokens calls batch (Ok done) (λ same. cc) then_ before zero_then parts stores placed tail laws is_mount same stand tells undone uncalled taken number whole history, are)
-  has_told (Ok done) (Err wanting) begun outcome is tells are = subst (HasTold mount tokens calls batch zero_then) (sym is) tt
+      subst (HasTold mount tokens calls batch zero_then bench armed) (sym is)
+      (then_, has_followed mount tokens calls batch (Ok done) (λ same. cc) then_ before zero_then parts stores placed tail laws is_mount same stand tells.0 undone uncalled taken number whole history, are, tells.1)
+  has_told (Ok done) (Err wanting) begun outcome is tells are = subst (HasTold mount tokens calls batch zero_then bench armed) (sym is) (all_reached tokens bench armed tells.1)
   has_told (Err TurnsUsed) noted begun outcome is tells are =
-      subst (HasTold mount tokens calls batch zero_then) (sym is)
-      (then_, has_followed mount tokens calls batch (Err TurnsUsed) (λ same. differ same) then_ before zero_then parts stores placed tail laws is_mount same stand tells undone uncalled taken number whole history)
+      subst (HasTold mount tokens calls batch zero_then bench armed) (sym is)
+      (then_, has_followed mount tokens calls batch (Err TurnsUsed) (λ same. differ same) then_ before zero_then parts stores placed tail laws is_mount same stand tells.0 undone uncalled taken number whole history, tells.1)
     where
       differ : ◌≡◌ {A = Result (Unit {0}) ScheduleError} (Err TurnsUsed) (Err NoMemory) → ⊥
       differ same = cc
-  has_told (Err NoMemory) noted begun outcome is tells are = subst (HasTold mount tokens calls batch zero_then) (sym is) tt
+  has_told (Err NoMemory) noted begun outcome is tells are = subst (HasTold mount tokens calls batch zero_then bench armed) (sym is) tells

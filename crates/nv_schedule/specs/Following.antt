@@ -1,10 +1,12 @@
 -- Following: the advances of callers, token after token.
 use Rattle.std.specs.Prelude.{◌≡◌, ◌≢◌, ℕ, ◌<◌, ◌≤◌, zero, suc, Bool, true, false, List, [], ◌∷◌, ◌++◌, length, slice_index_or, slice_set, Option, None, Result, Ok, Err}
+use Rattle.nv_bench.specs.Benches.{BenchState}
 use Rattle.nv_core.specs.steps.Events.{Event}
 use Rattle.nv_table.specs.state.States.{IsOf, PassState}
 use Rattle.nv_mount.specs.Mounts.{MountState}
 use Rattle.nv_mount.specs.declared.fds.Fd.{Fd}
 use Rattle.nv_op.specs.declared.kinds.Kind.{Kind}
+use Rattle.nv_schedule.specs.Cuts.{IsCutBy, IsCutBySome}
 use Rattle.nv_schedule.specs.Orders.{ComeBehind}
 use Rattle.nv_schedule.specs.Reaches.{has_come, is_there, place_of}
 use Rattle.nv_schedule.specs.Turns.{CallerState, HasCome, HasTurned, next_kind_of}
@@ -98,8 +100,10 @@ TokenTells fds reach place callers then_ view after (Err TurnsUsed) =
     (is_there reach (next_at callers place) ≡ false) × (advances : List (List Event)) × FallShort fds reach place callers advances then_ × (length advances ≡ most_advances) × ComeBehind (all_events advances) view after
 TokenTells fds reach place callers then_ view after (Err NoMemory) = Unit {0}
 
--- what became of a schedule, between two views of the run
-abbrev pub ScheduleTells : List Fd → List Token → (callers then_ : List CallerState) → (view after : List Event) → Result (Unit {0}) ScheduleError → Type 0
-ScheduleTells fds tokens callers then_ view after (Ok done) = (trail : List Event) × Follows fds tokens callers trail then_ × ComeBehind trail view after
-ScheduleTells fds tokens callers then_ view after (Err TurnsUsed) = (trail : List Event) × UsesUp fds tokens callers trail then_ × ComeBehind trail view after
-ScheduleTells fds tokens callers then_ view after (Err NoMemory) = Unit {0}
+-- what became of a schedule, between two views of the run; and the bench was armed at each cut that was reached
+abbrev pub ScheduleTells : List Fd → List Token → (callers then_ : List CallerState) → (view after : List Event) → (bench armed : BenchState) → Result (Unit {0}) ScheduleError → Type 0
+ScheduleTells fds tokens callers then_ view after bench armed (Ok done) =
+    (trail : List Event) × Follows fds tokens callers trail then_ × ComeBehind trail view after × IsCutBy tokens bench armed
+ScheduleTells fds tokens callers then_ view after bench armed (Err TurnsUsed) =
+    (trail : List Event) × (used : UsesUp fds tokens callers trail then_) × ComeBehind trail view after × IsCutBy used.before bench armed
+ScheduleTells fds tokens callers then_ view after bench armed (Err NoMemory) = IsCutBySome tokens bench armed

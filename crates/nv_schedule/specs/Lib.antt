@@ -1,4 +1,5 @@
 pub mod Callers
+pub mod Cuts
 pub mod Following
 pub mod Fresh
 pub mod Growing

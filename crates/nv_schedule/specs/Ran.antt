@@ -1,9 +1,11 @@
 -- Ran: the callers of a schedule, behind its tokens.
 use Rattle.std.specs.Prelude.{◌≡◌, ℕ, List, ◌∷◌, map, Result, Ok, Err}
+use Rattle.nv_bench.specs.Benches.{BenchState}
 use Rattle.nv_core.specs.steps.Events.{Event}
 use Rattle.nv_mount.specs.Mounts.{MountState}
 use Rattle.nv_table.specs.state.States.{PassState}
 use Rattle.nv_trace.specs.declared.trace_call.TracedCall.{TracedCall}
+use Rattle.nv_schedule.specs.Cuts.{IsCutBy, IsCutBySome}
 use Rattle.nv_schedule.specs.Following.{Follows, UsesUp}
 use Rattle.nv_schedule.specs.Fresh.{AreFresh, works_of}
 use Rattle.nv_schedule.specs.Orders.{InTurn}
@@ -30,8 +32,8 @@ pub record HasRunOn (mount : MountState) (tokens : List Token) (calls : List Tra
   pub before : List (List Event)
   pub told : zero.view.told ≡ view ∷ before
 
--- where memory is wanting nothing is told
-abbrev pub RunTells : MountState → List Token → List TracedCall → (batch : ℕ) → (then_ : List CallerState) → (zero : PassState) → Result (Unit {0}) ScheduleError → Type 0
-RunTells mount tokens calls batch then_ zero (Ok done) = HasRunOn mount tokens calls batch then_ zero (Ok done)
-RunTells mount tokens calls batch then_ zero (Err TurnsUsed) = HasRunOn mount tokens calls batch then_ zero (Err TurnsUsed)
-RunTells mount tokens calls batch then_ zero (Err NoMemory) = Unit {0}
+-- and the bench was armed at each cut that was reached; where memory is wanting nothing else is told
+abbrev pub RunTells : MountState → List Token → List TracedCall → (batch : ℕ) → (then_ : List CallerState) → (zero : PassState) → (bench armed : BenchState) → Result (Unit {0}) ScheduleError → Type 0
+RunTells mount tokens calls batch then_ zero bench armed (Ok done) = HasRunOn mount tokens calls batch then_ zero (Ok done) × IsCutBy tokens bench armed
+RunTells mount tokens calls batch then_ zero bench armed (Err TurnsUsed) = (run : HasRunOn mount tokens calls batch then_ zero (Err TurnsUsed)) × IsCutBy run.ran.before bench armed
+RunTells mount tokens calls batch then_ zero bench armed (Err NoMemory) = IsCutBySome tokens bench armed

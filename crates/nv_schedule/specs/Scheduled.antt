@@ -1,6 +1,7 @@
 -- Scheduled: what a schedule over a mount came to, behind which the mount was closed.
 use Rattle.std.specs.Prelude.{◌≡◌, ◌⊎◌, ℕ, ◌<◌, List, [], ◌∷◌, ◌++◌, length, map, slice_index_or, Result, Ok, Err}
 use Rattle.nv_plain.specs.Histories.{Answered}
+use Rattle.nv_bench.specs.Benches.{BenchState}
 use Rattle.nv_core.specs.state.Words.{Word}
 use Rattle.nv_core.specs.steps.Events.{Event, own}
 use Rattle.nv_table.specs.passes.PassesMade.{PutsBack}
@@ -14,6 +15,7 @@ use Rattle.nv_plain.specs.declared.memory.NoMemory.{NoMemory as AnyNoMemory}
 use Rattle.nv_runner.specs.Lists.{calls_made, made_calls}
 use Rattle.nv_trace.specs.declared.token.Token.{Token}
 use Rattle.nv_trace.specs.declared.trace_call.TracedCall.{TracedCall}
+use Rattle.nv_schedule.specs.Cuts.{IsCutBy, IsCutBySome}
 use Rattle.nv_schedule.specs.Fresh.{AreFresh, works_of}
 use Rattle.nv_schedule.specs.Growing.{number_of}
 use Rattle.nv_schedule.specs.Listed.{all_listed, all_unanswered}
@@ -108,17 +110,20 @@ pub record HasFollowed (mount : MountState) (tokens : List Token) (calls : List 
   pub told : AreAllTold mount.fds first then_ (history_then zero.view)
   pub none : (pass_of zero.view).mine ≡ []
 
--- What is answered: the calls that were begun; or that a token has used up its advances. Where memory is wanting nothing is told.
-abbrev pub HasTold : MountState → List Token → (calls : List TracedCall) → (batch : ℕ) → (zero : PassState) → Result ScheduledCalls ScheduleError → Type 0
-HasTold mount tokens calls batch zero (Ok told) = (then_ : List CallerState) × HasFollowed mount tokens calls batch (Ok tt) then_ zero × AreCallsOf then_ told
-HasTold mount tokens calls batch zero (Err TurnsUsed) = (then_ : List CallerState) × HasFollowed mount tokens calls batch (Err TurnsUsed) then_ zero
-HasTold mount tokens calls batch zero (Err NoMemory) = Unit {0}
+-- What is answered: the calls that were begun; or that a token has used up its advances. The bench was armed at each cut that was reached: all of them, or those before that token. Where memory is wanting
+-- some first tokens were reached, and nothing else is told.
+abbrev pub HasTold : MountState → List Token → (calls : List TracedCall) → (batch : ℕ) → (zero : PassState) → (bench armed : BenchState) → Result ScheduledCalls ScheduleError → Type 0
+HasTold mount tokens calls batch zero bench armed (Ok told) =
+    (then_ : List CallerState) × HasFollowed mount tokens calls batch (Ok tt) then_ zero × AreCallsOf then_ told × IsCutBy tokens bench armed
+HasTold mount tokens calls batch zero bench armed (Err TurnsUsed) =
+    (then_ : List CallerState) × (followed : HasFollowed mount tokens calls batch (Err TurnsUsed) then_ zero) × IsCutBy followed.ran.before bench armed
+HasTold mount tokens calls batch zero bench armed (Err NoMemory) = IsCutBySome tokens bench armed
 
 -- A schedule over a new mount has come to this, whatever it is answered: the mount is the same, with the same parts.
-pub record HasScheduled (mount : MountState) (tokens : List Token) (calls : List TracedCall) (batch : ℕ) (start zero : PassState) (outcome : Result ScheduledCalls ScheduleError) : Type 0 where
+pub record HasScheduled (mount : MountState) (tokens : List Token) (calls : List TracedCall) (batch : ℕ) (start zero : PassState) (bench armed : BenchState) (outcome : Result ScheduledCalls ScheduleError) : Type 0 where
   pub opened : zero.view.opened ≡ start.view.opened
   pub spare : zero.spare ≡ start.spare
-  pub told : HasTold mount tokens calls batch zero outcome
+  pub told : HasTold mount tokens calls batch zero bench armed outcome
 
 -- ---- what is answered
 

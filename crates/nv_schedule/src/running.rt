@@ -1,5 +1,5 @@
 //! A schedule over a mount.
-ghost use Rattle.std.specs.Prelude.{◌≡◌, ◌+◌, [], All, length, map, sum_by, Result};
+ghost use Rattle.std.specs.Prelude.{◌≡◌, ◌+◌, ◌^◌, ◌<◌, [], All, length, map, sum_by, true, Result};
 ghost use Rattle.nv_table.specs.ends.Closing.{IsClosed};
 ghost use Rattle.nv_table.specs.state.SlotValues.{part_value, slot_value, store_value};
 ghost use Rattle.nv_table.specs.state.States.{IsOf, PassState};
@@ -9,6 +9,7 @@ ghost use Rattle.nv_runner.specs.Workers.{IsZero};
 ghost use Rattle.nv_schedule.specs.Following.{Stands};
 ghost use Rattle.nv_schedule.specs.Ran.{RunTells};
 ghost use Rattle.nv_schedule.specs.Scheduled.{HasScheduled, IsAside, IsToldBy};
+ghost use Rattle.nv_trace.specs.Shape.{IsTokenWithin};
 
 use crate::ScheduleError;
 use crate::caller::Caller;
@@ -16,6 +17,7 @@ use crate::ending::{close_bare, take_in_all};
 use crate::hiring::hire;
 use crate::scheduled::{Scheduled, ScheduledCalls};
 use crate::tokens::follow;
+use nv_bench::Bench;
 use nv_calls::{ended_calls_heed_stop, faults_open_writes, refused_writes_leave_words};
 use nv_mount::Mount;
 use nv_plain::NoMemory;
@@ -27,8 +29,9 @@ use nv_trace::{Token, TracedCall};
 use std::alloc::Global;
 
 /// Makes the callers of a trace's calls, by passes that pass 0 makes, and lets them follow a schedule. Pass 0 is told the run up to their last step then.
-pub(crate) fn run_on<'a, L: Lines + Drop, B: Backing + Drop>(
+pub(crate) fn run_on<'a, D: Bench, L: Lines + Drop, B: Backing + Drop>(
     alloc: Global,
+    bench: &mut D,
     mount: &Mount<L, B>,
     zero: &mut Pass<L, B>,
     calls: &'a [TracedCall],
@@ -39,12 +42,15 @@ pub(crate) fn run_on<'a, L: Lines + Drop, B: Backing + Drop>(
     requires zero { IsZero mount.now zero.old }
     requires none { callers.old.items ≡ [] }
     requires first { made_of zero.old.view ≡ 0 }
+    requires images { D.can_lose_power ≡ true }
+    requires within { All IsTokenWithin tokens.now }
+    requires arms { (D.state bench.old).arms + length tokens.now < 2 ^ 64 }
     ensures zero { IsZero mount.now zero.new }
     ensures aside { IsAside zero.old zero.new }
     ensures ended { zero.new.view.ended ≡ zero.old.view.ended }
     ensures count { made_of zero.new.view ≡ length callers.new.items }
     ensures stand { All (Stands mount.now) callers.new.items }
-    ensures tells { RunTells mount.now tokens.now calls.now batch callers.new.items zero.new result }
+    ensures tells { RunTells mount.now tokens.now calls.now batch callers.new.items zero.new (D.state bench.old) (D.state bench.new) result }
 {
     let mut workspace = Workspace::new(alloc, mount.board().layout())?;
     hire(alloc, mount, zero, calls, batch, callers)?;
@@ -52,6 +58,7 @@ pub(crate) fn run_on<'a, L: Lines + Drop, B: Backing + Drop>(
     let view = export_view(board, zero);
     let (after, done) = follow(
         alloc,
+        bench,
         mount,
         callers.as_mut_slice(),
         &mut workspace,
@@ -76,11 +83,13 @@ fn tell<'a>(
 }
 
 /// Makes the calls of a trace over a new mount one step at a time, as the tokens of a schedule say: each thread makes its own calls in their order, each by a pass of its own, and a cleaner beside them
-/// makes batches of at most so many entries. A token makes the advances of one of them, each behind all that was done before, and as few as come to its point, but no more than 100,000. A cut makes none.
+/// makes batches of at most so many entries. A token makes the advances of one of them, each behind all that was done before, and as few as come to its point, but no more than 100,000. A cut makes none: it
+/// arms the bench, over whose devices in use the mount is, so that the device call of its number from then on, and each later one, is refused.
 /// Behind the last token all passes are taken in as they stand, and the mount is closed. A call that stands in mid-call then is told as placed where it has its place, and as open where it is a write that
 /// has drawn its numbers. The calls that no token has come to aren't told.
-pub fn run_schedule<'a, L: Lines + Drop, B: Backing + Drop>(
+pub fn run_schedule<'a, D: Bench, L: Lines + Drop, B: Backing + Drop>(
     alloc: Global,
+    bench: &mut D,
     mount: Mount<L, B>,
     pass: Pass<L, B>,
     calls: &'a [TracedCall],
@@ -90,8 +99,11 @@ pub fn run_schedule<'a, L: Lines + Drop, B: Backing + Drop>(
     requires board { IsOf mount.board pass }
     requires new { pass.view ≡ first_view mount.board.opened }
     requires bare { pass.now ≡ [] }
+    requires images { D.can_lose_power ≡ true }
+    requires within { All IsTokenWithin tokens.now }
+    requires arms { (D.state bench.old).arms + length tokens.now < 2 ^ 64 }
     ensures ran { (zero : PassState)
-        × HasScheduled mount tokens.now calls.now batch pass zero result.outcome
+        × HasScheduled mount tokens.now calls.now batch pass zero (D.state bench.old) (D.state bench.new) result.outcome
         × IsClosed L.device B.device
         (slot_value (part_value L.device L.history L.fault_count L.room) (store_value B.device B.history B.fault_count))
         mount.board zero result.closed.parts.items result.closed.stores.items result.closed.placed result.closed.tail
@@ -112,7 +124,16 @@ pub fn run_schedule<'a, L: Lines + Drop, B: Backing + Drop>(
         answered: Vec::new(alloc),
         unanswered: Vec::new(alloc),
     };
-    let ran = run_on(alloc, &mount, &mut pass, calls, batch, tokens, &mut callers);
+    let ran = run_on(
+        alloc,
+        bench,
+        &mount,
+        &mut pass,
+        calls,
+        batch,
+        tokens,
+        &mut callers,
+    );
     let taken = take_in_all(&mount, &mut pass, callers, &mut begun);
     let closed = close_bare(mount, pass);
     Scheduled {

@@ -1,14 +1,16 @@
 //! The advances of a token.
-ghost use Rattle.std.specs.Prelude.{◌≡◌, ◌≢◌, ◌<◌, ◌∷◌, length, drop, List, [], All, None, IfOk, OnErr, OnOk, Option};
+ghost use Rattle.std.specs.Prelude.{◌≡◌, ◌≢◌, ◌+◌, ◌^◌, ◌<◌, ◌∷◌, length, true, drop, List, [], All, None, IfOk, OnErr, OnOk, Option};
 ghost use Rattle.nv_core.specs.steps.Events.{Event};
 ghost use Rattle.nv_op.specs.declared.kinds.Kind.{Kind as AnyKind};
 ghost use Rattle.nv_table.specs.state.Workspaces.{IsWorkspace};
 ghost use Rattle.nv_schedule.specs.Following.{OneTurns, ScheduleTells, Stands, TokenTells, next_at};
 ghost use Rattle.nv_schedule.specs.Orders.{ComeBehind};
+ghost use Rattle.nv_trace.specs.Shape.{IsTokenWithin};
 
 use crate::ScheduleError;
 use crate::caller::Caller;
 use crate::reaches::{at_point, come_to_point, place};
+use nv_bench::Bench;
 use nv_calls::Kind;
 use nv_mount::Mount;
 use nv_plain::NoMemory;
@@ -106,9 +108,10 @@ fn first_of(tokens: &[Token]) -> Token
     tokens[0]
 }
 
-/// Makes the advances of a schedule's tokens, one token after another, each behind all before it, up to one that has used up its advances, or to want of memory.
-pub(crate) fn follow<'a, L: Lines + Drop, B: Backing + Drop>(
+/// Makes the advances of a schedule's tokens, one token after another, each behind all before it, up to one that has used up its advances, or to want of memory; and arms the bench at each cut.
+pub(crate) fn follow<'a, D: Bench, L: Lines + Drop, B: Backing + Drop>(
     alloc: Global,
+    bench: &mut D,
     mount: &Mount<L, B>,
     callers: &mut [Caller<'a, L, B>],
     workspace: &mut Workspace<L, B>,
@@ -119,8 +122,11 @@ pub(crate) fn follow<'a, L: Lines + Drop, B: Backing + Drop>(
     requires workspace { IsWorkspace mount.now.board.opened.sizes workspace.old }
     requires bare { workspace.old.parts.items ≡ [] }
     requires view { view.table ≡ mount.now.board.table }
+    requires images { D.can_lose_power ≡ true }
+    requires within { All IsTokenWithin tokens.now }
+    requires arms { (D.state bench.old).arms + length tokens.now < 2 ^ 64 }
     ensures stand { All (Stands mount.now) callers.new }
-    ensures tells { ScheduleTells mount.now.fds tokens.now callers.old callers.new view.run result.0.run result.1 }
+    ensures tells { ScheduleTells mount.now.fds tokens.now callers.old callers.new view.run result.0.run (D.state bench.old) (D.state bench.new) result.1 }
     ensures workspace { IsWorkspace mount.now.board.opened.sizes workspace.new }
     ensures bare { workspace.new.parts.items ≡ [] }
     ensures view { result.0.table ≡ mount.now.board.table }
@@ -129,7 +135,7 @@ pub(crate) fn follow<'a, L: Lines + Drop, B: Backing + Drop>(
     let mut rest = tokens;
     while !rest.is_empty() {
         let token = first_of(rest);
-        let (after, done) = follow_one(alloc, mount, callers, workspace, view, token);
+        let (after, done) = follow_one(alloc, bench, mount, callers, workspace, view, token);
         view = after;
         if done.is_err() {
             return (view, done);
@@ -139,9 +145,10 @@ pub(crate) fn follow<'a, L: Lines + Drop, B: Backing + Drop>(
     (view, Ok(()))
 }
 
-// Makes the advances of one token. A cut makes none.
-fn follow_one<'a, L: Lines + Drop, B: Backing + Drop>(
+// Makes the advances of one token. A cut makes none, and arms the bench.
+fn follow_one<'a, D: Bench, L: Lines + Drop, B: Backing + Drop>(
     alloc: Global,
+    bench: &mut D,
     mount: &Mount<L, B>,
     callers: &mut [Caller<'a, L, B>],
     workspace: &mut Workspace<L, B>,
@@ -152,8 +159,11 @@ fn follow_one<'a, L: Lines + Drop, B: Backing + Drop>(
     requires workspace { IsWorkspace mount.now.board.opened.sizes workspace.old }
     requires bare { workspace.old.parts.items ≡ [] }
     requires view { view.table ≡ mount.now.board.table }
+    requires images { D.can_lose_power ≡ true }
+    requires within { IsTokenWithin token }
+    requires arms { (D.state bench.old).arms + 1 < 2 ^ 64 }
     ensures stand { All (Stands mount.now) callers.new }
-    ensures tells { ScheduleTells mount.now.fds (token ∷ []) callers.old callers.new view.run result.0.run result.1 }
+    ensures tells { ScheduleTells mount.now.fds (token ∷ []) callers.old callers.new view.run result.0.run (D.state bench.old) (D.state bench.new) result.1 }
     ensures workspace { IsWorkspace mount.now.board.opened.sizes workspace.new }
     ensures bare { workspace.new.parts.items ≡ [] }
     ensures view { result.0.table ≡ mount.now.board.table }
@@ -162,6 +172,9 @@ fn follow_one<'a, L: Lines + Drop, B: Backing + Drop>(
         Token::Advance { turn, reach } => {
             advance_to(alloc, mount, callers, workspace, view, place(turn), reach)
         }
-        Token::Cut(_) => (view, Ok(())),
+        Token::Cut(number) => {
+            bench.arm(number);
+            (view, Ok(()))
+        }
     }
 }

@@ -14,7 +14,7 @@ use Rattle.nv_schedule.proofs.RanLaws.{fresh_stand, run_tells, written_whole, ze
 use Rattle.nv_schedule.proofs.running.run_on.Goals as goal
 
 pub follow-after-requires-clause-stand : goal.follow-after-requires-clause-stand
-follow-after-requires-clause-stand g c =
+follow-after-requires-clause-stand g c κs within =
     subst (All (Stands c.args.mount.now)) (sym c.as_mut_slice.ensures.value) (fresh_stand c.args.mount.now c.hire.new.callers.items c.hire.ensures.fresh)
 
 pub returns-clause-tells : goal.returns-clause-tells
@@ -26,10 +26,12 @@ returns-clause-tells g c =
     let then_ = c.follow-after.new.callers in
     let len : c.hire.new.callers.len ≡ length c.hire.new.callers.items = search rules in
     let size : length then_ ≡ length c.hire.new.callers.items = c.follow-after.auto.callers ∙ ap length c.as_mut_slice.ensures.value in
-    let tells = subst (λ (first : List CallerState). ScheduleTells mount.fds tokens first then_ c.export_view-view.result.run c.follow-after.result.0.run done) c.as_mut_slice.ensures.value c.follow-after.ensures.tells in
-    subst (λ (callers : List CallerState). RunTells mount tokens calls c.args.batch callers c.import_view.new.to done) (sym (written_whole c.hire.new.callers.len c.hire.new.callers.items then_ len size))
-    (subst (λ (zero : PassState). RunTells mount tokens calls c.args.batch then_ zero done) (sym c.import_view.ensures.to)
-    (run_tells mount tokens calls c.args.batch c.hire.new.callers.items then_ c.export_view-view.new.from c.export_view-view.result.run c.follow-after.result.0.run done c.in_ok-hire.ensures.fresh c.in_ok-hire.ensures.works tells))
+    let bench = g.D.Bench.state c.args.bench.now in
+    let armed = g.D.Bench.state c.follow-after.new.bench in
+    let tells = subst (λ (first : List CallerState). ScheduleTells mount.fds tokens first then_ c.export_view-view.result.run c.follow-after.result.0.run bench armed done) c.as_mut_slice.ensures.value c.follow-after.ensures.tells in
+    subst (λ (callers : List CallerState). RunTells mount tokens calls c.args.batch callers c.import_view.new.to bench armed done) (sym (written_whole c.hire.new.callers.len c.hire.new.callers.items then_ len size))
+    (subst (λ (zero : PassState). RunTells mount tokens calls c.args.batch then_ zero bench armed done) (sym c.import_view.ensures.to)
+    (run_tells mount tokens calls c.args.batch c.hire.new.callers.items then_ c.export_view-view.new.from c.export_view-view.result.run c.follow-after.result.0.run bench armed done c.in_ok-hire.ensures.fresh c.in_ok-hire.ensures.works tells))
 
 pub returns-clause-zero : goal.returns-clause-zero
 returns-clause-zero g c =

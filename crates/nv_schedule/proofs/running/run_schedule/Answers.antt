@@ -12,11 +12,11 @@ use Rattle.nv_schedule.proofs.WholeLaws.{has_told}
 use Rattle.nv_schedule.proofs.running.run_schedule.Goals as goal
 
 pub run_on-ran-requires-clause-zero : goal.run_on-ran-requires-clause-zero
-run_on-ran-requires-clause-zero g c =
+run_on-ran-requires-clause-zero g c κs within =
     record { board = c.requires.board; number = ap (λ (v : PassView). v.number) c.requires.new; idle = fresh_is_idle c.args.pass c.args.mount.board.opened c.requires.new c.requires.bare }
 
 pub run_on-ran-requires-clause-first : goal.run_on-ran-requires-clause-first
-run_on-ran-requires-clause-first g c = ap made_of c.requires.new
+run_on-ran-requires-clause-first g c κs within = ap made_of c.requires.new
 
 pub take_in_all-taken-requires-clause-zero : goal.take_in_all-taken-requires-clause-zero
 take_in_all-taken-requires-clause-zero g c = zero_takes c.args.mount c.run_on-ran.new.zero c.run_on-ran.ensures.zero
@@ -53,7 +53,7 @@ returns g c =
         record {
           opened = taken.zero.board.same_mount ∙ sym c.requires.board.same_mount;
           spare = taken.taken.aside.spare ∙ ran.aside.spare;
-          told = has_told c.args.mount c.args.tokens.now c.args.calls.now c.args.batch c.run_on-ran.new.callers.items c.run_on-ran.new.zero zero _ _ c.close_bare-closed.result.placed c.close_bare-closed.result.tail laws
+          told = has_told c.args.mount c.args.tokens.now c.args.calls.now c.args.batch c.run_on-ran.new.callers.items c.run_on-ran.new.zero zero _ _ c.close_bare-closed.result.placed c.close_bare-closed.result.tail (g.D.Bench.state c.args.bench.now) (g.D.Bench.state c.run_on-ran.new.bench) laws
               (subst (λ (o : Opened). IsMount (mount_of o)) c.requires.board.same_mount c.sees_a_run.ensures.mount) taken.zero.board.same_mount ran.stand
               (ran.aside.deedless ∙ ap (λ (v : PassView). deeds (own 0 v.run)) first) (ran.aside.mine ∙ ap (λ (v : PassView). (pass_of v).mine) first)
               taken.taken taken.zero.number told.whole told.history c.run_on-ran.result c.take_in_all-taken.result c.take_in_all-taken.new.calls c.tell.result c.tell.ensures ran.tells taken.calls;

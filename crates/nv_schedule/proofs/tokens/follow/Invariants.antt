@@ -3,6 +3,7 @@ use Rattle.std.proofs.Common.{◌≡◌, List, [], ◌++◌, length}
 use Rattle.std.specs.Prelude.{All}
 use Rattle.nv_core.specs.steps.Events.{Event}
 use Rattle.nv_table.specs.state.Workspaces.{IsWorkspace}
+use Rattle.nv_schedule.specs.Cuts.{IsCutBy}
 use Rattle.nv_schedule.specs.Following.{Follows, Stands}
 use Rattle.nv_schedule.specs.Orders.{ComeBehind}
 use Rattle.nv_trace.specs.declared.token.Token.{Token}
@@ -19,6 +20,7 @@ invariant-loop-rest g l = record {
   trail : List Event;
   follows : Follows l.mount.fds before l.initial.callers trail l.callers;
   behind : ComeBehind trail l.initial.view.run l.view.run;
+  cut : IsCutBy before (g.D.Bench.state l.initial.bench) (g.D.Bench.state l.bench);
 }
 
 abbrev pub decreases-loop-rest : goal.decreases-loop-rest

@@ -2,6 +2,7 @@
 use Rattle.std.proofs.Common.{ℕ, [], ◌∷◌, refl, sym, subst}
 use Rattle.std.specs.Prelude.{Ok}
 use Rattle.nv_schedule.specs.Following.{ScheduleTells, TokenTells}
+use Rattle.nv_trace.specs.Shape.{IsTokenWithin}
 use Rattle.nv_trace.specs.declared.token.Token.{Token}
 use Rattle.nv_schedule.proofs.FollowLaws.{behind_none, token_tells}
 use Rattle.nv_schedule.proofs.tokens.follow_one.Goals as goal
@@ -9,11 +10,15 @@ use Rattle.nv_schedule.proofs.tokens.follow_one.Goals as goal
 pub returns-in-Advance-clause-tells : goal.returns-in-Advance-clause-tells
 returns-in-Advance-clause-tells g c =
     let fds = c.args.mount.now.fds in
-    subst (λ (token : Token). ScheduleTells fds (token ∷ []) c.args.callers.now c.advance_to.new.callers c.args.view.run c.advance_to.result.0.run c.advance_to.result.1) (sym c.in-Advance.is)
-    (token_tells fds c.in-Advance.turn c.in-Advance.reach c.args.callers.now c.advance_to.new.callers c.args.view.run c.advance_to.result.0.run c.advance_to.result.1
+    let bench = g.D.Bench.state c.args.bench.now in
+    subst (λ (token : Token). ScheduleTells fds (token ∷ []) c.args.callers.now c.advance_to.new.callers c.args.view.run c.advance_to.result.0.run bench bench c.advance_to.result.1) (sym c.in-Advance.is)
+    (token_tells fds c.in-Advance.turn c.in-Advance.reach c.args.callers.now c.advance_to.new.callers c.args.view.run c.advance_to.result.0.run bench c.advance_to.result.1
     (subst (λ (at : ℕ). TokenTells fds c.in-Advance.reach at c.args.callers.now c.advance_to.new.callers c.args.view.run c.advance_to.result.0.run c.advance_to.result.1) c.place.ensures c.advance_to.ensures.tells))
+
+pub arm-requires-clause-k : goal.arm-requires-clause-k
+arm-requires-clause-k g c = (subst IsTokenWithin c.in-Cut.is c.requires.within).0
 
 pub returns-in-Cut-clause-tells : goal.returns-in-Cut-clause-tells
 returns-in-Cut-clause-tells g c =
-    subst (λ (token : Token). ScheduleTells c.args.mount.now.fds (token ∷ []) c.args.callers.now c.args.callers.now c.args.view.run c.args.view.run (Ok tt)) (sym c.in-Cut.is)
-    ([], (refl, refl), behind_none c.args.view.run)
+    subst (λ (token : Token). ScheduleTells c.args.mount.now.fds (token ∷ []) c.args.callers.now c.args.callers.now c.args.view.run c.args.view.run (g.D.Bench.state c.args.bench.now) (g.D.Bench.state c.arm.new.self) (Ok tt)) (sym c.in-Cut.is)
+    ([], (refl, refl), behind_none c.args.view.run, c.arm.ensures)
