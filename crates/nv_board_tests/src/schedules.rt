@@ -1,9 +1,11 @@
 //! Schedules that are followed over a mount, one step after another on one thread.
 use crate::benches::{new_bench, opened};
+use crate::given::{region_failing, stores};
 use crate::syncs::opened_over;
 use nv_bench::Bench;
 use nv_open::Opened;
 use nv_plain::Reply;
+use nv_pmem::Fuse;
 use nv_runner::{Answer, sort_out};
 use nv_schedule::{ScheduleError, ScheduledCalls, run_schedule};
 use nv_trace::{Form, MemSource, Trace, read_trace};
@@ -37,6 +39,9 @@ const UNCUT: &str = "file a\nfd 0 a rw\n0 pwrite 0 0 11\nsteps cut:60 0:done w:d
 
 /// Two cuts, of which no call comes to the first.
 const CUT_TWICE: &str = "file a\nfd 0 a rw\n0 pwrite 0 0 11\nsteps cut:60 0:load cut:1 0:done\n";
+
+/// A write that no cut stands before.
+const PLAIN: &str = "file a\nfd 0 a rw\n0 pwrite 0 0 11\nsteps 0:done\n";
 
 // A trace with a schedule.
 fn traced(alloc: Global, text: &str) -> Result<Trace, Fail> {
@@ -183,5 +188,47 @@ fn a_cut_that_no_device_call_comes_to_refuses_none(rt: HostRuntime) -> Result<()
         )
     );
     assert_eq!(rt; faults, 0);
+    Ok(())
+}
+
+// What a trace's schedule comes to where a device call of the write's commit fails.
+fn failed<'a>(
+    rt: &impl Abort,
+    alloc: Global,
+    trace: &'a Trace,
+) -> Result<Result<ScheduledCalls<'a>, ScheduleError>, Fail> {
+    let mut bench = new_bench(alloc)?;
+    // The twelfth call of the leader's part is one of the write's commit.
+    let region = region_failing(alloc, 0, 12)?.expect(rt, "the format makes fewer calls");
+    let stores = stores(alloc, &[], Fuse::new(alloc, &[])?)?;
+    let (mount, pass) = opened_over(alloc, region, stores)?;
+    let scheduled = run_schedule(
+        alloc,
+        &mut bench,
+        mount,
+        pass,
+        trace.calls(),
+        trace.tokens(),
+        4,
+    );
+    Ok(scheduled.outcome)
+}
+
+#[test]
+fn a_device_that_fails_ends_a_schedule_before_any_cut(rt: HostRuntime) -> Result<(), Fail> {
+    let alloc = rt.alloc();
+    let trace = traced(alloc, PLAIN)?;
+    let outcome = failed(&rt, alloc, &trace)?;
+    assert!(rt; matches!(outcome, Err(ScheduleError::Fault)));
+    Ok(())
+}
+
+#[test]
+fn a_device_that_fails_behind_a_cut_leaves_its_write_open(rt: HostRuntime) -> Result<(), Fail> {
+    let alloc = rt.alloc();
+    let trace = traced(alloc, UNCUT)?;
+    let mut calls = failed(&rt, alloc, &trace)??;
+    let answer = calls.answered.pop().map(|one| one.answer);
+    assert!(rt; matches!(answer, Some(Answer::Open { number: 0 })));
     Ok(())
 }

@@ -14,7 +14,8 @@ use Rattle.nv_schedule.specs.Orders.{ComeBehind, InTurn}
 use Rattle.std.specs.Prelude.{Result, Ok, Err, IfOk}
 use Rattle.nv_plain.specs.declared.memory.NoMemory.{NoMemory}
 use Rattle.nv_mount.specs.declared.fds.Fd.{Fd}
-use Rattle.nv_schedule.specs.Turns.{CallerState, HasTurned, MovesBy, events_of}
+use Rattle.nv_schedule.specs.Turns.{CallerState, MovesBy, TurnTells, events_of}
+use Rattle.nv_schedule.specs.declared.turned.Turned.{Turned}
 use Rattle.nv_schedule.proofs.OrderLaws.{in_turn_both, in_turn_more}
 
 -- ---- first parts
@@ -165,14 +166,14 @@ module _ (before : List Event) (old new : PassState) (shares : SharesMoment old.
   comes_behind made (inr step) trail turn = step_behind made (subst (λ l. MadeOne l old new) (sym step.2) (made_one step.0 old new step.1)) trail turn
 
 -- a caller's advance between two looks
-pub turned_behind : (fds : List Fd) (result : Result Bool NoMemory) (old mid turned new : CallerState) (view before after : List Event) → mid ≡ old → turned ≡ new → before ≡ longer old.pass.view.run view
-    → after ≡ longer new.pass.view.run before → SharesMoment old.pass.view view → SharesMoment new.pass.view before → IfOk result (λ answered. (made : List Event) × HasTurned fds answered made mid turned)
-    → IfOk result (λ answered. (made : List Event) × HasTurned fds answered made old new × ComeBehind made view after)
+pub turned_behind : (fds : List Fd) (result : Result Turned NoMemory) (old mid turned new : CallerState) (view before after : List Event) → mid ≡ old → turned ≡ new → before ≡ longer old.pass.view.run view
+    → after ≡ longer new.pass.view.run before → SharesMoment old.pass.view view → SharesMoment new.pass.view before → IfOk result (λ told. (made : List Event) × TurnTells fds told made mid turned)
+    → IfOk result (λ told. (made : List Event) × TurnTells fds told made old new × ComeBehind made view after)
 turned_behind fds (Err none) old mid turned new view before after same same_new before_is after_is_ shares shares_then told = tt
-turned_behind fds (Ok answered) old mid turned new view before after same same_new before_is after_is_ shares shares_then told =
-    let one = subst (λ (from : CallerState). HasTurned fds answered told.0 from new) same (subst (λ (to : CallerState). HasTurned fds answered told.0 mid to) same_new told.1) in (
+turned_behind fds (Ok how) old mid turned new view before after same same_new before_is after_is_ shares shares_then told =
+    let one = subst (λ (from : CallerState). TurnTells fds how told.0 from new) same (subst (λ (to : CallerState). TurnTells fds how told.0 mid to) same_new told.1) in (
       told.0,
       one,
       subst (ComeBehind told.0 view) (sym (after_is_ ∙ ap (longer new.pass.view.run) before_is))
-          (comes_behind view old.pass new.pass shares (subst (SharesMoment new.pass.view) before_is shares_then) told.0 one.moved),
+          (comes_behind view old.pass new.pass shares (subst (SharesMoment new.pass.view) before_is shares_then) told.0 one.turn.moved),
     )

@@ -9,7 +9,8 @@ use Rattle.nv_table.proofs.state.ViewLaws.{own_both}
 use Rattle.nv_table.specs.state.States.{PassState}
 use Rattle.nv_table.specs.steps.SeatSteps.{act_of, events}
 use Rattle.nv_mount.specs.declared.fds.Fd.{Fd}
-use Rattle.nv_schedule.specs.Following.{FallShort, Follows, GoesTo, OneTurns, UsesUp, all_events, next_at}
+use Rattle.nv_schedule.specs.Cuts.{cut_behind}
+use Rattle.nv_schedule.specs.Following.{FallShort, Follows, GoesTo, MeetsFault, OneTurns, UsesUp, all_events, next_at}
 use Rattle.nv_schedule.specs.Growing.{AreApart, GrowBy, number_of, run_of}
 use Rattle.nv_schedule.specs.Reaches.{is_there, place_of}
 use Rattle.nv_schedule.specs.Turns.{CallerState, MovesBy}
@@ -123,38 +124,56 @@ module _ (fds : List Fd) (place : ℕ) (answered : Bool) (made : List Event) (ol
 
 -- ---- by tokens
 
-short_grows : (fds : List Fd) (reach : Reach) (place : ℕ) (callers : List CallerState) (advances : List (List Event)) (then_ : List CallerState) → AreApart callers → FallShort fds reach place callers advances then_
+short_grows : (fds : List Fd) (cut : Bool) (reach : Reach) (place : ℕ) (callers : List CallerState) (advances : List (List Event)) (then_ : List CallerState) → AreApart callers → FallShort fds cut reach place callers advances then_
     → GrowBy callers then_ (all_events advances)
-short_grows fds reach place callers [] then_ apart same = subst (λ (to : List CallerState). GrowBy callers to []) (sym same) (grow_none callers)
-short_grows fds reach place callers (made ∷ later) then_ apart fell =
+short_grows fds cut reach place callers [] then_ apart same = subst (λ (to : List CallerState). GrowBy callers to []) (sym same) (grow_none callers)
+short_grows fds cut reach place callers (made ∷ later) then_ apart fell =
     let one = one_grows fds place fell.0 made callers fell.1 fell.2 apart in
-    grow_both callers fell.1 then_ made (all_events later) one (short_grows fds reach place fell.1 later then_ (apart_on callers fell.1 made one apart) fell.4)
+    grow_both callers fell.1 then_ made (all_events later) one (short_grows fds cut reach place fell.1 later then_ (apart_on callers fell.1 made one apart) fell.5)
 
 all_events_behind : (advances : List (List Event)) (events : List Event) → all_events (advances ++ events ∷ []) ≡ all_events advances ++ events
 all_events_behind [] events = append-nil events
 all_events_behind (first ∷ later) events = ap (λ l. first ++ l) (all_events_behind later events) ∙ sym (append_assoc first (all_events later) events)
 
-token_grows : (fds : List Fd) (reach : Reach) (place : ℕ) (callers : List CallerState) (advances : List (List Event)) (then_ : List CallerState) (there : Bool) → AreApart callers
-    → GoesTo there fds reach place callers advances then_ → GrowBy callers then_ (all_events advances)
-token_grows fds reach place callers advances then_ true apart goes =
+-- some that fell short, and a last one
+last_grows : (fds : List Fd) (cut : Bool) (reach : Reach) (place : ℕ) (callers middle then_ : List CallerState) (advances short : List (List Event)) (answered : Bool) (last : List Event) → AreApart callers
+    → FallShort fds cut reach place callers short middle → OneTurns fds place answered last middle then_ → advances ≡ short ++ last ∷ [] → GrowBy callers then_ (all_events advances)
+last_grows fds cut reach place callers middle then_ advances short answered last apart fell one all =
+    let first = short_grows fds cut reach place callers short middle apart fell in
+    subst (GrowBy callers then_) (sym (ap all_events all ∙ all_events_behind short last))
+    (grow_both callers middle then_ (all_events short) last first (one_grows fds place answered last middle then_ one (apart_on callers middle (all_events short) first apart)))
+
+token_grows : (fds : List Fd) (cut : Bool) (reach : Reach) (place : ℕ) (callers : List CallerState) (advances : List (List Event)) (then_ : List CallerState) (there : Bool) → AreApart callers
+    → GoesTo there fds cut reach place callers advances then_ → GrowBy callers then_ (all_events advances)
+token_grows fds cut reach place callers advances then_ true apart goes =
     subst (λ (l : List (List Event)). GrowBy callers then_ (all_events l)) (sym goes.0) (subst (λ (to : List CallerState). GrowBy callers to []) (sym goes.1) (grow_none callers))
-token_grows fds reach place callers advances then_ false apart goes =
+token_grows fds cut reach place callers advances then_ false apart goes =
     let come = goes.0 in
-    let first = short_grows fds reach place callers come.short come.middle apart come.fell in
-    subst (GrowBy callers then_) (sym (ap all_events come.all ∙ all_events_behind come.short come.last))
-    (grow_both callers come.middle then_ (all_events come.short) come.last first (one_grows fds place come.answered come.last come.middle then_ come.one (apart_on callers come.middle (all_events come.short) first apart)))
+    last_grows fds cut reach place callers come.middle then_ advances come.short come.answered come.last apart come.fell come.one come.all
 
-pub schedule_grows : (fds : List Fd) (tokens : List Token) (callers : List CallerState) (trail : List Event) (then_ : List CallerState) → AreApart callers → Follows fds tokens callers trail then_ → GrowBy callers then_ trail
-schedule_grows fds [] callers trail then_ apart nothing =
+pub schedule_grows : (fds : List Fd) (cut : Bool) (tokens : List Token) (callers : List CallerState) (trail : List Event) (then_ : List CallerState) → AreApart callers → Follows fds cut tokens callers trail then_
+    → GrowBy callers then_ trail
+schedule_grows fds cut [] callers trail then_ apart nothing =
     subst (GrowBy callers then_) (sym nothing.0) (subst (λ (to : List CallerState). GrowBy callers to []) (sym nothing.1) (grow_none callers))
-schedule_grows fds (Cut number ∷ later) callers trail then_ apart follows = schedule_grows fds later callers trail then_ apart follows
-schedule_grows fds (Advance turn reach ∷ later) callers trail then_ apart follows =
-    let one = token_grows fds reach (place_of turn) callers follows.0 follows.1 (is_there reach (next_at callers (place_of turn))) apart follows.3 in
+schedule_grows fds cut (Cut number ∷ later) callers trail then_ apart follows = schedule_grows fds true later callers trail then_ apart follows
+schedule_grows fds cut (Advance turn reach ∷ later) callers trail then_ apart follows =
+    let one = token_grows fds cut reach (place_of turn) callers follows.0 follows.1 (is_there reach (next_at callers (place_of turn))) apart follows.3 in
     subst (GrowBy callers then_) (sym follows.4)
-    (grow_both callers follows.1 then_ (all_events follows.0) follows.2 one (schedule_grows fds later follows.1 follows.2 then_ (apart_on callers follows.1 (all_events follows.0) one apart) follows.5))
+    (grow_both callers follows.1 then_ (all_events follows.0) follows.2 one (schedule_grows fds cut later follows.1 follows.2 then_ (apart_on callers follows.1 (all_events follows.0) one apart) follows.5))
 
-pub used_up_grows : (fds : List Fd) (tokens : List Token) (callers : List CallerState) (trail : List Event) (then_ : List CallerState) → AreApart callers → UsesUp fds tokens callers trail then_ → GrowBy callers then_ trail
-used_up_grows fds tokens callers trail then_ apart used =
-    let first = schedule_grows fds used.before callers used.first used.middle apart used.follows in
+pub used_up_grows : (fds : List Fd) (cut : Bool) (tokens : List Token) (callers : List CallerState) (trail : List Event) (then_ : List CallerState) → AreApart callers → UsesUp fds cut tokens callers trail then_
+    → GrowBy callers then_ trail
+used_up_grows fds cut tokens callers trail then_ apart used =
+    let first = schedule_grows fds cut used.before callers used.first used.middle apart used.follows in
     subst (GrowBy callers then_) (sym used.trail_is)
-    (grow_both callers used.middle then_ used.first (all_events used.advances) first (short_grows fds used.reach (place_of used.turn) used.middle used.advances then_ (apart_on callers used.middle used.first first apart) used.fell))
+    (grow_both callers used.middle then_ used.first (all_events used.advances) first
+    (short_grows fds (cut_behind cut used.before) used.reach (place_of used.turn) used.middle used.advances then_ (apart_on callers used.middle used.first first apart) used.fell))
+
+pub fault_grows : (fds : List Fd) (cut : Bool) (tokens : List Token) (callers : List CallerState) (trail : List Event) (then_ : List CallerState) → AreApart callers → MeetsFault fds cut tokens callers trail then_
+    → GrowBy callers then_ trail
+fault_grows fds cut tokens callers trail then_ apart met =
+    let first = schedule_grows fds cut met.before callers met.first met.middle apart met.follows in
+    let fails = met.fails in
+    subst (GrowBy callers then_) (sym met.trail_is)
+    (grow_both callers met.middle then_ met.first (all_events met.advances) first
+    (last_grows fds false met.reach (place_of met.turn) met.middle fails.middle then_ met.advances fails.short fails.answered fails.last (apart_on callers met.middle met.first first apart) fails.fell fails.one fails.all))

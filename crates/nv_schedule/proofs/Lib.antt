@@ -4,6 +4,7 @@ mod BehindLaws
 mod CutLaws
 mod DeedLaws
 mod EndLaws
+mod FaultLaws
 mod FollowLaws
 mod FreshLaws
 mod GrowLaws
@@ -14,5 +15,6 @@ mod SinceLaws
 mod ThreadLaws
 mod ToldLaws
 mod TurnLaws
+mod UncutLaws
 mod WayLaws
 mod WholeLaws

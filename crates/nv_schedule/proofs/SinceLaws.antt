@@ -9,7 +9,8 @@ use Rattle.nv_mount.specs.declared.fds.Fd.{Fd}
 use Rattle.nv_runner.specs.Lists.{MadeCall, calls_made}
 use Rattle.nv_trace.specs.declared.trace_call.TracedCall.{TracedCall}
 use Rattle.nv_schedule.specs.Callers.{CallEnds, ThreadState}
-use Rattle.nv_schedule.specs.Following.{FallShort, Follows, GoesTo, OneTurns, UsesUp, all_events, next_at}
+use Rattle.nv_schedule.specs.Cuts.{cut_behind}
+use Rattle.nv_schedule.specs.Following.{FallShort, Follows, GoesTo, MeetsFault, OneTurns, UsesUp, all_events, next_at}
 use Rattle.nv_schedule.specs.Growing.{number_of}
 use Rattle.nv_schedule.specs.Orders.{AreDeeds}
 use Rattle.nv_schedule.specs.Reaches.{is_there, place_of}
@@ -90,28 +91,41 @@ module _ (fds : List Fd) (place : ℕ) (answered : Bool) (made : List Event) (ol
   one_on : AllGoOn fds old new
   one_on = record { count = ap length one.new_is ∙ length-set old place one.then_; each = λ i d less. each_on i d (cases_eq i place) }
 
-short_on : (fds : List Fd) (reach : Reach) (place : ℕ) (callers : List CallerState) (advances : List (List Event)) (then_ : List CallerState) → FallShort fds reach place callers advances then_ → AllGoOn fds callers then_
-short_on fds reach place callers [] then_ same = subst (AllGoOn fds callers) (sym same) (all_self fds callers)
-short_on fds reach place callers (made ∷ later) then_ fell =
-    all_both fds callers fell.1 then_ (one_on fds place fell.0 made callers fell.1 fell.2) (short_on fds reach place fell.1 later then_ fell.4)
-
-token_on : (fds : List Fd) (reach : Reach) (place : ℕ) (callers : List CallerState) (advances : List (List Event)) (then_ : List CallerState) (there : Bool) → GoesTo there fds reach place callers advances then_
+short_on : (fds : List Fd) (cut : Bool) (reach : Reach) (place : ℕ) (callers : List CallerState) (advances : List (List Event)) (then_ : List CallerState) → FallShort fds cut reach place callers advances then_
     → AllGoOn fds callers then_
-token_on fds reach place callers advances then_ true goes = subst (AllGoOn fds callers) (sym goes.1) (all_self fds callers)
-token_on fds reach place callers advances then_ false goes =
+short_on fds cut reach place callers [] then_ same = subst (AllGoOn fds callers) (sym same) (all_self fds callers)
+short_on fds cut reach place callers (made ∷ later) then_ fell =
+    all_both fds callers fell.1 then_ (one_on fds place fell.0 made callers fell.1 fell.2) (short_on fds cut reach place fell.1 later then_ fell.5)
+
+-- some that fell short, and a last one
+last_on : (fds : List Fd) (cut : Bool) (reach : Reach) (place : ℕ) (callers middle then_ : List CallerState) (short : List (List Event)) (answered : Bool) (last : List Event) → FallShort fds cut reach place callers short middle
+    → OneTurns fds place answered last middle then_ → AllGoOn fds callers then_
+last_on fds cut reach place callers middle then_ short answered last fell one = all_both fds callers middle then_ (short_on fds cut reach place callers short middle fell) (one_on fds place answered last middle then_ one)
+
+token_on : (fds : List Fd) (cut : Bool) (reach : Reach) (place : ℕ) (callers : List CallerState) (advances : List (List Event)) (then_ : List CallerState) (there : Bool) → GoesTo there fds cut reach place callers advances then_
+    → AllGoOn fds callers then_
+token_on fds cut reach place callers advances then_ true goes = subst (AllGoOn fds callers) (sym goes.1) (all_self fds callers)
+token_on fds cut reach place callers advances then_ false goes =
     let come = goes.0 in
-    all_both fds callers come.middle then_ (short_on fds reach place callers come.short come.middle come.fell) (one_on fds place come.answered come.last come.middle then_ come.one)
+    last_on fds cut reach place callers come.middle then_ come.short come.answered come.last come.fell come.one
 
-pub schedule_on : (fds : List Fd) (tokens : List Token) (callers : List CallerState) (trail : List Event) (then_ : List CallerState) → Follows fds tokens callers trail then_ → AllGoOn fds callers then_
-schedule_on fds [] callers trail then_ nothing = subst (AllGoOn fds callers) (sym nothing.1) (all_self fds callers)
-schedule_on fds (Cut number ∷ later) callers trail then_ follows = schedule_on fds later callers trail then_ follows
-schedule_on fds (Advance turn reach ∷ later) callers trail then_ follows =
-    all_both fds callers follows.1 then_ (token_on fds reach (place_of turn) callers follows.0 follows.1 (is_there reach (next_at callers (place_of turn))) follows.3)
-    (schedule_on fds later follows.1 follows.2 then_ follows.5)
+pub schedule_on : (fds : List Fd) (cut : Bool) (tokens : List Token) (callers : List CallerState) (trail : List Event) (then_ : List CallerState) → Follows fds cut tokens callers trail then_ → AllGoOn fds callers then_
+schedule_on fds cut [] callers trail then_ nothing = subst (AllGoOn fds callers) (sym nothing.1) (all_self fds callers)
+schedule_on fds cut (Cut number ∷ later) callers trail then_ follows = schedule_on fds true later callers trail then_ follows
+schedule_on fds cut (Advance turn reach ∷ later) callers trail then_ follows =
+    all_both fds callers follows.1 then_ (token_on fds cut reach (place_of turn) callers follows.0 follows.1 (is_there reach (next_at callers (place_of turn))) follows.3)
+    (schedule_on fds cut later follows.1 follows.2 then_ follows.5)
 
-pub used_up_on : (fds : List Fd) (tokens : List Token) (callers : List CallerState) (trail : List Event) (then_ : List CallerState) → UsesUp fds tokens callers trail then_ → AllGoOn fds callers then_
-used_up_on fds tokens callers trail then_ used =
-    all_both fds callers used.middle then_ (schedule_on fds used.before callers used.first used.middle used.follows) (short_on fds used.reach (place_of used.turn) used.middle used.advances then_ used.fell)
+pub used_up_on : (fds : List Fd) (cut : Bool) (tokens : List Token) (callers : List CallerState) (trail : List Event) (then_ : List CallerState) → UsesUp fds cut tokens callers trail then_ → AllGoOn fds callers then_
+used_up_on fds cut tokens callers trail then_ used =
+    all_both fds callers used.middle then_ (schedule_on fds cut used.before callers used.first used.middle used.follows)
+    (short_on fds (cut_behind cut used.before) used.reach (place_of used.turn) used.middle used.advances then_ used.fell)
+
+pub fault_on : (fds : List Fd) (cut : Bool) (tokens : List Token) (callers : List CallerState) (trail : List Event) (then_ : List CallerState) → MeetsFault fds cut tokens callers trail then_ → AllGoOn fds callers then_
+fault_on fds cut tokens callers trail then_ met =
+    let fails = met.fails in
+    all_both fds callers met.middle then_ (schedule_on fds cut met.before callers met.first met.middle met.follows)
+    (last_on fds false met.reach (place_of met.turn) met.middle fails.middle then_ fails.short fails.answered fails.last fails.fell fails.one)
 
 -- ---- their events are deeds
 
@@ -133,34 +147,47 @@ one_deeds fds place answered made old new one firm =
     turn_is_deeds fds answered made one.caller one.then_ one.turned here.1
     (subst (λ (c : CallerState). HasCome fds c.work here.1 c.pass) same here.2) (λ none. here.0 (ap number_of same ∙ none))
 
-short_deeds : (fds : List Fd) (reach : Reach) (place : ℕ) (callers : List CallerState) (advances : List (List Event)) (then_ : List CallerState) → FallShort fds reach place callers advances then_ → AreFirm fds callers
+short_deeds : (fds : List Fd) (cut : Bool) (reach : Reach) (place : ℕ) (callers : List CallerState) (advances : List (List Event)) (then_ : List CallerState) → FallShort fds cut reach place callers advances then_ → AreFirm fds callers
     → AreDeeds (all_events advances)
-short_deeds fds reach place callers [] then_ same firm = tt
-short_deeds fds reach place callers (made ∷ later) then_ fell firm =
+short_deeds fds cut reach place callers [] then_ same firm = tt
+short_deeds fds cut reach place callers (made ∷ later) then_ fell firm =
     are_deeds_both made (all_events later) (one_deeds fds place fell.0 made callers fell.1 fell.2 firm)
-    (short_deeds fds reach place fell.1 later then_ fell.4 (firm_on fds callers fell.1 (one_on fds place fell.0 made callers fell.1 fell.2) firm))
+    (short_deeds fds cut reach place fell.1 later then_ fell.5 (firm_on fds callers fell.1 (one_on fds place fell.0 made callers fell.1 fell.2) firm))
 
-token_deeds : (fds : List Fd) (reach : Reach) (place : ℕ) (callers : List CallerState) (advances : List (List Event)) (then_ : List CallerState) (there : Bool) → GoesTo there fds reach place callers advances then_
+last_deeds : (fds : List Fd) (cut : Bool) (reach : Reach) (place : ℕ) (callers middle then_ : List CallerState) (advances short : List (List Event)) (answered : Bool) (last : List Event)
+    → FallShort fds cut reach place callers short middle → OneTurns fds place answered last middle then_ → advances ≡ short ++ last ∷ [] → AreFirm fds callers → AreDeeds (all_events advances)
+last_deeds fds cut reach place callers middle then_ advances short answered last fell one all firm =
+    subst AreDeeds (sym (ap all_events all ∙ all_events_on short last))
+    (are_deeds_both (all_events short) last (short_deeds fds cut reach place callers short middle fell firm)
+    (one_deeds fds place answered last middle then_ one (firm_on fds callers middle (short_on fds cut reach place callers short middle fell) firm)))
+
+token_deeds : (fds : List Fd) (cut : Bool) (reach : Reach) (place : ℕ) (callers : List CallerState) (advances : List (List Event)) (then_ : List CallerState) (there : Bool) → GoesTo there fds cut reach place callers advances then_
     → AreFirm fds callers → AreDeeds (all_events advances)
-token_deeds fds reach place callers advances then_ true goes firm = subst (λ (l : List (List Event)). AreDeeds (all_events l)) (sym goes.0) tt
-token_deeds fds reach place callers advances then_ false goes firm =
+token_deeds fds cut reach place callers advances then_ true goes firm = subst (λ (l : List (List Event)). AreDeeds (all_events l)) (sym goes.0) tt
+token_deeds fds cut reach place callers advances then_ false goes firm =
     let come = goes.0 in
-    let first = short_on fds reach place callers come.short come.middle come.fell in
-    subst AreDeeds (sym (ap all_events come.all ∙ all_events_on come.short come.last))
-    (are_deeds_both (all_events come.short) come.last (short_deeds fds reach place callers come.short come.middle come.fell firm)
-    (one_deeds fds place come.answered come.last come.middle then_ come.one (firm_on fds callers come.middle first firm)))
+    last_deeds fds cut reach place callers come.middle then_ advances come.short come.answered come.last come.fell come.one come.all firm
 
-pub schedule_deeds : (fds : List Fd) (tokens : List Token) (callers : List CallerState) (trail : List Event) (then_ : List CallerState) → Follows fds tokens callers trail then_ → AreFirm fds callers → AreDeeds trail
-schedule_deeds fds [] callers trail then_ nothing firm = subst AreDeeds (sym nothing.0) tt
-schedule_deeds fds (Cut number ∷ later) callers trail then_ follows firm = schedule_deeds fds later callers trail then_ follows firm
-schedule_deeds fds (Advance turn reach ∷ later) callers trail then_ follows firm =
+pub schedule_deeds : (fds : List Fd) (cut : Bool) (tokens : List Token) (callers : List CallerState) (trail : List Event) (then_ : List CallerState) → Follows fds cut tokens callers trail then_ → AreFirm fds callers → AreDeeds trail
+schedule_deeds fds cut [] callers trail then_ nothing firm = subst AreDeeds (sym nothing.0) tt
+schedule_deeds fds cut (Cut number ∷ later) callers trail then_ follows firm = schedule_deeds fds true later callers trail then_ follows firm
+schedule_deeds fds cut (Advance turn reach ∷ later) callers trail then_ follows firm =
     let there = is_there reach (next_at callers (place_of turn)) in
     subst AreDeeds (sym follows.4)
-    (are_deeds_both (all_events follows.0) follows.2 (token_deeds fds reach (place_of turn) callers follows.0 follows.1 there follows.3 firm)
-    (schedule_deeds fds later follows.1 follows.2 then_ follows.5 (firm_on fds callers follows.1 (token_on fds reach (place_of turn) callers follows.0 follows.1 there follows.3) firm)))
+    (are_deeds_both (all_events follows.0) follows.2 (token_deeds fds cut reach (place_of turn) callers follows.0 follows.1 there follows.3 firm)
+    (schedule_deeds fds cut later follows.1 follows.2 then_ follows.5 (firm_on fds callers follows.1 (token_on fds cut reach (place_of turn) callers follows.0 follows.1 there follows.3) firm)))
 
-pub used_up_deeds : (fds : List Fd) (tokens : List Token) (callers : List CallerState) (trail : List Event) (then_ : List CallerState) → UsesUp fds tokens callers trail then_ → AreFirm fds callers → AreDeeds trail
-used_up_deeds fds tokens callers trail then_ used firm =
+pub used_up_deeds : (fds : List Fd) (cut : Bool) (tokens : List Token) (callers : List CallerState) (trail : List Event) (then_ : List CallerState) → UsesUp fds cut tokens callers trail then_ → AreFirm fds callers → AreDeeds trail
+used_up_deeds fds cut tokens callers trail then_ used firm =
+    let before = schedule_on fds cut used.before callers used.first used.middle used.follows in
     subst AreDeeds (sym used.trail_is)
-    (are_deeds_both used.first (all_events used.advances) (schedule_deeds fds used.before callers used.first used.middle used.follows firm)
-    (short_deeds fds used.reach (place_of used.turn) used.middle used.advances then_ used.fell (firm_on fds callers used.middle (schedule_on fds used.before callers used.first used.middle used.follows) firm)))
+    (are_deeds_both used.first (all_events used.advances) (schedule_deeds fds cut used.before callers used.first used.middle used.follows firm)
+    (short_deeds fds (cut_behind cut used.before) used.reach (place_of used.turn) used.middle used.advances then_ used.fell (firm_on fds callers used.middle before firm)))
+
+pub fault_deeds : (fds : List Fd) (cut : Bool) (tokens : List Token) (callers : List CallerState) (trail : List Event) (then_ : List CallerState) → MeetsFault fds cut tokens callers trail then_ → AreFirm fds callers → AreDeeds trail
+fault_deeds fds cut tokens callers trail then_ met firm =
+    let before = schedule_on fds cut met.before callers met.first met.middle met.follows in
+    let fails = met.fails in
+    subst AreDeeds (sym met.trail_is)
+    (are_deeds_both met.first (all_events met.advances) (schedule_deeds fds cut met.before callers met.first met.middle met.follows firm)
+    (last_deeds fds false met.reach (place_of met.turn) met.middle fails.middle then_ met.advances fails.short fails.answered fails.last fails.fell fails.one fails.all (firm_on fds callers met.middle before firm)))

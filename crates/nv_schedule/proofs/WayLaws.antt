@@ -1,5 +1,5 @@
 -- Ways: what is so of a pass whose call is tried, or whose try is over.
-use Rattle.std.proofs.Common.{◌≡◌, ℕ, true, List, [], ◌∷◌, ◌++◌, length, refl, sym, ap, subst, ◌∙◌}
+use Rattle.std.proofs.Common.{◌≡◌, ℕ, true, List, [], ◌∷◌, ◌++◌, length, inl, inr, refl, sym, ap, subst, ◌∙◌}
 use Rattle.std.specs.Borrow.{Bor}
 use Rattle.std.specs.Prelude.{Option, Some, None, Result, Ok, Err, take}
 use Rattle.nv_plain.specs.Modes.{can_read, can_write}
@@ -17,7 +17,9 @@ use Rattle.nv_mount.specs.declared.fds.Fd.{Fd}
 use Rattle.nv_plain.specs.declared.call.Reply.{Reply}
 use Rattle.nv_plain.specs.declared.call.Reply.TheVariants as replies
 use Rattle.nv_mirror.specs.Answers.{IsPlacedAs, IsReadPlaced, IsUnplaced, place_in_answer, refusal_in_answer}
-use Rattle.nv_mirror.specs.Controls.{InCall, IsOver, Mirror, Told}
+use Rattle.nv_mirror.specs.Controls.{InCall, IsOver, IsUnbegunCall, Mirror, Told}
+use Rattle.nv_mirror.specs.OwnSteps.{AreOwnSoFar}
+use Rattle.nv_mirror.specs.PassSteps.{HasMade, PassStep}
 use Rattle.nv_mirror.specs.declared.answers.Done.{Done}
 use Rattle.nv_mirror.specs.declared.answers.Refusal.{Refusal}
 use Rattle.nv_mirror.specs.declared.answers.Refusal.TheVariants.{Busy}
@@ -53,6 +55,7 @@ use Rattle.nv_calls.specs.writes.WriteLaws.{RefusedWritesLeaveWords}
 use Rattle.nv_calls.specs.writes.WriteMachines as writes
 use Rattle.nv_trace.specs.declared.trace_call.TraceCall.{TraceCall}
 use Rattle.nv_trace.specs.declared.trace_call.TraceCall.TheVariants.{Pread, Pwrite, Fsync}
+use Rattle.nv_schedule.proofs.FaultLaws.{IsBehindCall, own_of_call}
 use Rattle.nv_schedule.specs.declared.hand.Hand.{Hand}
 use Rattle.nv_schedule.specs.declared.hand.Hand.TheVariants.{Reading, Writing, Syncing}
 use Rattle.nv_schedule.specs.Hands.{IsTrying}
@@ -65,7 +68,7 @@ abbrev HasToldSo : FileCall → (reply : ℕ → Reply) → Option Done → (beg
 HasToldSo call reply None begun now = IsUnplaced begun.view now.view
 HasToldSo call reply (Some done) begun now = IsPlacedAs begun.view now.view call (reply done.len) done.place
 
--- Its pass was idle at the start, and has put nothing back; it is the same mount; and no device call has come since its last step.
+-- Its pass was idle at the start, and has put nothing back; it is the same mount; no device call has come since its last step; and that, if there is any since the start, is one of a call.
 record UnderwayOf (call : FileCall) (reply : ℕ → Reply) (done : Option Done) (begun now : PassState) : Type 0 where
   pub idle : IsIdle begun
   pub left : (pass_of now.view).left ≡ []
@@ -73,10 +76,17 @@ record UnderwayOf (call : FileCall) (reply : ℕ → Reply) (done : Option Done)
   pub number : now.view.number ≡ begun.view.number
   pub still : IsShownStill now
   pub told : HasToldSo call reply done begun now
+  pub behind : IsBehindCall begun now
 
 of_in_call : {State : Type 0} (mirror : Mirror State) (call : FileCall) (opens : Option FileCall) (is : State) (refusal : Option Refusal) (place : Option ℕ) (begun now : PassState) (reply : ℕ → Reply) (done : Option Done)
     → (Told call place begun now → HasToldSo call reply done begun now) → InCall mirror call opens is refusal place begun now → UnderwayOf call reply done begun now
-of_in_call mirror call opens is refusal place begun now reply answer told c = record { idle = c.idle; left = c.left; mount = c.mount; number = c.later.number; still = c.still; told = told c.told }
+of_in_call mirror call opens is refusal place begun now reply answer told c = record { idle = c.idle; left = c.left; mount = c.mount; number = c.later.number; still = c.still; told = told c.told; behind = last_of opens c.steps c.made c.own c.fresh }
+  where
+    last_of : (opens : Option FileCall) (steps : List PassStep) → HasMade steps begun now → AreOwnSoFar opens now.view.opened.sizes call steps → IsUnbegunCall opens begun now → IsBehindCall begun now
+    last_of (Some one) steps made own fresh = inl fresh
+    last_of None [] made own fresh = absurd own
+    last_of None (step ∷ []) made own fresh = inr (step, made.0, made.2, own_of_call call None step.op own.1)
+    last_of None (step ∷ (other ∷ earlier)) made own fresh = inr (step, made.0, made.2, own_of_call call _ step.op own.1)
 
 of_part : {State : Type 0} (mirror : Mirror State) (asks call : FileCall) (opens : Option FileCall) (is : State) (refusal : Option Refusal) (place : Option ℕ) (begun now : PassState) (reply : ℕ → Reply) (done : Option Done) → asks ≡ call
     → (Told call place begun now → HasToldSo call reply done begun now) → InCall mirror asks opens is refusal place begun now → UnderwayOf call reply done begun now
@@ -102,10 +112,11 @@ pub record Underway (fds : List Fd) (call : TraceCall) (reply : ℕ → Reply) (
   pub number : now.view.number ≡ begun.view.number
   pub still : IsShownStill now
   pub told : IsPresentTold fds call reply done begun now
+  pub behind : IsBehindCall begun now
 
 of_file : (fds : List Fd) (call : TraceCall) (file : ℕ) (begun now : PassState) (reply : ℕ → Reply) (done : Option Done) → file_of_fd fds (fd_of call) ≡ Some file → UnderwayOf (call_on call file) reply done begun now
     → Underway fds call reply done begun now
-of_file fds call file begun now reply done file_is way = record { idle = way.idle; left = way.left; mount = way.mount; number = way.number; still = way.still; told = by done way.told }
+of_file fds call file begun now reply done file_is way = record { idle = way.idle; left = way.left; mount = way.mount; number = way.number; still = way.still; told = by done way.told; behind = way.behind }
   where
     by : (answer : Option Done) → HasToldSo (call_on call file) reply answer begun now → IsPresentTold fds call reply answer begun now
     by None none = none
@@ -113,7 +124,7 @@ of_file fds call file begun now reply done file_is way = record { idle = way.idl
 
 of_begin : (fds : List Fd) (call : TraceCall) (begun now : PassState) (reply : ℕ → Reply) → IsIdle begun → now ≡ begun → Underway fds call reply None begun now
 of_begin fds call begun now reply idle same =
-    subst (Underway fds call reply None begun) (sym same) record { idle = idle; left = idle.left; mount = refl; number = refl; still = idle_is_still begun idle; told = record { seen = refl; mine = refl } }
+    subst (Underway fds call reply None begun) (sym same) record { idle = idle; left = idle.left; mount = refl; number = refl; still = idle_is_still begun idle; told = record { seen = refl; mine = refl }; behind = inl refl }
 
 -- ---- a read that is tried
 

@@ -1,5 +1,5 @@
 -- Whole runs: behind a schedule the deeds of the run of the closed mount are those of its tokens.
-use Rattle.std.proofs.Common.{◌≡◌, ◌≢◌, ◌⊎◌, ℕ, zero, suc, ◌<◌, ◌≤◌, List, [], ◌∷◌, ◌++◌, length, inl, inr, refl, sym, ap, subst, ◌∙◌, arith}
+use Rattle.std.proofs.Common.{◌≡◌, ◌≢◌, ◌⊎◌, ℕ, zero, suc, ◌<◌, ◌≤◌, false, List, [], ◌∷◌, ◌++◌, length, inl, inr, refl, sym, ap, subst, ◌∙◌, arith}
 use Rattle.std.specs.Prelude.{All, None, OnOk, Result, Ok, Err, slice_index_or}
 use Rattle.std.proofs.lemmas.Bool.{cases_lt}
 use Rattle.std.proofs.lemmas.List.{length-append, length-map}
@@ -28,15 +28,15 @@ use Rattle.nv_schedule.specs.Turns.{CallerState}
 use Rattle.nv_schedule.specs.declared.caller.Work.TheVariants.{Batches}
 use Rattle.nv_schedule.specs.declared.scheduled.ScheduledCalls.{ScheduledCalls}
 use Rattle.nv_schedule.specs.declared.schedule_error.ScheduleError.{ScheduleError}
-use Rattle.nv_schedule.specs.declared.schedule_error.ScheduleError.TheVariants.{NoMemory, TurnsUsed}
+use Rattle.nv_schedule.specs.declared.schedule_error.ScheduleError.TheVariants.{Fault, NoMemory, TurnsUsed}
 use Rattle.nv_schedule.proofs.AnswerLaws.{CallLaws}
 use Rattle.nv_schedule.proofs.BehindLaws.{in_turn_on, own_seen}
 use Rattle.nv_schedule.proofs.CutLaws.{all_reached}
 use Rattle.nv_schedule.proofs.EndLaws.{HasPast, past_at, past_of_some, stood_deedless, stood_number}
-use Rattle.nv_schedule.proofs.GrowLaws.{schedule_grows, used_up_grows}
+use Rattle.nv_schedule.proofs.GrowLaws.{fault_grows, schedule_grows, used_up_grows}
 use Rattle.nv_schedule.proofs.OrderLaws.{deeds_all, own_deeds, trail_is}
 use Rattle.nv_schedule.proofs.ToldLaws.{caller_told, history_mine, history_seen}
-use Rattle.nv_schedule.proofs.SinceLaws.{AllGoOn, AreFirm, schedule_deeds, schedule_on, used_up_deeds, used_up_on}
+use Rattle.nv_schedule.proofs.SinceLaws.{AllGoOn, AreFirm, fault_deeds, fault_on, schedule_deeds, schedule_on, used_up_deeds, used_up_on}
 
 -- ---- fresh callers
 
@@ -55,18 +55,21 @@ fresh_firm mount callers fresh i d less =
 
 module _ (mount : MountState) (tokens : List Token) (first then_ : List CallerState) (trail : List Event) (fresh : AreFresh mount first) where
   ran_grows : (done : Result (Unit {0}) ScheduleError) → done ≢ Err NoMemory → RanAs mount tokens first then_ trail done → GrowBy first then_ trail
-  ran_grows (Ok done) told ran = schedule_grows mount.fds tokens first trail then_ (fresh_apart mount first fresh) ran
-  ran_grows (Err TurnsUsed) told ran = used_up_grows mount.fds tokens first trail then_ (fresh_apart mount first fresh) ran
+  ran_grows (Ok done) told ran = schedule_grows mount.fds false tokens first trail then_ (fresh_apart mount first fresh) ran
+  ran_grows (Err TurnsUsed) told ran = used_up_grows mount.fds false tokens first trail then_ (fresh_apart mount first fresh) ran
+  ran_grows (Err Fault) told ran = fault_grows mount.fds false tokens first trail then_ (fresh_apart mount first fresh) ran
   ran_grows (Err NoMemory) told ran = absurd (told refl)
 
   ran_on : (done : Result (Unit {0}) ScheduleError) → done ≢ Err NoMemory → RanAs mount tokens first then_ trail done → AllGoOn mount.fds first then_
-  ran_on (Ok done) told ran = schedule_on mount.fds tokens first trail then_ ran
-  ran_on (Err TurnsUsed) told ran = used_up_on mount.fds tokens first trail then_ ran
+  ran_on (Ok done) told ran = schedule_on mount.fds false tokens first trail then_ ran
+  ran_on (Err TurnsUsed) told ran = used_up_on mount.fds false tokens first trail then_ ran
+  ran_on (Err Fault) told ran = fault_on mount.fds false tokens first trail then_ ran
   ran_on (Err NoMemory) told ran = absurd (told refl)
 
   ran_deeds : (done : Result (Unit {0}) ScheduleError) → done ≢ Err NoMemory → RanAs mount tokens first then_ trail done → AreDeeds trail
-  ran_deeds (Ok done) told ran = schedule_deeds mount.fds tokens first trail then_ ran (fresh_firm mount first fresh)
-  ran_deeds (Err TurnsUsed) told ran = used_up_deeds mount.fds tokens first trail then_ ran (fresh_firm mount first fresh)
+  ran_deeds (Ok done) told ran = schedule_deeds mount.fds false tokens first trail then_ ran (fresh_firm mount first fresh)
+  ran_deeds (Err TurnsUsed) told ran = used_up_deeds mount.fds false tokens first trail then_ ran (fresh_firm mount first fresh)
+  ran_deeds (Err Fault) told ran = fault_deeds mount.fds false tokens first trail then_ ran (fresh_firm mount first fresh)
   ran_deeds (Err NoMemory) told ran = absurd (told refl)
 
 -- ---- the run of the closed mount
@@ -209,5 +212,11 @@ module _ (mount : MountState) (tokens : List Token) (calls : List TracedCall) (b
       (then_, has_followed mount tokens calls batch (Err TurnsUsed) (λ same. differ same) then_ before zero_then parts stores placed tail laws is_mount same stand tells.0 undone uncalled taken number whole history, tells.1)
     where
       differ : ◌≡◌ {A = Result (Unit {0}) ScheduleError} (Err TurnsUsed) (Err NoMemory) → ⊥
+      differ same = cc
+  has_told (Err Fault) noted begun outcome is tells are =
+      subst (HasTold mount tokens calls batch zero_then bench armed) (sym is)
+      (then_, has_followed mount tokens calls batch (Err Fault) (λ same. differ same) then_ before zero_then parts stores placed tail laws is_mount same stand tells.0 undone uncalled taken number whole history, tells.1)
+    where
+      differ : ◌≡◌ {A = Result (Unit {0}) ScheduleError} (Err Fault) (Err NoMemory) → ⊥
       differ same = cc
   has_told (Err NoMemory) noted begun outcome is tells are = subst (HasTold mount tokens calls batch zero_then bench armed) (sym is) tells

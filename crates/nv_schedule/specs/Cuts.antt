@@ -1,5 +1,5 @@
 -- Cuts: what the cuts of a schedule make of a bench.
-use Rattle.std.specs.Prelude.{◌≡◌, ℕ, List, [], ◌∷◌, ◌++◌}
+use Rattle.std.specs.Prelude.{◌≡◌, ℕ, Bool, true, List, [], ◌∷◌, ◌++◌}
 use Rattle.nv_bench.specs.Benches.{BenchState, armed_with}
 use Rattle.nv_trace.specs.declared.token.Token.{Token}
 use Rattle.nv_trace.specs.declared.token.Token.TheVariants.{Advance, Cut}
@@ -9,6 +9,12 @@ abbrev pub cuts_of : List Token → List ℕ
 cuts_of [] = []
 cuts_of (Cut number ∷ later) = number ∷ cuts_of later
 cuts_of (Advance turn reach ∷ later) = cuts_of later
+
+-- a cut is reached behind some tokens, before which one was or not
+abbrev pub cut_behind : Bool → List Token → Bool
+cut_behind cut [] = cut
+cut_behind cut (Cut number ∷ later) = cut_behind true later
+cut_behind cut (Advance turn reach ∷ later) = cut_behind cut later
 
 -- a bench that was armed with these numbers, one after another
 abbrev pub armed_by : List ℕ → BenchState → BenchState

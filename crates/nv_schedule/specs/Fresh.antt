@@ -18,13 +18,14 @@ abbrev pub IsFreshWork : Work → Type 0
 IsFreshWork (Calls thread) = (thread.hand ≡ None) × (thread.made ≡ []) × (thread.begun ≡ false)
 IsFreshWork (Batches cleaner) = cleaner.machine ≡ None
 
--- Its pass is the next one behind so many, has no event and has made no call yet, and is between calls.
+-- It has begun nothing. Its pass is the next one behind so many, has no event and has made no call yet, and is between calls.
 pub record IsFresh (mount : MountState) (passes : ℕ) (caller : CallerState) : Type 0 where
   pub board : IsOf mount.board caller.pass
   pub number : number_of caller ≡ passes + 1
   pub unborn : own (number_of caller) (run_of caller) ≡ []
   pub uncalled : (pass_of caller.pass.view).mine ≡ []
   pub idle : IsIdle caller.pass
+  pub fresh : IsFreshWork caller.work
   pub come : HasCome mount.fds caller.work caller.pass caller.pass
 
 -- Some callers are fresh, each by the pass behind as many as its place.

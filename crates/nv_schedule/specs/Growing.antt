@@ -1,5 +1,5 @@
 -- Growing: what advances add to what each caller's pass has in the run.
-use Rattle.std.specs.Prelude.{◌≡◌, ◌≢◌, ℕ, ◌<◌, List, [], ◌++◌, length, slice_index_or}
+use Rattle.std.specs.Prelude.{◌≡◌, ◌≢◌, ℕ, ◌<◌, Bool, List, [], ◌++◌, length, slice_index_or}
 use Rattle.nv_core.specs.steps.Events.{Event, own}
 use Rattle.nv_mount.specs.declared.fds.Fd.{Fd}
 use Rattle.nv_schedule.specs.Following.{Follows}
@@ -29,7 +29,7 @@ pub record GrowBy (old new : List CallerState) (trail : List Event) : Type 0 whe
 -- So do they by a schedule that they follow, where no two of them have one pass.
 abbrev pub SchedulesGrow : Type 0
 SchedulesGrow =
-    (fds : List Fd) (tokens : List Token) (callers : List CallerState) (trail : List Event) (then_ : List CallerState) → AreApart callers → Follows fds tokens callers trail then_ → GrowBy callers then_ trail
+    (fds : List Fd) (cut : Bool) (tokens : List Token) (callers : List CallerState) (trail : List Event) (then_ : List CallerState) → AreApart callers → Follows fds cut tokens callers trail then_ → GrowBy callers then_ trail
 
 -- Where such events stand in a run in their order, and each pass has no other deeds in it, they are its deeds, one after another, with no event between.
 abbrev pub TrailsAreDeeds : Type 0

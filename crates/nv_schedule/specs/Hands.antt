@@ -1,5 +1,5 @@
 -- Hands: what a thread has at hand of its present call, and the next step of that.
-use Rattle.std.specs.Prelude.{◌≡◌, ◌⊎◌, ℕ, List, [], length}
+use Rattle.std.specs.Prelude.{◌≡◌, ◌⊎◌, ℕ, Bool, false, List, [], length}
 use Rattle.nv_core.specs.state.Words.{Sizes}
 use Rattle.nv_table.specs.state.States.{PassState}
 use Rattle.nv_mount.specs.declared.fds.Fd.{Fd}
@@ -19,6 +19,7 @@ use Rattle.nv_trace.specs.declared.trace_call.TraceCall.{TraceCall}
 use Rattle.nv_trace.specs.declared.trace_call.TraceCall.TheVariants.{Pread, Pwrite, Fsync}
 use Rattle.nv_schedule.specs.declared.hand.Hand.{Hand}
 use Rattle.nv_schedule.specs.declared.hand.Hand.TheVariants.{Reading, Writing, Syncing}
+use Rattle.nv_schedule.specs.Faults.{some_failed}
 use Rattle.nv_schedule.specs.Tries.{IsTryOver}
 
 -- the kind of the next step of a call that is under way
@@ -38,9 +39,9 @@ abbrev pub list_at_hand : Hand → List ℕ
 list_at_hand (Reading read) = read.list.items
 list_at_hand hand = []
 
--- a pass has made one step, behind the device calls that lie before it, or none
-abbrev pub IsOneOrNoStep : (old new : PassState) → Type 0
-IsOneOrNoStep old new = (new ≡ old) ⊎ ((step : PassStep) × HasTaken step old new)
+-- A pass has made one step, behind the device calls that lie before it, or none. Where no device call had failed in the present call before, this says whether one of these has.
+abbrev pub IsOneOrNoStep : (was faulted : Bool) → (old new : PassState) → Type 0
+IsOneOrNoStep was faulted old new = ((new ≡ old) × (faulted ≡ was)) ⊎ ((step : PassStep) × HasTaken step old new × (was ≡ false → some_failed step.works ≡ faulted))
 
 -- A call is tried: it is under way since a start, at which its pass was idle.
 abbrev pub IsTrying : List Fd → TraceCall → Hand → (begun now : PassState) → Type 0

@@ -1,5 +1,7 @@
 pub mod Callers
 pub mod Cuts
+pub mod Faulted
+pub mod Faults
 pub mod Following
 pub mod Fresh
 pub mod Growing
@@ -12,3 +14,4 @@ pub mod Scheduled
 pub mod Told
 pub mod Tries
 pub mod Turns
+pub mod Uncut

@@ -26,7 +26,7 @@ use Rattle.nv_schedule.specs.Turns.{CallerState, HasCome}
 use Rattle.nv_schedule.specs.declared.caller.Work.{Work}
 use Rattle.nv_schedule.specs.declared.caller.Work.TheVariants.{Calls, Batches}
 use Rattle.nv_schedule.specs.declared.schedule_error.ScheduleError.{ScheduleError}
-use Rattle.nv_schedule.specs.declared.schedule_error.ScheduleError.TheVariants.{NoMemory, TurnsUsed}
+use Rattle.nv_schedule.specs.declared.schedule_error.ScheduleError.TheVariants.{Fault, NoMemory, TurnsUsed}
 use Rattle.nv_schedule.specs.declared.scheduled.ScheduledCalls.{ScheduledCalls}
 
 -- ---- pass 0 meanwhile
@@ -95,7 +95,7 @@ abbrev pub AreAllTold : List Fd → (first then_ : List CallerState) → List An
 AreAllTold fds first then_ history =
     (i : ℕ) (d : CallerState) → i < length first → IsToldOf fds (number_of (slice_index_or first i d)) (slice_index_or then_ i d) (slice_index_or first i d).pass history
 
--- The callers of a trace's calls, which had begun nothing, followed a schedule: by the whole of it, or up to a token that used up its advances. Then the deeds of the whole run are theirs, in the order of the
+-- The callers of a trace's calls, which had begun nothing, followed a schedule: by the whole of it, or up to a token that used up its advances, or in whose last one a device call has failed before any cut. Then the deeds of the whole run are theirs, in the order of the
 -- tokens, one after another with no event between. Their passes were taken in as they stood, and their calls are those of the history; pass 0 has made none.
 pub record HasFollowed (mount : MountState) (tokens : List Token) (calls : List TracedCall) (batch : ℕ) (done : Result (Unit {0}) ScheduleError) (then_ : List CallerState) (zero : PassState) : Type 0 where
   pub first : List CallerState
@@ -110,13 +110,14 @@ pub record HasFollowed (mount : MountState) (tokens : List Token) (calls : List 
   pub told : AreAllTold mount.fds first then_ (history_then zero.view)
   pub none : (pass_of zero.view).mine ≡ []
 
--- What is answered: the calls that were begun; or that a token has used up its advances. The bench was armed at each cut that was reached: all of them, or those before that token. Where memory is wanting
--- some first tokens were reached, and nothing else is told.
+-- What is answered: the calls that were begun; or that a token has used up its advances, or that a device call has failed before any cut. The bench was armed at each cut that was reached: all of them, or those
+-- before the token that used up its advances, or none. Where memory is wanting some first tokens were reached, and nothing else is told.
 abbrev pub HasTold : MountState → List Token → (calls : List TracedCall) → (batch : ℕ) → (zero : PassState) → (bench armed : BenchState) → Result ScheduledCalls ScheduleError → Type 0
 HasTold mount tokens calls batch zero bench armed (Ok told) =
     (then_ : List CallerState) × HasFollowed mount tokens calls batch (Ok tt) then_ zero × AreCallsOf then_ told × IsCutBy tokens bench armed
 HasTold mount tokens calls batch zero bench armed (Err TurnsUsed) =
     (then_ : List CallerState) × (followed : HasFollowed mount tokens calls batch (Err TurnsUsed) then_ zero) × IsCutBy followed.ran.before bench armed
+HasTold mount tokens calls batch zero bench armed (Err Fault) = (then_ : List CallerState) × HasFollowed mount tokens calls batch (Err Fault) then_ zero × (armed ≡ bench)
 HasTold mount tokens calls batch zero bench armed (Err NoMemory) = IsCutBySome tokens bench armed
 
 -- A schedule over a new mount has come to this, whatever it is answered: the mount is the same, with the same parts.

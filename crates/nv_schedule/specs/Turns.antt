@@ -1,5 +1,5 @@
 -- Turns: one advance of a caller.
-use Rattle.std.specs.Prelude.{◌≡◌, ◌⊎◌, ℕ, Bool, List, [], Option, Some}
+use Rattle.std.specs.Prelude.{◌≡◌, ◌⊎◌, ℕ, Bool, false, List, [], Option, Some}
 use Rattle.nv_core.specs.state.Words.{Sizes}
 use Rattle.nv_core.specs.steps.Events.{Event}
 use Rattle.nv_table.specs.state.States.{PassState}
@@ -9,8 +9,11 @@ use Rattle.nv_mount.specs.declared.fds.Fd.{Fd}
 use Rattle.nv_op.specs.declared.kinds.Kind.{Kind}
 use Rattle.nv_mirror.specs.PassSteps.{PassStep, HasTaken}
 use Rattle.nv_schedule.specs.Callers.{BatchEnds, CallEnds, CleanerHasCome, ThreadHasCome, kind_at_batch, next_of_calls}
+use Rattle.nv_schedule.specs.Faulted.{batch_faulted, hand_faulted}
+use Rattle.nv_schedule.specs.Faults.{some_fails}
 use Rattle.nv_schedule.specs.declared.caller.Work.{Work}
 use Rattle.nv_schedule.specs.declared.caller.Work.TheVariants.{Calls, Batches}
+use Rattle.nv_schedule.specs.declared.turned.Turned.{Turned}
 
 -- a thread or the cleaner, with its pass
 pub record CallerState : Type 0 where
@@ -49,3 +52,14 @@ pub record HasTurned (fds : List Fd) (answered : Bool) (events : List Event) (ol
   pub moved : MovesBy events old.pass new.pass
   pub ends : WorkEnds answered old.work new.work
   pub come : (start : PassState) → HasCome fds old.work start old.pass → HasCome fds new.work start new.pass
+
+-- a device call has failed in what a caller does at present
+abbrev pub has_faulted : Work → Bool
+has_faulted (Calls thread) = hand_faulted thread.hand
+has_faulted (Batches cleaner) = batch_faulted cleaner.machine
+
+-- So it tells: whether the call was answered; and, where no device call had failed in what its caller does at present, whether one has now, and that none has so far, if so.
+pub record TurnTells (fds : List Fd) (turned : Turned) (events : List Event) (old new : CallerState) : Type 0 where
+  pub turn : HasTurned fds turned.answered events old new
+  pub failed : has_faulted old.work ≡ false → some_fails events ≡ turned.faulted
+  pub none : turned.faulted ≡ false → has_faulted new.work ≡ false

@@ -1,9 +1,11 @@
 //! The cleaner of a schedule: batches, one after another.
-ghost use Rattle.std.specs.Prelude.{◌≡◌, None, Some};
+ghost use Rattle.std.specs.Prelude.{◌≡◌, None, Some, false};
 ghost use Rattle.nv_table.specs.state.States.{IsOf, PassState};
 ghost use Rattle.nv_schedule.specs.Callers.{BatchEnds, CleanerHasCome, kind_at_batch};
+ghost use Rattle.nv_schedule.specs.Faulted.{batch_faulted};
 ghost use Rattle.nv_schedule.specs.Hands.{IsOneOrNoStep};
 
+use crate::turned::Turned;
 use nv_calls::Kind;
 use nv_clean::{CleanMachine, CleanProgress};
 use nv_mount::Mount;
@@ -41,6 +43,7 @@ impl Batches {
     // The present batch, or the next one where there is none.
     fn take_up(&mut self) -> CleanMachine
         ensures none { self.new ≡ record { most = self.old.most; machine = None } }
+        ensures faulted { batch_faulted (Some result) ≡ batch_faulted self.old.machine }
         ensures come { (start now : PassState) → CleanerHasCome self.old start now → CleanerHasCome (record { most = self.old.most; machine = Some result }) start now }
     {
         match self.machine.take() {
@@ -49,27 +52,31 @@ impl Batches {
         }
     }
 
-    /// Makes the next step of the present batch, or the first one of the next batch where there is none. Whether it was the batch's last one.
+    /// Makes the next step of the present batch, or the first one of the next batch where there is none. The batch is answered by its last one.
     pub(crate) fn turn<L: Lines + Drop, B: Backing + Drop>(
         &mut self,
         mount: &Mount<L, B>,
         pass: &mut Pass<L, B>,
-    ) -> bool
+    ) -> Turned
         requires board { IsOf mount.now.board pass.old }
         requires come { (start : PassState) × CleanerHasCome self.old start pass.old }
         ensures board { IsOf mount.now.board pass.new }
         ensures most { self.new.most ≡ self.old.most }
-        ensures moved { IsOneOrNoStep pass.old pass.new }
-        ensures ends { BatchEnds result self.new.machine }
+        ensures moved { IsOneOrNoStep (batch_faulted self.old.machine) result.faulted pass.old pass.new }
+        ensures none { result.faulted ≡ false → batch_faulted self.new.machine ≡ false }
+        ensures ends { BatchEnds result.answered self.new.machine }
         ensures come { (start : PassState) → CleanerHasCome self.old start pass.old → CleanerHasCome self.new start pass.new }
     {
         let mut machine = self.take_up();
-        match machine.advance(mount, pass) {
+        let progress = machine.advance(mount, pass);
+        let faulted = machine.faulted();
+        let answered = match progress {
             CleanProgress::More => {
                 self.machine = Some(machine);
                 false
             }
             CleanProgress::Ended(_) => true,
-        }
+        };
+        Turned { answered, faulted }
     }
 }

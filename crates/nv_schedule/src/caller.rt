@@ -4,10 +4,11 @@ ghost use Rattle.nv_core.specs.steps.Events.{Event};
 ghost use Rattle.nv_table.specs.state.States.{IsOf, PassState};
 ghost use Rattle.nv_table.specs.state.Workspaces.{IsWorkspace};
 ghost use Rattle.nv_schedule.specs.Orders.{ComeBehind};
-ghost use Rattle.nv_schedule.specs.Turns.{HasCome, HasTurned, next_kind_of};
+ghost use Rattle.nv_schedule.specs.Turns.{HasCome, TurnTells, next_kind_of};
 
 use crate::batches::Batches;
 use crate::thread::Thread;
+use crate::turned::Turned;
 use nv_calls::Kind;
 use nv_mount::Mount;
 use nv_plain::NoMemory;
@@ -49,20 +50,20 @@ impl<'a, L: Lines + Drop, B: Backing + Drop> Caller<'a, L, B> {
         }
     }
 
-    /// Makes its next step. Whether its present call was answered by it. Where memory is wanting nothing was done.
+    /// Makes its next step. Where memory is wanting nothing was done.
     pub(crate) fn turn(
         &mut self,
         alloc: Global,
         mount: &Mount<L, B>,
         workspace: &mut Workspace<L, B>,
-    ) -> Result<bool, NoMemory>
+    ) -> Result<Turned, NoMemory>
         requires some { next_kind_of self.old ≢ None }
         requires board { IsOf mount.now.board self.old.pass }
         requires come { (start : PassState) × HasCome mount.now.fds self.old.work start self.old.pass }
         requires workspace { IsWorkspace mount.now.board.opened.sizes workspace.old }
         requires bare { workspace.old.parts.items ≡ [] }
         ensures board { IsOf mount.now.board self.new.pass }
-        ensures turned { IfOk result (λ answered. (events : List Event) × HasTurned mount.now.fds answered events self.old self.new) }
+        ensures turned { IfOk result (λ turned. (events : List Event) × TurnTells mount.now.fds turned events self.old self.new) }
         ensures workspace { IsWorkspace mount.now.board.opened.sizes workspace.new }
         ensures bare { workspace.new.parts.items ≡ [] }
         ensures memory { OnErr result (self.new ≡ self.old) }
@@ -80,7 +81,7 @@ impl<'a, L: Lines + Drop, B: Backing + Drop> Caller<'a, L, B> {
         mount: &Mount<L, B>,
         workspace: &mut Workspace<L, B>,
         view: ExportedView<L, B>,
-    ) -> (ExportedView<L, B>, Result<bool, NoMemory>)
+    ) -> (ExportedView<L, B>, Result<Turned, NoMemory>)
         requires some { next_kind_of self.old ≢ None }
         requires board { IsOf mount.now.board self.old.pass }
         requires come { (start : PassState) × HasCome mount.now.fds self.old.work start self.old.pass }
@@ -88,7 +89,7 @@ impl<'a, L: Lines + Drop, B: Backing + Drop> Caller<'a, L, B> {
         requires bare { workspace.old.parts.items ≡ [] }
         requires view { view.table ≡ mount.now.board.table }
         ensures board { IsOf mount.now.board self.new.pass }
-        ensures turned { IfOk result.1 (λ answered. (events : List Event) × HasTurned mount.now.fds answered events self.old self.new × ComeBehind events view.run result.0.run) }
+        ensures turned { IfOk result.1 (λ turned. (events : List Event) × TurnTells mount.now.fds turned events self.old self.new × ComeBehind events view.run result.0.run) }
         ensures workspace { IsWorkspace mount.now.board.opened.sizes workspace.new }
         ensures bare { workspace.new.parts.items ≡ [] }
         ensures view { result.0.table ≡ mount.now.board.table }

@@ -1,15 +1,18 @@
 //! What a thread has at hand of its present call.
-ghost use Rattle.std.specs.Prelude.{◌≡◌, List, [], IfOk, length};
+ghost use Rattle.std.specs.Prelude.{◌≡◌, List, [], IfOk, None, is_some, length};
 ghost use Rattle.nv_core.specs.state.Words.{Sizes};
 ghost use Rattle.nv_table.specs.invariant.Idle.{IsIdle};
 ghost use Rattle.nv_table.specs.state.States.{IsOf, PassState};
 ghost use Rattle.nv_table.specs.state.Workspaces.{IsWorkspace};
-ghost use Rattle.nv_calls.specs.reads.ReadMachines.{IsReadUnderWay, IsSameRead, ReadGoes};
+ghost use Rattle.nv_calls.specs.calls.Advances.{IsOneOrNone};
+ghost use Rattle.nv_calls.specs.reads.ReadMachines.{IsReadUnderWay, IsSameRead, ReadGoes, early_of, standing};
 ghost use Rattle.nv_mount.specs.declared.fds.Fd.{Fd};
+ghost use Rattle.nv_schedule.specs.Faulted.{fault_at_hand};
 ghost use Rattle.nv_schedule.specs.Hands.{IsOneOrNoStep, IsTrying, TryGoes, kind_at_hand, list_at_hand};
 ghost use Rattle.nv_schedule.specs.Listed.{ends_by_fault, has_drawn, told_at_hand};
 
 use nv_calls::{Kind, Progress, ReadMachine, Refusal, SyncMachine, WriteControl, WriteMachine};
+use nv_core::{passes_are_left_alone, runs_are_sound};
 use nv_mirror::{FrontControl, FrontMachine};
 use nv_mount::Mount;
 use nv_plain::{Bytes, NoMemory, Reply};
@@ -38,7 +41,7 @@ impl ReadAtHand {
         requires board { IsOf mount.now.board pass.old }
         requires under_way { (begun : PassState) × IsReadUnderWay mount.now.fds self.old.machine self.old.list.items begun pass.old }
         ensures board { IsOf mount.now.board pass.new }
-        ensures moved { IsOneOrNoStep pass.old pass.new }
+        ensures one { IsOneOrNone (standing pass.old.view.opened.sizes) (early_of pass.old.view.opened.sizes mount.now.fds self.old.machine) self.old.machine self.new.machine pass.old pass.new result }
         ensures same { IsSameRead self.old.machine self.new.machine }
         ensures goes { (begun : PassState) → IsReadUnderWay mount.now.fds self.old.machine self.old.list.items begun pass.old
             → ReadGoes mount.now.fds begun self.new.machine self.new.list.items pass.new result }
@@ -83,7 +86,8 @@ fn has_drawn(machine: &WriteMachine) -> bool
 impl Hand {
     /// The machine of a call, which has made no step yet.
     pub(crate) fn new(alloc: Global, call: &TraceCall) -> Result<Hand, NoMemory>
-        ensures { IfOk result (λ hand. (fds : List Fd) (now : PassState) → IsIdle now → IsTrying fds call.now hand now now) }
+        ensures trying { IfOk result (λ hand. (fds : List Fd) (now : PassState) → IsIdle now → IsTrying fds call.now hand now now) }
+        ensures fault { IfOk result (λ hand. fault_at_hand hand ≡ None) }
     {
         Ok(match call {
             TraceCall::Pread { fd, at, len } => Hand::Reading(ReadAtHand {
@@ -149,6 +153,17 @@ impl Hand {
         }
     }
 
+    /// Whether a device call has failed in the present try of the call.
+    pub(crate) fn faulted(&self) -> bool
+        ensures { result ≡ is_some (fault_at_hand self.now) }
+    {
+        match self {
+            Hand::Reading(read) => read.machine.faulted(),
+            Hand::Writing(machine) => machine.faulted(),
+            Hand::Syncing(machine) => machine.faulted(),
+        }
+    }
+
     /// Makes the next step of the call, after the device calls that lie before it, or none where the call is refused by what it asks for.
     pub(crate) fn advance<L: Lines + Drop, B: Backing + Drop>(
         &mut self,
@@ -162,11 +177,14 @@ impl Hand {
         requires workspace { IsWorkspace mount.now.board.opened.sizes workspace.old }
         requires bare { workspace.old.parts.items ≡ [] }
         ensures board { IsOf mount.now.board pass.new }
-        ensures moved { IsOneOrNoStep pass.old pass.new }
+        ensures moved { IsOneOrNoStep (is_some (fault_at_hand self.old)) (is_some (fault_at_hand self.new)) pass.old pass.new }
         ensures goes { (begun : PassState) → IsTrying mount.now.fds call.now self.old begun pass.old → TryGoes mount.now.fds call.now self.new begun pass.new result }
         ensures workspace { IsWorkspace mount.now.board.opened.sizes workspace.new }
         ensures bare { workspace.new.parts.items ≡ [] }
     {
+        runs_are_sound();
+        passes_are_left_alone();
+        pass.sees_a_run();
         match self {
             Hand::Reading(read) => read.advance(mount, pass),
             Hand::Writing(machine) => {

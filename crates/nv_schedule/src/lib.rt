@@ -13,8 +13,9 @@ mod schedule_error;
 mod scheduled;
 mod thread;
 mod tokens;
+mod turned;
 
-pub use laws::schedules_are_the_deeds;
+pub use laws::{schedules_are_the_deeds, uncut_schedules_meet_no_fault};
 pub use running::run_schedule;
 pub use schedule_error::ScheduleError;
 pub use scheduled::{Scheduled, ScheduledCalls};

@@ -11,6 +11,9 @@ pub enum ScheduleError {
     /// A token has made as many advances as one may, and none of them came to its point.
     #[error("turns used up")]
     TurnsUsed,
+    /// A device call has failed, and no cut had been reached.
+    #[error("a device failed")]
+    Fault,
 }
 
 impl From<NoMemory> for ScheduleError {

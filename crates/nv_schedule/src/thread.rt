@@ -1,5 +1,5 @@
 //! A thread of a schedule: its calls, one after another.
-ghost use Rattle.std.specs.Prelude.{◌≡◌, ◌≢◌, ◌∷◌, false, List, [], Option, None, Some, IfOk, OnErr, OnOk, length, take};
+ghost use Rattle.std.specs.Prelude.{◌≡◌, ◌≢◌, ◌∷◌, false, List, [], Option, None, Some, IfOk, OnErr, OnOk, is_some, length, take};
 ghost use Rattle.nv_core.specs.state.Words.{Sizes};
 ghost use Rattle.nv_mount.specs.declared.fds.Fd.{Fd};
 ghost use Rattle.nv_table.specs.invariant.Drawn.{drawn_by};
@@ -9,10 +9,12 @@ ghost use Rattle.nv_table.specs.state.Workspaces.{IsWorkspace};
 ghost use Rattle.nv_runner.specs.Shifts.{calls_of_thread};
 ghost use Rattle.nv_trace.specs.declared.trace_call.TracedCall.{TracedCall as AnyTraced};
 ghost use Rattle.nv_schedule.specs.Callers.{CallEnds, CallGoes, IsAtCall, IsAtOwn, ThreadHasCome, next_of_calls};
+ghost use Rattle.nv_schedule.specs.Faulted.{fault_at_hand, hand_faulted};
 ghost use Rattle.nv_schedule.specs.Hands.{IsOneOrNoStep, kind_at_first, list_at_hand};
 ghost use Rattle.nv_schedule.specs.Tries.{answer_of, begins_anew, refused_answer, reply_to};
 
 use crate::hand::Hand;
+use crate::turned::Turned;
 use nv_calls::{Done, Kind, Progress, Refusal, refused_writes_leave_words};
 use nv_mount::Mount;
 use nv_plain::{Bytes, NoMemory, Reply};
@@ -154,7 +156,7 @@ impl<'a> Thread<'a> {
         })
     }
 
-    /// Makes the next step of its present call, which begins by it where it hasn't begun, or none where that is refused by what it asks for. Whether the call was answered by it: a read that has found a
+    /// Makes the next step of its present call, which begins by it where it hasn't begun, or none where that is refused by what it asks for. It tells whether the call was answered by it: a read that has found a
     /// lock held begins anew, and so does a write that has, or whose numbers another one drew. Where memory is wanting, for a read's bytes or for the answer, nothing was done.
     pub(crate) fn turn<L: Lines + Drop, B: Backing + Drop>(
         &mut self,
@@ -162,15 +164,16 @@ impl<'a> Thread<'a> {
         mount: &Mount<L, B>,
         pass: &mut Pass<L, B>,
         workspace: &mut Workspace<L, B>,
-    ) -> Result<bool, NoMemory>
+    ) -> Result<Turned, NoMemory>
         requires some { self.old.left ≢ [] }
         requires board { IsOf mount.now.board pass.old }
         requires come { (start : PassState) × ThreadHasCome mount.now.fds self.old start pass.old }
         requires workspace { IsWorkspace mount.now.board.opened.sizes workspace.old }
         requires bare { workspace.old.parts.items ≡ [] }
         ensures board { IsOf mount.now.board pass.new }
-        ensures moved { IsOneOrNoStep pass.old pass.new }
-        ensures ends { IfOk result (λ answered. CallEnds answered self.old self.new) }
+        ensures moved { IfOk result (λ turned. IsOneOrNoStep (hand_faulted self.old.hand) turned.faulted pass.old pass.new) }
+        ensures none { IfOk result (λ turned. turned.faulted ≡ false → hand_faulted self.new.hand ≡ false) }
+        ensures ends { IfOk result (λ turned. CallEnds turned.answered self.old self.new) }
         ensures come { OnOk result ((start : PassState) → ThreadHasCome mount.now.fds self.old start pass.old → ThreadHasCome mount.now.fds self.new start pass.new) }
         ensures workspace { IsWorkspace mount.now.board.opened.sizes workspace.new }
         ensures bare { workspace.new.parts.items ≡ [] }
@@ -180,22 +183,24 @@ impl<'a> Thread<'a> {
             unreachable!()
         };
         self.answered.reserve(1)?;
-        match advance_call(alloc, mount, pass, workspace, call, &mut self.hand)? {
+        let (answer, faulted) = advance_call(alloc, mount, pass, workspace, call, &mut self.hand)?;
+        let answered = match answer {
             None => {
                 self.begun = true;
-                Ok(false)
+                false
             }
             Some(answer) => {
                 self.answered.push_reserved(AnsweredCall { call, answer });
                 self.left = from_own(later, self.number);
                 self.begun = false;
-                Ok(true)
+                true
             }
-        }
+        };
+        Ok(Turned { answered, faulted })
     }
 }
 
-// Makes the next step of a call, of which this is at hand: what it is answered, where that was its last one, and it doesn't begin anew. Where memory is wanting nothing was done.
+// Makes the next step of a call, of which this is at hand: what it is answered, where that was its last one, and it doesn't begin anew; and whether a device call has failed in this try. Where memory is wanting nothing was done.
 fn advance_call<L: Lines + Drop, B: Backing + Drop>(
     alloc: Global,
     mount: &Mount<L, B>,
@@ -203,15 +208,16 @@ fn advance_call<L: Lines + Drop, B: Backing + Drop>(
     workspace: &mut Workspace<L, B>,
     call: &TracedCall,
     hand: &mut Option<Hand>,
-) -> Result<Option<Answer>, NoMemory>
+) -> Result<(Option<Answer>, bool), NoMemory>
     requires board { IsOf mount.now.board pass.old }
     requires at { (later : List AnyTraced) × (last : PassState) × IsAtCall mount.now.fds (call.now ∷ later) hand.old last pass.old }
     requires workspace { IsWorkspace mount.now.board.opened.sizes workspace.old }
     requires bare { workspace.old.parts.items ≡ [] }
     ensures board { IsOf mount.now.board pass.new }
-    ensures moved { IsOneOrNoStep pass.old pass.new }
-    ensures goes { IfOk result (λ answer. (later : List AnyTraced) (last : PassState) → IsAtCall mount.now.fds (call.now ∷ later) hand.old last pass.old
-        → CallGoes mount.now.fds call.now later hand.new last pass.new answer) }
+    ensures moved { IfOk result (λ told. IsOneOrNoStep (hand_faulted hand.old) told.1 pass.old pass.new) }
+    ensures none { IfOk result (λ told. told.1 ≡ false → hand_faulted hand.new ≡ false) }
+    ensures goes { IfOk result (λ told. (later : List AnyTraced) (last : PassState) → IsAtCall mount.now.fds (call.now ∷ later) hand.old last pass.old
+        → CallGoes mount.now.fds call.now later hand.new last pass.new told.0) }
     ensures workspace { IsWorkspace mount.now.board.opened.sizes workspace.new }
     ensures bare { workspace.new.parts.items ≡ [] }
     ensures memory { OnErr result ((hand.new ≡ hand.old) × (pass.new ≡ pass.old)) }
@@ -219,17 +225,20 @@ fn advance_call<L: Lines + Drop, B: Backing + Drop>(
     refused_writes_leave_words();
     pass.sees_a_run();
     let mut tried = take_up(alloc, hand, call)?;
-    match tried.advance(mount, pass, workspace, &call.call) {
+    let progress = tried.advance(mount, pass, workspace, &call.call);
+    let faulted = tried.faulted();
+    match progress {
         Progress::More => {
             *hand = Some(tried);
-            Ok(None)
+            Ok((None, faulted))
         }
         Progress::Ended(ended) => {
             if anew(&call.call, ended) {
-                return Ok(None);
+                return Ok((None, faulted));
             }
             let list = tried.into_list(alloc);
-            Ok(Some(answer(&call.call, list, ended, pass.drawn())))
+            let answer = answer(&call.call, list, ended, pass.drawn());
+            Ok((Some(answer), faulted))
         }
     }
 }
@@ -238,6 +247,7 @@ fn advance_call<L: Lines + Drop, B: Backing + Drop>(
 fn take_up(alloc: Global, hand: &mut Option<Hand>, call: &TracedCall) -> Result<Hand, NoMemory>
     ensures taken { IfOk result (λ taken. (fds : List Fd) (later : List AnyTraced) (last now : PassState) → IsAtCall fds (call.now ∷ later) hand.old last now → IsAtCall fds (call.now ∷ later) (Some taken) last now) }
     ensures none { OnOk result (hand.new ≡ None) }
+    ensures faulted { IfOk result (λ taken. is_some (fault_at_hand taken) ≡ hand_faulted hand.old) }
     ensures memory { OnErr result (hand.new ≡ hand.old) }
 {
     match hand.take() {

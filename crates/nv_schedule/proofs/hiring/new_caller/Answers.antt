@@ -32,6 +32,7 @@ returns-clause-caller g c =
         unborn = c.newcomers_begin_behind.ensures.unborn old new other made;
         uncalled = ap (λ (p : PassState). (pass_of p.view).mine) made.child_is ∙ ap (λ (p : Pass). p.mine) made.fresh;
         idle = (c.passes_stay_between_calls.ensures.split old new other made c.requires.zero.idle).1;
+        fresh = c.requires.fresh;
         come = fresh_come c.args.mount.now.fds c.args.work other c.requires.fresh (c.passes_stay_between_calls.ensures.split old new other made c.requires.zero.idle).1;
       },
       refl,

@@ -1,21 +1,24 @@
 -- What the callers followed stands in the run that pass 0 is told.
-use Rattle.std.proofs.Common.{◌≡◌, List, length, sym, ap, subst, ◌∙◌, rules}
+use Rattle.std.proofs.Common.{◌≡◌, false, List, length, sym, ap, subst, ◌∙◌, rules}
 use Rattle.std.specs.Prelude.{All}
 use Rattle.nv_table.specs.state.States.{PassState}
 use Rattle.nv_table.specs.passes.PassesMade.{imported_by}
 use Rattle.nv_table.specs.state.Views.{made_of}
 use Rattle.nv_runner.specs.Workers.{IsZero}
-use Rattle.nv_schedule.specs.Following.{ScheduleTells, Stands}
+use Rattle.nv_schedule.specs.Following.{IsWell, ScheduleTells, Stands}
 use Rattle.nv_schedule.specs.Ran.{RunTells}
 use Rattle.nv_schedule.specs.Scheduled.{IsAside}
 use Rattle.nv_schedule.specs.Turns.{CallerState}
 use Rattle.nv_schedule.proofs.EndLaws.{aside_on, told_aside}
-use Rattle.nv_schedule.proofs.RanLaws.{fresh_stand, run_tells, written_whole, zero_told}
+use Rattle.nv_schedule.proofs.RanLaws.{fresh_stand, fresh_well, run_tells, written_whole, zero_told}
 use Rattle.nv_schedule.proofs.running.run_on.Goals as goal
 
 pub follow-after-requires-clause-stand : goal.follow-after-requires-clause-stand
 follow-after-requires-clause-stand g c κs within =
     subst (All (Stands c.args.mount.now)) (sym c.as_mut_slice.ensures.value) (fresh_stand c.args.mount.now c.hire.new.callers.items c.hire.ensures.fresh)
+
+pub follow-after-requires-clause-well : goal.follow-after-requires-clause-well
+follow-after-requires-clause-well g c κs within = subst (All IsWell) (sym c.as_mut_slice.ensures.value) (fresh_well c.args.mount.now c.hire.new.callers.items c.hire.ensures.fresh)
 
 pub returns-clause-tells : goal.returns-clause-tells
 returns-clause-tells g c =
@@ -28,7 +31,7 @@ returns-clause-tells g c =
     let size : length then_ ≡ length c.hire.new.callers.items = c.follow-after.auto.callers ∙ ap length c.as_mut_slice.ensures.value in
     let bench = g.D.Bench.state c.args.bench.now in
     let armed = g.D.Bench.state c.follow-after.new.bench in
-    let tells = subst (λ (first : List CallerState). ScheduleTells mount.fds tokens first then_ c.export_view-view.result.run c.follow-after.result.0.run bench armed done) c.as_mut_slice.ensures.value c.follow-after.ensures.tells in
+    let tells = subst (λ (first : List CallerState). ScheduleTells mount.fds false tokens first then_ c.export_view-view.result.run c.follow-after.result.0.run bench armed done) c.as_mut_slice.ensures.value c.follow-after.ensures.tells in
     subst (λ (callers : List CallerState). RunTells mount tokens calls c.args.batch callers c.import_view.new.to bench armed done) (sym (written_whole c.hire.new.callers.len c.hire.new.callers.items then_ len size))
     (subst (λ (zero : PassState). RunTells mount tokens calls c.args.batch then_ zero bench armed done) (sym c.import_view.ensures.to)
     (run_tells mount tokens calls c.args.batch c.hire.new.callers.items then_ c.export_view-view.new.from c.export_view-view.result.run c.follow-after.result.0.run bench armed done c.in_ok-hire.ensures.fresh c.in_ok-hire.ensures.works tells))

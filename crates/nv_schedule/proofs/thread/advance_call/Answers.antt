@@ -10,15 +10,15 @@ use Rattle.nv_schedule.specs.Tries.{answer_of}
 use Rattle.nv_schedule.proofs.WayLaws.{of_trying, over_idle, tried_more}
 use Rattle.nv_schedule.proofs.thread.advance_call.Goals as goal
 
-pub advance-requires-clause-trying : goal.advance-requires-clause-trying
-advance-requires-clause-trying g c =
+pub advance-progress-requires-clause-trying : goal.advance-progress-requires-clause-trying
+advance-progress-requires-clause-trying g c =
     let t = c.in_ok-tried.ensures.taken c.args.mount.now.fds c.requires.at.0 c.requires.at.1 c.args.pass.now c.requires.at.2 in
     (t.0, t.2)
 
 pub returns-in-More-clause-goes : goal.returns-in-More-clause-goes
 returns-in-More-clause-goes g c = λ later last at.
     let t = c.in_ok-tried.ensures.taken c.args.mount.now.fds later last c.args.pass.now at in
-    (t.0, t.1, subst (TryGoes c.args.mount.now.fds c.args.call.now.call c.advance.new.self t.0 c.advance.new.pass) c.in-More.is (c.advance.ensures.goes t.0 t.2))
+    (t.0, t.1, subst (TryGoes c.args.mount.now.fds c.args.call.now.call c.advance-progress.new.self t.0 c.advance-progress.new.pass) c.in-More.is (c.advance-progress.ensures.goes t.0 t.2))
 
 pub returns-then-anew-clause-goes : goal.returns-then-anew-clause-goes
 returns-then-anew-clause-goes g c = λ later last at.
@@ -26,11 +26,11 @@ returns-then-anew-clause-goes g c = λ later last at.
     let call = c.args.call.now.call in
     let t = c.in_ok-tried.ensures.taken fds later last c.args.pass.now at in
     let way = of_trying fds call c.in_ok-tried.tried t.0 c.args.pass.now t.2 in
-    let over = subst (TryGoes fds call c.advance.new.self t.0 c.advance.new.pass) c.in-Ended.is (c.advance.ensures.goes t.0 t.2) in
-    subst (λ (hand : Option Hand). IsAtCall fds (c.args.call.now ∷ later) hand last c.advance.new.pass) (sym c.in_ok-tried.ensures.none) (
-      tried_more c.refused_writes_leave_words.ensures fds call (list_at_hand c.advance.new.self) last t.0 c.advance.new.pass c.in-Ended.ended
+    let over = subst (TryGoes fds call c.advance-progress.new.self t.0 c.advance-progress.new.pass) c.in-Ended.is (c.advance-progress.ensures.goes t.0 t.2) in
+    subst (λ (hand : Option Hand). IsAtCall fds (c.args.call.now ∷ later) hand last c.advance-progress.new.pass) (sym c.in_ok-tried.ensures.none) (
+      tried_more c.refused_writes_leave_words.ensures fds call (list_at_hand c.advance-progress.new.self) last t.0 c.advance-progress.new.pass c.in-Ended.ended
           (subst (λ (o : Opened). IsMount (mount_of o)) way.mount c.sees_a_run.ensures.mount) way.idle t.1 over (sym c.anew.ensures ∙ c.if-anew.true),
-      over_idle fds call (list_at_hand c.advance.new.self) t.0 c.advance.new.pass c.in-Ended.ended way.idle over,
+      over_idle fds call (list_at_hand c.advance-progress.new.self) t.0 c.advance-progress.new.pass c.in-Ended.ended way.idle over,
     )
 
 pub returns-else-anew-clause-goes : goal.returns-else-anew-clause-goes
@@ -39,19 +39,19 @@ returns-else-anew-clause-goes g c = λ later last at.
     let call = c.args.call.now.call in
     let t = c.in_ok-tried.ensures.taken fds later last c.args.pass.now at in
     let way = of_trying fds call c.in_ok-tried.tried t.0 c.args.pass.now t.2 in
-    let over = subst (TryGoes fds call c.advance.new.self t.0 c.advance.new.pass) c.in-Ended.is (c.advance.ensures.goes t.0 t.2) in (
+    let over = subst (TryGoes fds call c.advance-progress.new.self t.0 c.advance-progress.new.pass) c.in-Ended.is (c.advance-progress.ensures.goes t.0 t.2) in (
       c.in_ok-tried.ensures.none,
       record {
         begun = t.0;
         tried = t.1;
-        list = list_at_hand c.advance.new.self;
+        list = list_at_hand c.advance-progress.new.self;
         result = c.in-Ended.ended;
         over = over;
         for_good = sym c.anew.ensures ∙ c.if-anew.false;
         answer_is =
-            c.answer.ensures
+            c.answer-answer.ensures
             ∙ ap (λ list. answer_of call list c.in-Ended.ended c.drawn.result) c.into_list-list.ensures
-            ∙ ap (answer_of call (list_at_hand c.advance.new.self) c.in-Ended.ended) c.drawn.ensures;
+            ∙ ap (answer_of call (list_at_hand c.advance-progress.new.self) c.in-Ended.ended) c.drawn.ensures;
       },
-      over_idle fds call (list_at_hand c.advance.new.self) t.0 c.advance.new.pass c.in-Ended.ended way.idle over,
+      over_idle fds call (list_at_hand c.advance-progress.new.self) t.0 c.advance-progress.new.pass c.in-Ended.ended way.idle over,
     )

@@ -1,9 +1,9 @@
 -- So many advances were made, and all of them fell short.
-use Rattle.std.proofs.Common.{◌≡◌, ◌≢◌, ◌≤◌, List, [], length, ◌-◌}
+use Rattle.std.proofs.Common.{◌≡◌, ◌≢◌, ◌≤◌, false, List, [], length, ◌-◌}
 use Rattle.std.specs.Prelude.{All, None}
 use Rattle.nv_core.specs.steps.Events.{Event}
 use Rattle.nv_table.specs.state.Workspaces.{IsWorkspace}
-use Rattle.nv_schedule.specs.Following.{FallShort, Stands, all_events, next_at}
+use Rattle.nv_schedule.specs.Following.{FallShort, IsWell, Stands, all_events, next_at}
 use Rattle.nv_schedule.specs.Orders.{ComeBehind}
 use Rattle.nv_schedule.proofs.tokens.advance_to.Given as goal
 
@@ -16,7 +16,8 @@ invariant-loop-made g l = record {
   some : next_at l.callers l.place ≢ None;
   few : l.made ≤ 100000;
   advances : List (List Event);
-  fell : FallShort l.mount.fds l.reach l.place l.initial.callers advances l.callers;
+  well : l.cut ≡ false → All IsWell l.callers;
+  fell : FallShort l.mount.fds l.cut l.reach l.place l.initial.callers advances l.callers;
   count : length advances ≡ l.made;
   behind : ComeBehind (all_events advances) l.initial.view.run l.view.run;
 }

@@ -1,12 +1,13 @@
 -- One token after another.
-use Rattle.std.proofs.Common.{◌∷◌, ◌++◌, List, [], drop, length, sym, ap, subst, ◌∙◌, arith, length-append}
+use Rattle.std.proofs.Common.{◌∷◌, ◌++◌, Bool, false, List, [], drop, length, sym, ap, subst, ◌∙◌, arith, length-append}
 use Rattle.std.specs.Prelude.{All}
 use Rattle.nv_bench.specs.Benches.{BenchState}
+use Rattle.nv_schedule.specs.Cuts.{cut_behind}
 use Rattle.nv_schedule.specs.Following.{ScheduleTells}
 use Rattle.nv_trace.specs.Shape.{IsTokenWithin}
 use Rattle.nv_trace.specs.declared.token.Token.{Token}
-use Rattle.nv_schedule.proofs.CutLaws.{all_at, few_arms}
-use Rattle.nv_schedule.proofs.FollowLaws.{done_on, moved_on, schedule_on}
+use Rattle.nv_schedule.proofs.CutLaws.{all_at, cut_behind_both, few_arms}
+use Rattle.nv_schedule.proofs.FollowLaws.{done_on, moved_on, on_ok, schedule_on}
 use Rattle.nv_schedule.proofs.tokens.follow.Goals as goal
 
 pub follow_one-after-requires-clause-within : goal.follow_one-after-requires-clause-within
@@ -23,39 +24,46 @@ follow_one-after-requires-clause-arms g c κs within =
     let all = ap length so_far.tokens in
     let both = length-append so_far.before c.loop-rest.rest.now in
     let few = few_arms so_far.before bench in
-    let is = ap (λ (b : BenchState). b.arms) so_far.cut in
+    let is = ap (λ (b : BenchState). b.arms) so_far.armed in
     let most = c.requires.arms in
     omega (arith, first, all, both, few, is, most)
 
 pub loop-rest-preserved : goal.loop-rest-preserved
 loop-rest-preserved g c =
     let so_far = c.loop-rest.invariant in
+    let fds = c.args.mount.now.fds in
     let rest = c.loop-rest.rest.now in
-    let first = c.first_of-token.ensures in
-    let one = done_on c.args.mount.now.fds so_far.before c.first_of-token.result c.args.callers.now c.loop-rest.callers c.follow_one-after.new.callers c.args.view.run c.loop-rest.view.run c.follow_one-after.result.0.run so_far.trail
-    (g.D.Bench.state c.args.bench.now) (g.D.Bench.state c.loop-rest.bench) (g.D.Bench.state c.follow_one-after.new.bench) so_far.follows so_far.behind so_far.cut c.follow_one-after.result.1 c.follow_one-after.ensures.tells
-    (sym c.is_err.ensures.value ∙ c.if-is_err.false) in
+    let token = c.first_of-token.result in
+    let fine = sym c.is_err.ensures.value ∙ c.if-is_err.false in
+    let tells = subst (λ (cut : Bool). ScheduleTells fds cut (token ∷ []) c.loop-rest.callers c.follow_one-after.new.callers c.loop-rest.view.run c.follow_one-after.result.0.run (g.D.Bench.state c.loop-rest.bench) (g.D.Bench.state c.follow_one-after.new.bench)
+    c.follow_one-after.result.1) so_far.cut c.follow_one-after.ensures.tells in
+    let one = done_on fds false so_far.before token c.args.callers.now c.loop-rest.callers c.follow_one-after.new.callers c.args.view.run c.loop-rest.view.run c.follow_one-after.result.0.run so_far.trail
+    (g.D.Bench.state c.args.bench.now) (g.D.Bench.state c.loop-rest.bench) (g.D.Bench.state c.follow_one-after.new.bench) so_far.follows so_far.behind so_far.armed c.follow_one-after.result.1 tells fine in
     record {
       stand = c.follow_one-after.ensures.stand;
       workspace = c.follow_one-after.ensures.workspace;
       bare = c.follow_one-after.ensures.bare;
       view = c.follow_one-after.ensures.view;
-      before = so_far.before ++ c.first_of-token.result ∷ [];
-      tokens = moved_on c.args.tokens.now so_far.before rest c.first_of-token.result so_far.tokens first;
+      before = so_far.before ++ token ∷ [];
+      tokens = moved_on c.args.tokens.now so_far.before rest token so_far.tokens c.first_of-token.ensures;
       trail = one.0;
+      cut = c.cut_then-cut.ensures ∙ ap (λ cut. cut_behind cut (token ∷ [])) so_far.cut ∙ sym (cut_behind_both false so_far.before (token ∷ []));
+      well = λ uncut. on_ok c.follow_one-after.result.1 fine c.follow_one-after.ensures.well (sym c.cut_then-cut.ensures ∙ uncut);
       follows = one.1;
       behind = one.2;
-      cut = one.3;
+      armed = one.3;
     }
 
 pub returns-then-is_err-clause-tells : goal.returns-then-is_err-clause-tells
 returns-then-is_err-clause-tells g c =
     let so_far = c.loop-rest.invariant in
+    let fds = c.args.mount.now.fds in
     let rest = c.loop-rest.rest.now in
-    let first = c.first_of-token.ensures in
-    subst (λ (tokens : List Token). ScheduleTells c.args.mount.now.fds tokens c.args.callers.now c.follow_one-after.new.callers c.args.view.run c.follow_one-after.result.0.run
-    (g.D.Bench.state c.args.bench.now) (g.D.Bench.state c.follow_one-after.new.bench) c.follow_one-after.result.1)
-    (sym (so_far.tokens ∙ ap (λ l. so_far.before ++ l) first))
-    (schedule_on c.args.mount.now.fds so_far.before c.first_of-token.result c.args.callers.now c.loop-rest.callers c.follow_one-after.new.callers c.args.view.run c.loop-rest.view.run c.follow_one-after.result.0.run so_far.trail
-    (g.D.Bench.state c.args.bench.now) (g.D.Bench.state c.loop-rest.bench) (g.D.Bench.state c.follow_one-after.new.bench) so_far.follows so_far.behind so_far.cut (drop 1 rest) c.follow_one-after.result.1 c.follow_one-after.ensures.tells
-    (sym c.is_err.ensures.value ∙ c.if-is_err.true))
+    let token = c.first_of-token.result in
+    let done = c.follow_one-after.result.1 in
+    let tells = subst (λ (cut : Bool). ScheduleTells fds cut (token ∷ []) c.loop-rest.callers c.follow_one-after.new.callers c.loop-rest.view.run c.follow_one-after.result.0.run (g.D.Bench.state c.loop-rest.bench) (g.D.Bench.state c.follow_one-after.new.bench)
+    done) so_far.cut c.follow_one-after.ensures.tells in
+    subst (λ (tokens : List Token). ScheduleTells fds false tokens c.args.callers.now c.follow_one-after.new.callers c.args.view.run c.follow_one-after.result.0.run (g.D.Bench.state c.args.bench.now) (g.D.Bench.state c.follow_one-after.new.bench) done)
+    (sym (so_far.tokens ∙ ap (λ l. so_far.before ++ l) c.first_of-token.ensures))
+    (schedule_on fds false so_far.before token c.args.callers.now c.loop-rest.callers c.follow_one-after.new.callers c.args.view.run c.loop-rest.view.run c.follow_one-after.result.0.run so_far.trail
+    (g.D.Bench.state c.args.bench.now) (g.D.Bench.state c.loop-rest.bench) (g.D.Bench.state c.follow_one-after.new.bench) so_far.follows so_far.behind so_far.armed (drop 1 rest) done tells (sym c.is_err.ensures.value ∙ c.if-is_err.true))

@@ -1,9 +1,17 @@
 -- The try goes on as its machine does, of the bytes that the call has.
 use Rattle.std.proofs.Common.{ℕ, List, sym, subst}
+use Rattle.std.specs.Prelude.{is_some}
+use Rattle.nv_calls.specs.fsync.SyncMachines as syncs
+use Rattle.nv_calls.specs.reads.ReadMachines as reads
+use Rattle.nv_calls.specs.writes.WriteMachines as writes
 use Rattle.nv_calls.specs.writes.WriteMachines.{IsWriteUnderWay, WriteGoes}
 use Rattle.nv_schedule.specs.declared.hand.Hand.{Hand}
-use Rattle.nv_schedule.specs.Hands.{IsTrying}
+use Rattle.nv_schedule.specs.declared.hand.Hand.TheVariants.{Reading, Writing, Syncing}
+use Rattle.nv_schedule.specs.Faulted.{fault_at_hand}
+use Rattle.nv_schedule.specs.Hands.{IsOneOrNoStep, IsTrying}
+use Rattle.nv_schedule.proofs.FaultLaws.{behind_call, call_tells}
 use Rattle.nv_schedule.proofs.HandLaws.{read_goes, sync_goes, same_bytes, write_goes}
+use Rattle.nv_schedule.proofs.WayLaws.{of_trying}
 use Rattle.nv_schedule.proofs.hand.Hand.advance.Goals as goal
 
 pub returns-in-Reading-clause-goes : goal.returns-in-Reading-clause-goes
@@ -25,3 +33,37 @@ returns-in-Syncing-clause-goes g c = λ begun trying.
     let way = subst (λ (hand : Hand). IsTrying c.args.mount.now.fds c.args.call.now hand begun c.args.pass.now) c.in-Syncing.is trying in
     sync_goes c.args.mount.now.fds c.args.call.now c.in-Syncing.machine c.advance-in-Syncing.new.self begun c.args.pass.now c.advance-in-Syncing.new.pass c.advance-in-Syncing.ensures.fd way c.advance-in-Syncing.result
     (c.advance-in-Syncing.ensures.goes begun way.1)
+
+pub returns-in-Reading-clause-moved : goal.returns-in-Reading-clause-moved
+returns-in-Reading-clause-moved g c =
+    let fds = c.args.mount.now.fds in
+    let old = c.args.pass.now in
+    let new = c.advance.new.pass in
+    let sizes = old.view.opened.sizes in
+    let machine = c.in-Reading.read.machine in
+    let way = of_trying fds c.args.call.now c.args.self.now c.requires.trying.0 old c.requires.trying.1 in
+    let at = behind_call c.runs_are_sound.ensures.runs c.passes_are_left_alone.ensures.own c.requires.trying.0 old way.idle c.sees_a_run.ensures.mount way.behind in
+    subst (λ (hand : Hand). IsOneOrNoStep (is_some (fault_at_hand hand)) (is_some (fault_at_hand (Reading c.advance.new.self))) old new) (sym c.in-Reading.is)
+    (call_tells (reads.standing sizes) (reads.early_of sizes fds machine) machine c.advance.new.self.machine old new c.advance.result c.advance.ensures.one at)
+
+pub returns-in-Pwrite-clause-moved : goal.returns-in-Pwrite-clause-moved
+returns-in-Pwrite-clause-moved g c =
+    let fds = c.args.mount.now.fds in
+    let old = c.args.pass.now in
+    let new = c.advance-in-Writing.new.pass in
+    let machine = c.in-Writing.machine in
+    let way = of_trying fds c.args.call.now c.args.self.now c.requires.trying.0 old c.requires.trying.1 in
+    let at = behind_call c.runs_are_sound.ensures.runs c.passes_are_left_alone.ensures.own c.requires.trying.0 old way.idle c.sees_a_run.ensures.mount way.behind in
+    subst (λ (hand : Hand). IsOneOrNoStep (is_some (fault_at_hand hand)) (is_some (fault_at_hand (Writing c.advance-in-Writing.new.self))) old new) (sym c.in-Writing.is)
+    (call_tells writes.standing (writes.early_of old.view.opened.sizes fds machine) machine c.advance-in-Writing.new.self old new c.advance-in-Writing.result c.advance-in-Writing.ensures.one at)
+
+pub returns-in-Syncing-clause-moved : goal.returns-in-Syncing-clause-moved
+returns-in-Syncing-clause-moved g c =
+    let fds = c.args.mount.now.fds in
+    let old = c.args.pass.now in
+    let new = c.advance-in-Syncing.new.pass in
+    let machine = c.in-Syncing.machine in
+    let way = of_trying fds c.args.call.now c.args.self.now c.requires.trying.0 old c.requires.trying.1 in
+    let at = behind_call c.runs_are_sound.ensures.runs c.passes_are_left_alone.ensures.own c.requires.trying.0 old way.idle c.sees_a_run.ensures.mount way.behind in
+    subst (λ (hand : Hand). IsOneOrNoStep (is_some (fault_at_hand hand)) (is_some (fault_at_hand (Syncing c.advance-in-Syncing.new.self))) old new) (sym c.in-Syncing.is)
+    (call_tells syncs.standing (syncs.early_of fds machine) machine c.advance-in-Syncing.new.self old new c.advance-in-Syncing.result c.advance-in-Syncing.ensures.one at)

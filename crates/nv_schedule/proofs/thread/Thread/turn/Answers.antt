@@ -28,7 +28,7 @@ returns-in-None-clause-come g c = λ start come.
     let old = c.args.self.now in
     let calls = c.self.inside.left.now in
     let call = c.call-item.result in
-    let is : calls ≡ call ∷ drop 1 calls = search rules in
+    let is : calls ≡ call ∷ drop 1 calls = first_and_rest calls call c.in-len1-up.len_at_least c.call-item.is in
     let new : ThreadState = record { left = calls_of_thread c.self.inside.number calls; begun = true; hand = c.advance_call.new.hand; made = made_calls c.reserve.new.self.items } in
     come_on fds old new call (calls_of_thread c.self.inside.number (drop 1 calls)) start c.args.pass.now c.advance_call.new.pass
     (ap (λ (t : ThreadState). t.left) (sym c.self.view_is) ∙ own_first c.self.inside.number calls call (drop 1 calls) c.self.invariant is)
@@ -36,7 +36,7 @@ returns-in-None-clause-come g c = λ start come.
     (ap made_calls c.reserve.ensures.items ∙ ap (λ (t : ThreadState). t.made) c.self.view_is) refl
     (λ after last at.
     subst (CallGoes fds call after c.advance_call.new.hand last c.advance_call.new.pass) c.in-None.is
-    (c.in_ok-advance_call.ensures.goes after last
+    (c.in_ok-answer.ensures.goes after last
     (subst (λ (hand : Option Hand). IsAtCall fds (call ∷ after) hand last c.args.pass.now) (ap (λ (t : ThreadState). t.hand) (sym c.self.view_is)) at)))
     come
 
@@ -68,6 +68,6 @@ returns-in-Some-clause-come g c = λ start come.
     c.in-Some.answer (returns-in-Some-clause-ends g c).2
     (λ after last at.
     subst (CallGoes fds call after c.advance_call.new.hand last c.advance_call.new.pass) c.in-Some.is
-    (c.in_ok-advance_call.ensures.goes after last
+    (c.in_ok-answer.ensures.goes after last
     (subst (λ (hand : Option Hand). IsAtCall fds (call ∷ after) hand last c.args.pass.now) (ap (λ (t : ThreadState). t.hand) (sym c.self.view_is)) at)))
     come
