@@ -7,6 +7,8 @@ use Rattle.nv_plain.specs.declared.call.FileCall.TheVariants.{Read, Write, Sync}
 use Rattle.nv_plain.specs.declared.call.Reply.{Reply}
 use Rattle.nv_plain.specs.declared.call.Reply.TheVariants as replies
 use Rattle.nv_core.specs.state.Words.{Sizes}
+use Rattle.nv_core.specs.invariant.InvariantLaws.{RunsAreSound}
+use Rattle.nv_core.specs.steps.Frames.{OwnEventsTell}
 use Rattle.nv_core.specs.steps.Opening.{IsMount}
 use Rattle.nv_table.specs.invariant.Drawn.{drawn_by}
 use Rattle.nv_table.specs.invariant.Idle.{IsIdle, IsLater}
@@ -17,14 +19,15 @@ use Rattle.nv_table.proofs.steps.CallLaws.{later_on, later_self}
 use Rattle.nv_mount.specs.declared.fds.Fd.{Fd}
 use Rattle.nv_mirror.specs.Answers.{IsPlacedAs, IsReadPlaced, IsSyncPlaced, IsUnplaced, place_in_answer, refusal_in_answer}
 use Rattle.nv_mirror.specs.Controls.{IsOver}
+use Rattle.nv_mirror.specs.PassSteps.{is_fault}
 use Rattle.nv_mirror.specs.declared.answers.Done.{Done}
 use Rattle.nv_mirror.specs.declared.answers.Refusal.{Refusal}
-use Rattle.nv_mirror.specs.declared.answers.Refusal.TheVariants.{Busy, BadFd, RegionFault, Spent, Stopped, StoreFault}
+use Rattle.nv_mirror.specs.declared.answers.Refusal.TheVariants.{Busy, BadFd, Raced, RegionFault, Spent, Stopped, StoreFault}
 use Rattle.nv_calls.specs.calls.EarlyRefusals.{early_refusal}
 use Rattle.nv_calls.specs.calls.EndedCalls.{IsOverBy}
 use Rattle.nv_calls.specs.fsync.SyncMachines.{IsSyncEnded}
 use Rattle.nv_calls.specs.fsync.SyncRuns.{IsSyncRun, file_of_fd}
-use Rattle.nv_calls.specs.histories.Faults.{ReadsOpenNothing, SyncsOpenNothing, WritesOpen, open_writes}
+use Rattle.nv_calls.specs.histories.Faults.{OpensBy, ReadsOpenNothing, SyncsOpenNothing, WritesOpen, open_writes}
 use Rattle.nv_calls.specs.histories.Heeds.{HasSeenStop, HeedsStop, ReadsHeedStop, SyncsHeedStop}
 use Rattle.nv_calls.specs.histories.Tries.{IsTried, Try, WereBusy}
 use Rattle.nv_calls.specs.reads.Reads.{IsReadDone, IsReadOver}
@@ -47,7 +50,7 @@ use Rattle.nv_schedule.specs.Callers.{AreAnswered, IsAnsweredBy}
 use Rattle.nv_schedule.specs.Tries.{IsTryOver, WereTried, answer_of, begins_anew}
 use Rattle.nv_schedule.proofs.WayLaws.{first_bytes, over_idle}
 
--- the laws of calls that are over
+-- the laws of calls
 pub record CallLaws : Type 0 where
   pub reads_heed : ReadsHeedStop
   pub writes_heed : WritesHeedStop
@@ -59,6 +62,8 @@ pub record CallLaws : Type 0 where
   pub reads_go : ReadsGoOn
   pub writes_go : WritesGoOn
   pub syncs_go : SyncsGoOn
+  pub sound : RunsAreSound
+  pub tell : OwnEventsTell
 
 -- ---- tries
 
@@ -372,7 +377,32 @@ call_answered laws fds call start now answer mount idle by = (
   over_idle fds call by.list by.begun now by.result ((tried_since laws fds call start by.begun mount by.tried).idle idle) by.over,
 )
 
--- of the calls of a thread
+-- ---- tries open nothing
+
+again_mild : (refusal : Refusal) → is_made_again refusal ≡ true → is_fault (Some refusal) ≡ false
+again_mild (Busy cell) again = refl
+again_mild (Raced seen found) again = refl
+again_mild refusal again = absurd (cc)
+
+busy_opens : CallLaws → (fds : List Fd) (fd at len : ℕ) (tries : List Try) (start now : PassState) → IsMount (mount_of start.view.opened) → IsIdle start → WereBusy fds fd at len tries start now → open_writes now ≡ open_writes start
+busy_opens laws fds fd at len [] start now mount idle same = ap open_writes same
+busy_opens laws fds fd at len (last ∷ earlier) start now mount idle busy =
+    laws.reads_open fds fd at last.list start now (Err (Busy last.cell)) mount (read_tried laws fds fd at len start busy.0 now last.list mount idle earlier busy.1 busy.2 (Err (Busy last.cell)) busy.3)
+
+again_opens : CallLaws → (fds : List Fd) (fd at : ℕ) (bytes : List ℕ) (tries : List Refusal) (start now : PassState) → IsMount (mount_of start.view.opened) → IsIdle start → WereMadeAgain fds fd at bytes tries start now
+    → open_writes now ≡ open_writes start
+again_opens laws fds fd at bytes [] start now mount idle same = ap open_writes same
+again_opens laws fds fd at bytes (last ∷ earlier) start now mount idle again =
+    subst (λ b. OpensBy b fds fd at bytes start now) (again_mild last again.2)
+    (laws.writes_open fds fd at bytes start now (Err last) mount (write_tried laws fds fd at bytes start again.0 now mount idle earlier again.1 (Err last) tt again.3))
+
+pub tried_opens : CallLaws → (fds : List Fd) (call : TraceCall) (start now : PassState) → IsMount (mount_of start.view.opened) → IsIdle start → WereTried fds call start now → open_writes now ≡ open_writes start
+tried_opens laws fds (Pread fd at len) start now mount idle tried = busy_opens laws fds fd at len tried.0 start now mount idle tried.1
+tried_opens laws fds (Pwrite fd at bytes) start now mount idle tried = again_opens laws fds fd at bytes tried.0 start now mount idle tried.1
+tried_opens laws fds (Fsync fd) start now mount idle same = ap open_writes same
+
+-- ---- the calls of a thread
+
 pub record HaveBeenMade (fds : List Fd) (made : List MadeCall) (start last : PassState) : Type 0 where
   pub each : AreMade fds None made start last
   pub idle : IsIdle last

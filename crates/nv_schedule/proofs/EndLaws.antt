@@ -23,6 +23,7 @@ use Rattle.nv_runner.specs.Lists.{made_calls}
 use Rattle.nv_runner.specs.Workers.{IsZero}
 use Rattle.nv_trace.specs.declared.trace_call.TracedCall.{TracedCall}
 use Rattle.nv_schedule.specs.Callers.{IsAtBatch, IsAtCall}
+use Rattle.nv_schedule.specs.Flights.{flights_of}
 use Rattle.nv_schedule.specs.Orders.{deeds, is_deed, is_deed_op}
 use Rattle.nv_schedule.specs.Scheduled.{AreCallsOf, AreTakenAsTheyStood, HasTakenIn, IsAside, IsOfBoth, IsTakenAsItStood, IsTaker}
 use Rattle.nv_schedule.specs.Listed.{listed, unanswered}
@@ -31,6 +32,7 @@ use Rattle.nv_schedule.specs.declared.caller.Work.{Work}
 use Rattle.nv_schedule.specs.declared.caller.Work.TheVariants.{Calls, Batches}
 use Rattle.nv_schedule.specs.declared.hand.Hand.{Hand}
 use Rattle.nv_schedule.specs.declared.scheduled.ScheduledCalls.{ScheduledCalls}
+use Rattle.nv_schedule.proofs.FlightLaws.{passing_flights}
 use Rattle.nv_schedule.proofs.BehindLaws.{own_if, own_seen}
 use Rattle.nv_schedule.proofs.WayLaws.{of_trying}
 
@@ -81,16 +83,16 @@ puts_mine (one ∷ rest) old last back = puts_mine rest back.0 last back.2 ∙ a
 -- ---- pass 0 meanwhile
 
 pub aside_self : (pass : PassState) → IsAside pass pass
-aside_self pass = record { spare = refl; mine = refl; deedless = refl }
+aside_self pass = record { spare = refl; mine = refl; deedless = refl; flights = refl }
 
 pub aside_same : (old new : PassState) → new ≡ old → IsAside old new
 aside_same old new same = subst (IsAside old) (sym same) (aside_self old)
 
 pub aside_on : (old middle new : PassState) → IsAside old middle → IsAside middle new → IsAside old new
-aside_on old middle new one more = record { spare = more.spare ∙ one.spare; mine = more.mine ∙ one.mine; deedless = more.deedless ∙ one.deedless }
+aside_on old middle new one more = record { spare = more.spare ∙ one.spare; mine = more.mine ∙ one.mine; deedless = more.deedless ∙ one.deedless; flights = more.flights ∙ one.flights }
 
 pub told_aside : (pass : PassState) (run : List Event) → IsAside pass (imported_by pass run)
-told_aside pass run = record { spare = refl; mine = refl; deedless = refl }
+told_aside pass run = record { spare = refl; mine = refl; deedless = refl; flights = refl }
 
 pub split_aside : (old new other : PassState) → IsSplit old new other → old.view.number ≡ 0 → IsAside old new
 split_aside old new other is at_zero = record {
@@ -98,6 +100,7 @@ split_aside old new other is at_zero = record {
   mine = ap (λ (p : PassState). (pass_of p.view).mine) is.parent_is ∙ ap (λ (p : Pass). p.mine) is.made.pass;
   deedless = ap (λ (p : PassState). deeds (own 0 p.view.run)) is.parent_is
       ∙ subst (λ n. deeds (own n is.middle.run) ≡ deeds (own n old.view.run)) at_zero (passing_deedless old.view is.middle Split is.found is.made refl);
+  flights = ap (λ (p : PassState). flights_of (pass_of p.view)) is.parent_is ∙ passing_flights Split (pass_of old.view) (pass_of is.middle) is.made.pass;
 }
 
 pub join_aside : (old other new : PassState) → IsTakenIn old other new → old.view.number ≡ 0 → IsAside old new
@@ -106,6 +109,7 @@ join_aside old other new is at_zero = record {
   mine = ap (λ (p : PassState). (pass_of p.view).mine) is.is ∙ ap (λ (p : Pass). p.mine) is.taken.pass;
   deedless = ap (λ (p : PassState). deeds (own 0 p.view.run)) is.is
       ∙ subst (λ n. deeds (own n is.view.run) ≡ deeds (own n old.view.run)) at_zero (passing_deedless (joined old.view is.last) is.view (Join other.view.number) is.found is.taken refl);
+  flights = ap (λ (p : PassState). flights_of (pass_of p.view)) is.is ∙ passing_flights (Join other.view.number) (pass_of old.view) (pass_of is.view) is.taken.pass;
 }
 
 pub zero_takes : (mount : MountState) (pass : PassState) → IsZero mount pass → IsTaker mount pass

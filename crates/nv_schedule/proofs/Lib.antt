@@ -5,10 +5,14 @@ mod CutLaws
 mod DeedLaws
 mod EndLaws
 mod FaultLaws
+mod FlightLaws
 mod FollowLaws
 mod FreshLaws
 mod GrowLaws
 mod HandLaws
+mod KeptFaultLaws
+mod MidCallLaws
+mod OpenCallLaws
 mod OrderLaws
 mod RanLaws
 mod SinceLaws

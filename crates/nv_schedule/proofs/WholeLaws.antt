@@ -17,6 +17,7 @@ use Rattle.nv_plain.specs.declared.memory.NoMemory.{NoMemory as AnyNoMemory}
 use Rattle.nv_bench.specs.Benches.{BenchState}
 use Rattle.nv_trace.specs.declared.token.Token.{Token}
 use Rattle.nv_trace.specs.declared.trace_call.TracedCall.{TracedCall}
+use Rattle.nv_schedule.specs.Flights.{flights_of}
 use Rattle.nv_schedule.specs.Following.{Stands}
 use Rattle.nv_schedule.specs.Fresh.{AreFresh, thread_works}
 use Rattle.nv_schedule.specs.Growing.{AreApart, GrowBy, number_of, run_of}
@@ -34,6 +35,7 @@ use Rattle.nv_schedule.proofs.BehindLaws.{in_turn_on, own_seen}
 use Rattle.nv_schedule.proofs.CutLaws.{all_reached}
 use Rattle.nv_schedule.proofs.EndLaws.{HasPast, past_at, past_of_some, stood_deedless, stood_number}
 use Rattle.nv_schedule.proofs.GrowLaws.{fault_grows, schedule_grows, used_up_grows}
+use Rattle.nv_schedule.proofs.OpenCallLaws.{IsListedOpen, all_open, caller_opens}
 use Rattle.nv_schedule.proofs.OrderLaws.{deeds_all, own_deeds, trail_is}
 use Rattle.nv_schedule.proofs.ToldLaws.{caller_told, history_mine, history_seen}
 use Rattle.nv_schedule.proofs.SinceLaws.{AllGoOn, AreFirm, fault_deeds, fault_on, schedule_deeds, schedule_on, used_up_deeds, used_up_on}
@@ -79,7 +81,7 @@ any_caller pass = record { pass = pass; work = Batches (record { most = 0; machi
 
 module _ (mount : MountState) (tokens : List Token) (calls : List TracedCall) (batch : ℕ) (done : Result (Unit {0}) ScheduleError) (told : done ≢ Err NoMemory) (then_ : List CallerState) (before zero_then : PassState)
     (parts stores : List Value) (placed tail : ℕ) (laws : CallLaws) (is_mount : IsMount (mount_of mount.board.opened)) (same : zero_then.view.opened ≡ mount.board.opened) (stand : All (Stands mount) then_)
-    (ran : HasRunOn mount tokens calls batch then_ before done) (undone : deeds (own 0 before.view.run) ≡ []) (uncalled : (pass_of before.view).mine ≡ [])
+    (ran : HasRunOn mount tokens calls batch then_ before done) (undone : deeds (own 0 before.view.run) ≡ []) (uncalled : (pass_of before.view).mine ≡ []) (grounded : flights_of (pass_of before.view) ≡ [])
     (taken : HasTakenIn before zero_then then_) (number : zero_then.view.number ≡ 0) (whole : IsWholeRun zero_then.view parts stores placed tail) (history : HasOneHistory zero_then.view placed) where
   abbrev run : List Event
   run = zero_then.view.run
@@ -151,6 +153,15 @@ module _ (mount : MountState) (tokens : List Token) (calls : List TracedCall) (b
         (subst (λ n. calls_by n (history_then zero_then.view) ≡ (pass_of now.view).mine) on.number mine)
         (history_seen zero_then.view placed history now past.past (board.same_mount ∙ sym same) past.stood past.one)
 
+  -- each caller's calls that are listed as open
+  open_at : (i : ℕ) (d : CallerState) → i < length then_ → IsListedOpen mount.fds zero_then.view.opened (slice_index_or then_ i d)
+  open_at i d there =
+      let less : i < length ran.first = (let n = grows.count in omega (arith, there, n)) in
+      let f = ran.fresh i d less in
+      let start = (slice_index_or ran.first i d).pass in
+      caller_opens laws mount.fds zero_then.view.opened (slice_index_or then_ i d) start (subst (λ (o : Opened). IsMount (mount_of o)) (sym f.board.same_mount) is_mount) f.idle f.unfailed
+      ((goes_on.each i d less).come start f.come) ((stand i d there).0.same_mount ∙ sym same)
+
   -- of nobody
   beyond : (other : ℕ) → length ran.first < other → own other ran.trail ≡ deeds (own other zero_then.view.run)
   beyond other far =
@@ -192,30 +203,31 @@ module _ (mount : MountState) (tokens : List Token) (calls : List TracedCall) (b
     taken = taken.taken;
     told = told_at;
     none = taken.aside.mine ∙ uncalled;
+    left_open = all_open mount.fds then_ zero_then (taken.aside.flights ∙ grounded) taken.taken open_at;
   }
 
 -- ---- what is answered
 
 module _ (mount : MountState) (tokens : List Token) (calls : List TracedCall) (batch : ℕ) (then_ : List CallerState) (before zero_then : PassState)
     (parts stores : List Value) (placed tail : ℕ) (bench armed : BenchState) (laws : CallLaws) (is_mount : IsMount (mount_of mount.board.opened)) (same : zero_then.view.opened ≡ mount.board.opened) (stand : All (Stands mount) then_)
-    (undone : deeds (own 0 before.view.run) ≡ []) (uncalled : (pass_of before.view).mine ≡ [])
+    (undone : deeds (own 0 before.view.run) ≡ []) (uncalled : (pass_of before.view).mine ≡ []) (grounded : flights_of (pass_of before.view) ≡ [])
     (taken : HasTakenIn before zero_then then_) (number : zero_then.view.number ≡ 0) (whole : IsWholeRun zero_then.view parts stores placed tail) (history : HasOneHistory zero_then.view placed) where
   pub has_told : (ran : Result (Unit {0}) ScheduleError) (noted : Result (Unit {0}) AnyNoMemory) (begun : ScheduledCalls) (outcome : Result ScheduledCalls ScheduleError) → IsToldBy ran noted begun outcome
       → RunTells mount tokens calls batch then_ before bench armed ran → OnOk noted (AreCallsOf then_ begun) → HasTold mount tokens calls batch zero_then bench armed outcome
   unfolding has_followed
   has_told (Ok done) (Ok all) begun outcome is tells are =
       subst (HasTold mount tokens calls batch zero_then bench armed) (sym is)
-      (then_, has_followed mount tokens calls batch (Ok done) (λ same. cc) then_ before zero_then parts stores placed tail laws is_mount same stand tells.0 undone uncalled taken number whole history, are, tells.1)
+      (then_, has_followed mount tokens calls batch (Ok done) (λ same. cc) then_ before zero_then parts stores placed tail laws is_mount same stand tells.0 undone uncalled grounded taken number whole history, are, tells.1)
   has_told (Ok done) (Err wanting) begun outcome is tells are = subst (HasTold mount tokens calls batch zero_then bench armed) (sym is) (all_reached tokens bench armed tells.1)
   has_told (Err TurnsUsed) noted begun outcome is tells are =
       subst (HasTold mount tokens calls batch zero_then bench armed) (sym is)
-      (then_, has_followed mount tokens calls batch (Err TurnsUsed) (λ same. differ same) then_ before zero_then parts stores placed tail laws is_mount same stand tells.0 undone uncalled taken number whole history, tells.1)
+      (then_, has_followed mount tokens calls batch (Err TurnsUsed) (λ same. differ same) then_ before zero_then parts stores placed tail laws is_mount same stand tells.0 undone uncalled grounded taken number whole history, tells.1)
     where
       differ : ◌≡◌ {A = Result (Unit {0}) ScheduleError} (Err TurnsUsed) (Err NoMemory) → ⊥
       differ same = cc
   has_told (Err Fault) noted begun outcome is tells are =
       subst (HasTold mount tokens calls batch zero_then bench armed) (sym is)
-      (then_, has_followed mount tokens calls batch (Err Fault) (λ same. differ same) then_ before zero_then parts stores placed tail laws is_mount same stand tells.0 undone uncalled taken number whole history, tells.1)
+      (then_, has_followed mount tokens calls batch (Err Fault) (λ same. differ same) then_ before zero_then parts stores placed tail laws is_mount same stand tells.0 undone uncalled grounded taken number whole history, tells.1)
     where
       differ : ◌≡◌ {A = Result (Unit {0}) ScheduleError} (Err Fault) (Err NoMemory) → ⊥
       differ same = cc

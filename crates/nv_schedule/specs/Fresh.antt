@@ -6,6 +6,7 @@ use Rattle.nv_table.specs.invariant.Idle.{IsIdle}
 use Rattle.nv_table.specs.state.States.{IsOf}
 use Rattle.nv_table.specs.state.Views.{pass_of}
 use Rattle.nv_mount.specs.Mounts.{MountState}
+use Rattle.nv_calls.specs.histories.Faults.{open_writes}
 use Rattle.nv_runner.specs.Shifts.{calls_of_thread}
 use Rattle.nv_trace.specs.declared.trace_call.TracedCall.{TracedCall}
 use Rattle.nv_schedule.specs.Growing.{number_of, run_of}
@@ -18,12 +19,13 @@ abbrev pub IsFreshWork : Work → Type 0
 IsFreshWork (Calls thread) = (thread.hand ≡ None) × (thread.made ≡ []) × (thread.begun ≡ false)
 IsFreshWork (Batches cleaner) = cleaner.machine ≡ None
 
--- It has begun nothing. Its pass is the next one behind so many, has no event and has made no call yet, and is between calls.
+-- It has begun nothing. Its pass is the next one behind so many, has no event and has made no call yet, none that a fault ended either, and is between calls.
 pub record IsFresh (mount : MountState) (passes : ℕ) (caller : CallerState) : Type 0 where
   pub board : IsOf mount.board caller.pass
   pub number : number_of caller ≡ passes + 1
   pub unborn : own (number_of caller) (run_of caller) ≡ []
   pub uncalled : (pass_of caller.pass.view).mine ≡ []
+  pub unfailed : open_writes caller.pass ≡ []
   pub idle : IsIdle caller.pass
   pub fresh : IsFreshWork caller.work
   pub come : HasCome mount.fds caller.work caller.pass caller.pass

@@ -2,6 +2,7 @@ pub mod Callers
 pub mod Cuts
 pub mod Faulted
 pub mod Faults
+pub mod Flights
 pub mod Following
 pub mod Fresh
 pub mod Growing

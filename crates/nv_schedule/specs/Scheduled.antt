@@ -16,6 +16,7 @@ use Rattle.nv_runner.specs.Lists.{calls_made, made_calls}
 use Rattle.nv_trace.specs.declared.token.Token.{Token}
 use Rattle.nv_trace.specs.declared.trace_call.TracedCall.{TracedCall}
 use Rattle.nv_schedule.specs.Cuts.{IsCutBy, IsCutBySome}
+use Rattle.nv_schedule.specs.Flights.{OpenAreFlights, flights_of}
 use Rattle.nv_schedule.specs.Fresh.{AreFresh, works_of}
 use Rattle.nv_schedule.specs.Growing.{number_of}
 use Rattle.nv_schedule.specs.Listed.{all_listed, all_unanswered}
@@ -38,11 +39,12 @@ pub record IsTaker (mount : MountState) (zero : PassState) : Type 0 where
   pub left : (pass_of zero.view).left ≡ []
   pub nothing : zero.now ≡ []
 
--- It made no step of a call or of a batch, and the parts that have no slot are with it.
+-- It made no step of a call or of a batch, has none at hand that it hadn't, and none more that a fault ended; and the parts that have no slot are with it.
 pub record IsAside (old new : PassState) : Type 0 where
   pub spare : new.spare ≡ old.spare
   pub mine : (pass_of new.view).mine ≡ (pass_of old.view).mine
   pub deedless : deeds (own 0 new.view.run) ≡ deeds (own 0 old.view.run)
+  pub flights : flights_of (pass_of new.view) ≡ flights_of (pass_of old.view)
 
 -- ---- passes that are taken in as they stand
 
@@ -96,7 +98,7 @@ AreAllTold fds first then_ history =
     (i : ℕ) (d : CallerState) → i < length first → IsToldOf fds (number_of (slice_index_or first i d)) (slice_index_or then_ i d) (slice_index_or first i d).pass history
 
 -- The callers of a trace's calls, which had begun nothing, followed a schedule: by the whole of it, or up to a token that used up its advances, or in whose last one a device call has failed before any cut. Then the deeds of the whole run are theirs, in the order of the
--- tokens, one after another with no event between. Their passes were taken in as they stood, and their calls are those of the history; pass 0 has made none.
+-- tokens, one after another with no event between. Their passes were taken in as they stood; their calls are those of the history, and those that are listed as open are the writes in flight. Pass 0 has made none.
 pub record HasFollowed (mount : MountState) (tokens : List Token) (calls : List TracedCall) (batch : ℕ) (done : Result (Unit {0}) ScheduleError) (then_ : List CallerState) (zero : PassState) : Type 0 where
   pub first : List CallerState
   pub fresh : AreFresh mount first
@@ -109,6 +111,7 @@ pub record HasFollowed (mount : MountState) (tokens : List Token) (calls : List 
   pub taken : AreTakenAsTheyStood then_ zero.view.ended
   pub told : AreAllTold mount.fds first then_ (history_then zero.view)
   pub none : (pass_of zero.view).mine ≡ []
+  pub left_open : OpenAreFlights mount.fds then_ zero
 
 -- What is answered: the calls that were begun; or that a token has used up its advances, or that a device call has failed before any cut. The bench was armed at each cut that was reached: all of them, or those
 -- before the token that used up its advances, or none. Where memory is wanting some first tokens were reached, and nothing else is told.

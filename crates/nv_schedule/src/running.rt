@@ -19,6 +19,7 @@ use crate::scheduled::{Scheduled, ScheduledCalls};
 use crate::tokens::follow;
 use nv_bench::Bench;
 use nv_calls::{ended_calls_heed_stop, faults_open_writes, refused_writes_leave_words};
+use nv_core::{passes_are_left_alone, runs_are_sound};
 use nv_mount::Mount;
 use nv_plain::NoMemory;
 use nv_pmem::Lines;
@@ -117,6 +118,8 @@ pub fn run_schedule<'a, D: Bench, L: Lines + Drop, B: Backing + Drop>(
     refused_writes_leave_words();
     faults_open_writes();
     tries_go_on();
+    runs_are_sound();
+    passes_are_left_alone();
     pass.sees_a_run();
     let mut pass = pass;
     let mut callers = Vec::new(alloc);

@@ -4,6 +4,7 @@ use Rattle.nv_core.specs.state.Passes.{Pass}
 use Rattle.nv_table.proofs.steps.CallLaws.{child_number}
 use Rattle.nv_table.specs.state.States.{PassState}
 use Rattle.nv_table.specs.state.Views.{pass_of}
+use Rattle.nv_calls.specs.histories.Faults.{open_in, open_writes}
 use Rattle.nv_runner.proofs.PassLaws.{child_of, split_ended, split_number, split_of}
 use Rattle.nv_schedule.proofs.EndLaws.{aside_same, split_aside}
 use Rattle.nv_schedule.proofs.FreshLaws.{fresh_come}
@@ -31,6 +32,7 @@ returns-clause-caller g c =
         number = child_number old new other made c.requires.zero.number;
         unborn = c.newcomers_begin_behind.ensures.unborn old new other made;
         uncalled = ap (λ (p : PassState). (pass_of p.view).mine) made.child_is ∙ ap (λ (p : Pass). p.mine) made.fresh;
+        unfailed = ap open_writes made.child_is ∙ ap (λ (p : Pass). open_in p.faulted) made.fresh;
         idle = (c.passes_stay_between_calls.ensures.split old new other made c.requires.zero.idle).1;
         fresh = c.requires.fresh;
         come = fresh_come c.args.mount.now.fds c.args.work other c.requires.fresh (c.passes_stay_between_calls.ensures.split old new other made c.requires.zero.idle).1;

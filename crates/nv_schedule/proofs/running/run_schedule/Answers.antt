@@ -5,6 +5,7 @@ use Rattle.nv_core.specs.steps.Opening.{IsMount}
 use Rattle.nv_table.proofs.steps.CallLaws.{fresh_is_idle}
 use Rattle.nv_table.specs.state.Opened.{Opened, mount_of}
 use Rattle.nv_table.specs.state.Views.{PassView, made_of, pass_of}
+use Rattle.nv_schedule.specs.Flights.{flights_of}
 use Rattle.nv_schedule.specs.Orders.{deeds}
 use Rattle.nv_schedule.proofs.AnswerLaws.{CallLaws}
 use Rattle.nv_schedule.proofs.EndLaws.{taken_count, zero_takes}
@@ -46,6 +47,8 @@ returns g c =
       reads_go = c.tries_go_on.ensures.reads;
       writes_go = c.tries_go_on.ensures.writes;
       syncs_go = c.tries_go_on.ensures.syncs;
+      sound = c.runs_are_sound.ensures.runs;
+      tell = c.passes_are_left_alone.ensures.own;
     } in
     record {
       ran = (
@@ -55,7 +58,7 @@ returns g c =
           spare = taken.taken.aside.spare ∙ ran.aside.spare;
           told = has_told c.args.mount c.args.tokens.now c.args.calls.now c.args.batch c.run_on-ran.new.callers.items c.run_on-ran.new.zero zero _ _ c.close_bare-closed.result.placed c.close_bare-closed.result.tail (g.D.Bench.state c.args.bench.now) (g.D.Bench.state c.run_on-ran.new.bench) laws
               (subst (λ (o : Opened). IsMount (mount_of o)) c.requires.board.same_mount c.sees_a_run.ensures.mount) taken.zero.board.same_mount ran.stand
-              (ran.aside.deedless ∙ ap (λ (v : PassView). deeds (own 0 v.run)) first) (ran.aside.mine ∙ ap (λ (v : PassView). (pass_of v).mine) first)
+              (ran.aside.deedless ∙ ap (λ (v : PassView). deeds (own 0 v.run)) first) (ran.aside.mine ∙ ap (λ (v : PassView). (pass_of v).mine) first) (ran.aside.flights ∙ ap (λ (v : PassView). flights_of (pass_of v)) first)
               taken.taken taken.zero.number told.whole told.history c.run_on-ran.result c.take_in_all-taken.result c.take_in_all-taken.new.calls c.tell.result c.tell.ensures ran.tells taken.calls;
         },
         c.close_bare-closed.ensures.closed,
