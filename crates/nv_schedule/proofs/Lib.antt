@@ -1,7 +1,9 @@
 mod AnswerLaws
 mod BatchLaws
+mod BegunLaws
 mod BehindLaws
 mod CutLaws
+mod CallerShares
 mod DeedLaws
 mod EndLaws
 mod FaultLaws
@@ -15,8 +17,10 @@ mod MidCallLaws
 mod OpenCallLaws
 mod OrderLaws
 mod RanLaws
+mod ShareLaws
 mod SinceLaws
 mod ThreadLaws
+mod ThreadLists
 mod ToldLaws
 mod TurnLaws
 mod UncutLaws

@@ -1,3 +1,4 @@
+pub mod Begun
 pub mod Callers
 pub mod Cuts
 pub mod Faulted
@@ -12,6 +13,8 @@ pub mod Orders
 pub mod Ran
 pub mod Reaches
 pub mod Scheduled
+pub mod Shares
+pub mod SortedOut
 pub mod Told
 pub mod Tries
 pub mod Turns

@@ -15,7 +15,10 @@ mod thread;
 mod tokens;
 mod turned;
 
-pub use laws::{schedules_are_the_deeds, uncut_schedules_meet_no_fault};
+pub use laws::{
+    schedules_are_the_deeds, schedules_are_told, schedules_begin_in_order,
+    uncut_schedules_meet_no_fault,
+};
 pub use running::run_schedule;
 pub use schedule_error::ScheduleError;
 pub use scheduled::{Scheduled, ScheduledCalls};
