@@ -204,6 +204,8 @@ module _ (mount : MountState) (tokens : List Token) (calls : List TracedCall) (b
     told = told_at;
     none = taken.aside.mine ∙ uncalled;
     left_open = all_open mount.fds then_ zero_then (taken.aside.flights ∙ grounded) taken.taken open_at;
+    number = number;
+    deedless = taken.aside.deedless ∙ undone;
   }
 
 -- ---- what is answered

@@ -12,6 +12,7 @@ pub mod Listed
 pub mod Orders
 pub mod Ran
 pub mod Reaches
+pub mod RefusedCalls
 pub mod Scheduled
 pub mod Shares
 pub mod SortedOut

@@ -98,7 +98,7 @@ AreAllTold fds first then_ history =
     (i : ℕ) (d : CallerState) → i < length first → IsToldOf fds (number_of (slice_index_or first i d)) (slice_index_or then_ i d) (slice_index_or first i d).pass history
 
 -- The callers of a trace's calls, which had begun nothing, followed a schedule: by the whole of it, or up to a token that used up its advances, or in whose last one a device call has failed before any cut. Then the deeds of the whole run are theirs, in the order of the
--- tokens, one after another with no event between. Their passes were taken in as they stood; their calls are those of the history, and those that are listed as open are the writes in flight. Pass 0 has made none.
+-- tokens, one after another with no event between. Their passes were taken in as they stood; their calls are those of the history, and those that are listed as open are the writes in flight. Pass 0 has made none, and no deed.
 pub record HasFollowed (mount : MountState) (tokens : List Token) (calls : List TracedCall) (batch : ℕ) (done : Result (Unit {0}) ScheduleError) (then_ : List CallerState) (zero : PassState) : Type 0 where
   pub first : List CallerState
   pub fresh : AreFresh mount first
@@ -112,6 +112,8 @@ pub record HasFollowed (mount : MountState) (tokens : List Token) (calls : List 
   pub told : AreAllTold mount.fds first then_ (history_then zero.view)
   pub none : (pass_of zero.view).mine ≡ []
   pub left_open : OpenAreFlights mount.fds then_ zero
+  pub number : zero.view.number ≡ 0
+  pub deedless : deeds (own 0 zero.view.run) ≡ []
 
 -- What is answered: the calls that were begun; or that a token has used up its advances, or that a device call has failed before any cut. The bench was armed at each cut that was reached: all of them, or those
 -- before the token that used up its advances, or none. Where memory is wanting some first tokens were reached, and nothing else is told.

@@ -1,9 +1,14 @@
 //! Laws of schedules that were followed.
 ghost use Rattle.nv_schedule.specs.Begun.{SchedulesBegin};
 ghost use Rattle.nv_schedule.specs.Growing.{SchedulesGrow, TrailsAreDeeds};
+ghost use Rattle.nv_schedule.specs.RefusedCalls.{PlacedAreUnbarred, RefusalsHaveCauses};
 ghost use Rattle.nv_schedule.specs.Shares.{SharesAreHistory};
 ghost use Rattle.nv_schedule.specs.SortedOut.{SchedulesAreLegal, SchedulesAreTold};
 ghost use Rattle.nv_schedule.specs.Uncut.{FaultsAreMet, UncutSchedulesAreWhole};
+
+use nv_calls::{ended_calls_heed_stop, faults_open_writes, refused_writes_leave_words};
+use nv_core::{heads_count_draws, histories_go_on, passes_are_left_alone, runs_are_sound};
+use nv_runner::{refusals_have_causes, tries_go_on};
 
 /// What each caller's pass has in the run grows by its own events of a schedule that the callers follow, in their order, and by nothing else; and events that stand in a run in their order, and are all
 /// deeds that each pass has in it, are its deeds, one after another, with no event between.
@@ -30,3 +35,21 @@ pub fn schedules_are_told()
     ensures told { SchedulesAreTold }
     ensures legal { SchedulesAreLegal }
 {}
+
+/// A call that a schedule lists as refused is refused by what bars it, or by such a cause, which its pass has seen: STOP set only where the run has; HEAD no higher than the number that came
+/// next at opening and the entries of the calls that drew some and don't come later than it; ORDER and TAIL no higher than they are at the end.
+/// Nothing bars one that it lists as placed, whether or not that is over.
+pub fn schedules_refuse_with_cause()
+    ensures refused { RefusalsHaveCauses }
+    ensures placed { PlacedAreUnbarred }
+{
+    ended_calls_heed_stop();
+    refused_writes_leave_words();
+    faults_open_writes();
+    tries_go_on();
+    refusals_have_causes();
+    runs_are_sound();
+    histories_go_on();
+    passes_are_left_alone();
+    heads_count_draws();
+}

@@ -17,6 +17,7 @@ mod turned;
 
 pub use laws::{
     schedules_are_the_deeds, schedules_are_told, schedules_begin_in_order,
+    schedules_refuse_with_cause,
     uncut_schedules_meet_no_fault,
 };
 pub use running::run_schedule;
