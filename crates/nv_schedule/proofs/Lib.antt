@@ -6,6 +6,7 @@ mod CutLaws
 mod CallerShares
 mod DeedLaws
 mod EndLaws
+mod FaithfulLaws
 mod FaultLaws
 mod FlightLaws
 mod FollowLaws
@@ -20,6 +21,7 @@ mod OrderLaws
 mod PresentDrawn
 mod RanLaws
 mod RefusalLaws
+mod ReportLaws
 mod ShareLaws
 mod SinceLaws
 mod ThreadLaws

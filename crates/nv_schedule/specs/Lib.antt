@@ -1,6 +1,7 @@
 pub mod Begun
 pub mod Callers
 pub mod Cuts
+pub mod FaithfulSchedules
 pub mod Faulted
 pub mod Faults
 pub mod Flights

@@ -1,5 +1,6 @@
 //! Laws of schedules that were followed.
 ghost use Rattle.nv_schedule.specs.Begun.{SchedulesBegin};
+ghost use Rattle.nv_schedule.specs.FaithfulSchedules.{SchedulesAreFaithful};
 ghost use Rattle.nv_schedule.specs.Growing.{SchedulesGrow, TrailsAreDeeds};
 ghost use Rattle.nv_schedule.specs.RefusedCalls.{PlacedAreUnbarred, RefusalsHaveCauses};
 ghost use Rattle.nv_schedule.specs.Shares.{SharesAreHistory};
@@ -42,6 +43,22 @@ pub fn schedules_are_told()
 pub fn schedules_refuse_with_cause()
     ensures refused { RefusalsHaveCauses }
     ensures placed { PlacedAreUnbarred }
+{
+    ended_calls_heed_stop();
+    refused_writes_leave_words();
+    faults_open_writes();
+    tries_go_on();
+    refusals_have_causes();
+    runs_are_sound();
+    histories_go_on();
+    passes_are_left_alone();
+    heads_count_draws();
+}
+
+/// A report that shows the sorted calls of a schedule of a trace without rounds, over a new mount that was closed then, is faithful to the trace: its history is legal, each thread's calls stand in it from the
+/// first one on, each once, in the order of lines, each refusal has its cause, and it shows the files after the history, with the open calls that are kept.
+pub fn schedules_are_faithful()
+    ensures { SchedulesAreFaithful }
 {
     ended_calls_heed_stop();
     refused_writes_leave_words();

@@ -1,0 +1,34 @@
+-- By what the calls that it lists are told as.
+use Rattle.nv_runner.proofs.RefusalWords.{WordLaws}
+use Rattle.nv_schedule.proofs.AnswerLaws.{CallLaws}
+use Rattle.nv_schedule.proofs.ReportLaws.{schedules_are_faithful}
+use Rattle.nv_schedule.proofs.laws.schedules_are_faithful.Goals as goal
+
+pub returns : goal.returns
+returns c =
+    let core = c.runs_are_sound.ensures in
+    let draws = c.heads_count_draws.ensures in
+    let words : WordLaws = record { keep = core.events; sound = core.runs; on = c.histories_go_on.ensures } in
+    let laws : CallLaws = record {
+      reads_heed = c.ended_calls_heed_stop.ensures.reads;
+      writes_heed = c.ended_calls_heed_stop.ensures.writes;
+      syncs_heed = c.ended_calls_heed_stop.ensures.syncs;
+      writes_leave = c.refused_writes_leave_words.ensures;
+      writes_open = c.faults_open_writes.ensures.writes;
+      reads_open = c.faults_open_writes.ensures.reads;
+      syncs_open = c.faults_open_writes.ensures.syncs;
+      reads_go = c.tries_go_on.ensures.reads;
+      writes_go = c.tries_go_on.ensures.writes;
+      syncs_go = c.tries_go_on.ensures.syncs;
+      sound = core.runs;
+      tell = c.passes_are_left_alone.ensures.own;
+    } in
+    schedules_are_faithful record {
+      words = words;
+      calls = laws;
+      causes = c.refusals_have_causes.ensures;
+      tell = c.passes_are_left_alone.ensures.own;
+      leave = c.passes_are_left_alone.ensures.others;
+      counts = draws.runs;
+      draws = record { grow = draws.grow; own = draws.own };
+    }
