@@ -1,5 +1,5 @@
 //! Traces, as data.
-ghost use Rattle.std.specs.Prelude.{◌≡◌, ◌+◌, ◌≤◌, All, OnErr, OnOk, true};
+ghost use Rattle.std.specs.Prelude.{◌≡◌, ◌+◌, ◌^◌, ◌<◌, ◌≤◌, All, OnErr, OnOk, length, true};
 ghost use Rattle.nv_trace.specs.Forms.{has_rounds, has_steps};
 ghost use Rattle.nv_trace.specs.Grammar.{last_thread};
 ghost use Rattle.nv_trace.specs.Shape.{IsTokenWithin, IsWellFormed, MayFollow};
@@ -116,9 +116,10 @@ impl Trace {
         self.rounds
     }
 
-    /// The tokens of its `steps` lines, in their order.
+    /// The tokens of its `steps` lines, in their order: fewer than 2^63.
     pub fn tokens(&self) -> &[Token]
         ensures tokens { result.now ≡ self.now.tokens }
+        ensures few { length result.now < 2 ^ 63 }
         ensures well_formed { IsWellFormed self.now }
     {
         &self.tokens
