@@ -2,7 +2,6 @@
 use crate::benches::{new_bench, opened};
 use crate::given::{region_failing, stores};
 use crate::syncs::opened_over;
-use nv_bench::Bench;
 use nv_open::Opened;
 use nv_plain::Reply;
 use nv_pmem::Fuse;
@@ -49,14 +48,12 @@ fn traced(alloc: Global, text: &str) -> Result<Trace, Fail> {
     Ok(read_trace(alloc, Form::Sched, &mut source)?)
 }
 
-// What a schedule comes to, and how often the devices have failed then.
-struct Followed<'a> {
-    outcome: Result<ScheduledCalls<'a>, ScheduleError>,
-    faults: u64,
-}
-
 // What a trace's schedule comes to over a mount of one new file, whose devices a bench lends.
-fn followed<'a>(rt: &impl Abort, alloc: Global, trace: &'a Trace) -> Result<Followed<'a>, Fail> {
+fn follow<'a>(
+    rt: &impl Abort,
+    alloc: Global,
+    trace: &'a Trace,
+) -> Result<Result<ScheduledCalls<'a>, ScheduleError>, Fail> {
     let mut bench = new_bench(alloc)?;
     let Opened { region, stores } = opened(rt, alloc, &mut bench, 16)?;
     let (mount, pass) = opened_over(alloc, region, stores)?;
@@ -69,21 +66,14 @@ fn followed<'a>(rt: &impl Abort, alloc: Global, trace: &'a Trace) -> Result<Foll
         trace.tokens(),
         4,
     );
-    if scheduled.closed.stores.len() != 1 {
-        panic!(rt; "one store was lent");
-    }
-    bench.give_back(scheduled.closed.parts, scheduled.closed.stores);
-    Ok(Followed {
-        outcome: scheduled.outcome,
-        faults: bench.faults(),
-    })
+    Ok(scheduled.outcome)
 }
 
 #[test]
 fn a_read_comes_behind_the_write_that_it_found(rt: HostRuntime) -> Result<(), Fail> {
     let alloc = rt.alloc();
     let trace = traced(alloc, BEHIND)?;
-    let calls = followed(&rt, alloc, &trace)?.outcome?;
+    let calls = follow(&rt, alloc, &trace)??;
     assert!(rt; calls.unanswered.is_empty());
     let sorted = sort_out(alloc, calls.answered)?;
     assert_eq!(rt; sorted.placed.len(), 2);
@@ -103,7 +93,7 @@ fn a_read_comes_behind_the_write_that_it_found(rt: HostRuntime) -> Result<(), Fa
 fn a_token_that_waits_for_ever_uses_its_turns_up(rt: HostRuntime) -> Result<(), Fail> {
     let alloc = rt.alloc();
     let trace = traced(alloc, WAITING)?;
-    let outcome = followed(&rt, alloc, &trace)?.outcome;
+    let outcome = follow(&rt, alloc, &trace)?;
     assert!(rt; matches!(outcome, Err(ScheduleError::TurnsUsed)));
     Ok(())
 }
@@ -112,7 +102,7 @@ fn a_token_that_waits_for_ever_uses_its_turns_up(rt: HostRuntime) -> Result<(), 
 fn calls_that_were_begun_are_told_and_no_others(rt: HostRuntime) -> Result<(), Fail> {
     let alloc = rt.alloc();
     let trace = traced(alloc, STOPPED)?;
-    let calls = followed(&rt, alloc, &trace)?.outcome?;
+    let calls = follow(&rt, alloc, &trace)??;
     assert_eq!(rt; calls.answered.len(), 1);
     assert_eq!(rt; calls.unanswered.len(), 1);
     for one in &calls.answered {
@@ -128,7 +118,7 @@ fn calls_that_were_begun_are_told_and_no_others(rt: HostRuntime) -> Result<(), F
 fn a_write_that_has_drawn_is_told_as_open(rt: HostRuntime) -> Result<(), Fail> {
     let alloc = rt.alloc();
     let trace = traced(alloc, DRAWN)?;
-    let calls = followed(&rt, alloc, &trace)?.outcome?;
+    let calls = follow(&rt, alloc, &trace)??;
     assert!(rt; calls.unanswered.is_empty());
     assert_eq!(rt; calls.answered.len(), 1);
     for one in &calls.answered {
@@ -141,7 +131,7 @@ fn a_write_that_has_drawn_is_told_as_open(rt: HostRuntime) -> Result<(), Fail> {
 fn calls_behind_their_places_are_told_as_placed(rt: HostRuntime) -> Result<(), Fail> {
     let alloc = rt.alloc();
     let trace = traced(alloc, PLACED)?;
-    let calls = followed(&rt, alloc, &trace)?.outcome?;
+    let calls = follow(&rt, alloc, &trace)??;
     assert!(rt; calls.unanswered.is_empty());
     let sorted = sort_out(alloc, calls.answered)?;
     assert_eq!(rt; sorted.placed.len(), 3);
@@ -156,28 +146,34 @@ fn calls_behind_their_places_are_told_as_placed(rt: HostRuntime) -> Result<(), F
     Ok(())
 }
 
-// The answer of a trace's only call, and how often the devices have failed.
-fn answered(rt: &impl Abort, alloc: Global, text: &str) -> Result<(Option<Answer>, u64), Fail> {
+// The answer of the last call of a thread that was answered.
+fn last_answer(calls: &mut ScheduledCalls) -> Option<Answer> {
+    match calls.answered.pop() {
+        Some(one) => Some(one.answer),
+        None => None,
+    }
+}
+
+// The answer of a trace's only call.
+fn answered(rt: &impl Abort, alloc: Global, text: &str) -> Result<Option<Answer>, Fail> {
     let trace = traced(alloc, text)?;
-    let followed = followed(rt, alloc, &trace)?;
-    let mut calls = followed.outcome?;
+    let mut calls = follow(rt, alloc, &trace)??;
     assert!(rt; calls.unanswered.is_empty());
-    Ok((calls.answered.pop().map(|one| one.answer), followed.faults))
+    Ok(last_answer(&mut calls))
 }
 
 #[test]
 fn a_write_is_open_whose_first_device_call_is_cut(rt: HostRuntime) -> Result<(), Fail> {
     for text in [CUT, CUT_TWICE] {
-        let (answer, faults) = answered(&rt, rt.alloc(), text)?;
+        let answer = answered(&rt, rt.alloc(), text)?;
         assert!(rt; matches!(answer, Some(Answer::Open { number: 0 })));
-        assert_eq!(rt; faults, 1);
     }
     Ok(())
 }
 
 #[test]
 fn a_cut_that_no_device_call_comes_to_refuses_none(rt: HostRuntime) -> Result<(), Fail> {
-    let (answer, faults) = answered(&rt, rt.alloc(), UNCUT)?;
+    let answer = answered(&rt, rt.alloc(), UNCUT)?;
     assert!(rt;
         matches!(
             answer,
@@ -187,7 +183,6 @@ fn a_cut_that_no_device_call_comes_to_refuses_none(rt: HostRuntime) -> Result<()
             })
         )
     );
-    assert_eq!(rt; faults, 0);
     Ok(())
 }
 
@@ -228,7 +223,7 @@ fn a_device_that_fails_behind_a_cut_leaves_its_write_open(rt: HostRuntime) -> Re
     let alloc = rt.alloc();
     let trace = traced(alloc, UNCUT)?;
     let mut calls = failed(&rt, alloc, &trace)??;
-    let answer = calls.answered.pop().map(|one| one.answer);
+    let answer = last_answer(&mut calls);
     assert!(rt; matches!(answer, Some(Answer::Open { number: 0 })));
     Ok(())
 }
