@@ -148,32 +148,40 @@ drawn_in_all sizes made placed refused left listed =
 
 -- ---- what bars a call is shown
 
+-- What is so of these three refusals is so of what bars a call, where something does.
+module _ (P : mirror.Refusal → Type 0) (bad : P why.BadFd) (far : P why.TooFar) (long : P why.TooLong) where
+  abbrev HasSuch : Option mirror.Refusal → Type 0
+  HasSuch early = MatchOption early ⊤ P
+
+  range_such : (is_far is_long : Bool) → HasSuch (cond is_far (Some why.TooFar) (cond is_long (Some why.TooLong) None))
+  range_such true is_long = far
+  range_such false true = long
+  range_such false false = tt
+
+  allowed_such : (may : Bool) (early : Option mirror.Refusal) → HasSuch early → HasSuch (cond may early (Some why.BadFd))
+  allowed_such true early such = such
+  allowed_such false early such = bad
+
+  fd_such : (may : Mode → Bool) (sizes : Sizes) (fd : Option Fd) (at len : ℕ) → HasSuch (early_fd_refusal may sizes fd at len)
+  fd_such may sizes None at len = bad
+  fd_such may sizes (Some one) at len =
+      allowed_such (may one.mode) (early_range_refusal sizes at len) (range_such (nat_lt (sizes.page * sizes.pages) (at + len)) (nat_lt (min version_1.group_limit sizes.entries) (pages_touched at len sizes.page)))
+
+  file_such : (file : Option ℕ) → HasSuch (unless_file file)
+  file_such None = bad
+  file_such (Some file) = tt
+
+  pub early_such : (sizes : Sizes) (fds : List Fd) (call : TraceCall) → HasSuch (early_of_call sizes fds call)
+  early_such sizes fds (Pread fd at len) = fd_such can_read sizes (slice_get fds fd) at len
+  early_such sizes fds (Pwrite fd at bytes) = fd_such can_write sizes (slice_get fds fd) at (length bytes)
+  early_such sizes fds (Fsync fd) = file_such (file_of_fd fds fd)
+
 -- where there is a refusal it is one that is shown
 abbrev HasShown : Option mirror.Refusal → Type 0
 HasShown early = MatchOption early ⊤ (λ refusal. is_some (shown_refusal refusal) ≡ true)
 
-range_shown : (far long : Bool) → HasShown (cond far (Some why.TooFar) (cond long (Some why.TooLong) None))
-range_shown true long = refl
-range_shown false true = refl
-range_shown false false = tt
-
-allowed_shown : (may : Bool) (early : Option mirror.Refusal) → HasShown early → HasShown (cond may early (Some why.BadFd))
-allowed_shown true early shown = shown
-allowed_shown false early shown = refl
-
-fd_shown : (may : Mode → Bool) (sizes : Sizes) (fd : Option Fd) (at len : ℕ) → HasShown (early_fd_refusal may sizes fd at len)
-fd_shown may sizes None at len = refl
-fd_shown may sizes (Some one) at len =
-    allowed_shown (may one.mode) (early_range_refusal sizes at len) (range_shown (nat_lt (sizes.page * sizes.pages) (at + len)) (nat_lt (min version_1.group_limit sizes.entries) (pages_touched at len sizes.page)))
-
-file_shown : (file : Option ℕ) → HasShown (unless_file file)
-file_shown None = refl
-file_shown (Some file) = tt
-
 early_shown : (sizes : Sizes) (fds : List Fd) (call : TraceCall) → HasShown (early_of_call sizes fds call)
-early_shown sizes fds (Pread fd at len) = fd_shown can_read sizes (slice_get fds fd) at len
-early_shown sizes fds (Pwrite fd at bytes) = fd_shown can_write sizes (slice_get fds fd) at (length bytes)
-early_shown sizes fds (Fsync fd) = file_shown (file_of_fd fds fd)
+early_shown = early_such (λ refusal. is_some (shown_refusal refusal) ≡ true) refl refl refl
 
 -- ---- a refusal
 

@@ -170,7 +170,7 @@ module _ (made : List MadeCall) (sorted : SortedCalls) (sorts : AreSortedOut mad
       one_moved each_one made (placed_made p) back (one_left (map placed_made placed_ones ++ map refused_made refused_ones) (map opened_made open_ones) (placed_made p)
       (one_left (map placed_made placed_ones) (map refused_made refused_ones) (placed_made p) (one_mapped placed_made placed_ones p one)))
 
-  refused_there : (r : RefusedCall) → IsOneOf refused_ones r → IsOneOf made (refused_made r)
+  pub refused_there : (r : RefusedCall) → IsOneOf refused_ones r → IsOneOf made (refused_made r)
   refused_there r one =
       one_moved each_one made (refused_made r) back (one_left (map placed_made placed_ones ++ map refused_made refused_ones) (map opened_made open_ones) (refused_made r)
       (one_right (map placed_made placed_ones) (map refused_made refused_ones) (refused_made r) (one_mapped refused_made refused_ones r one)))

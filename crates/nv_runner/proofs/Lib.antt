@@ -35,6 +35,7 @@ pub mod ShiftLines
 pub mod OutcomeLaws
 pub mod StandLaws
 pub mod CauseLaws
+pub mod FailedLaws
 pub mod FaithfulLaws
 pub mod DrawSteps
 pub mod DrawRuns

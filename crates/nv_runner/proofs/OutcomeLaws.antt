@@ -1,5 +1,5 @@
 -- Outcomes: what became of the calls of a trace, from the state of pass 0 after the rounds, and after the log was cleaned.
-use Rattle.std.proofs.Common.{◌≡◌, ℕ, ◌+◌, ◌≤◌, true, false, List, [], ◌++◌, length, inl, inr, refl, sym, ap, subst, ◌∙◌, arith, append-nil, length-append}
+use Rattle.std.proofs.Common.{◌≡◌, ℕ, ◌+◌, ◌^◌, ◌≤◌, true, false, List, [], ◌++◌, length, inl, inr, refl, sym, ap, subst, ◌∙◌, arith, append-nil, length-append}
 use Rattle.std.specs.Prelude.{All, IsPermutation, Option, Some, None, Result, Ok, Err, IfOk, OnOk, is_none, is_some, if◌then◌else◌}
 use Rattle.std.specs.List.{flat_map}
 use Rattle.std.proofs.lemmas.Bool.{cases_eq, ltb-true, true≢false}
@@ -13,6 +13,7 @@ use Rattle.nv_core.specs.steps.Opening.{IsMount, opening}
 use Rattle.nv_core.specs.invariant.Draws.{drawn_of}
 use Rattle.nv_core.specs.invariant.InvariantLaws.{RunsAreSound}
 use Rattle.nv_core.specs.invariant.LaterHistories.{HistoriesGoOn}
+use Rattle.nv_core.proofs.invariant.HistoryLaws.{begins_all}
 use Rattle.nv_table.specs.invariant.BetweenSteps.{KnowsTaken}
 use Rattle.nv_table.specs.invariant.Idle.{IsIdle}
 use Rattle.nv_table.specs.passes.Alone.{IsAlone}
@@ -222,6 +223,15 @@ module _ (fds : List Fd) (plan : Plan) (calls : List TracedCall) (made : List Ma
         }
         (subst (λ (l : List Past). AreDistinctNumbers (numbers l)) (sym cleaned.ended) distinct) (cleaned.drawn ∙ undrawn)
 
+    -- and HEAD comes to no more than the last number
+    small_now : RunsAreSound → HeadsCountCalls → AreDistinctNumbers (numbers zero.view.ended) → IsRunOf now.view.opened now.view.run
+        → now.view.opened.next + entries_of_calls now.view.opened.sizes (drawing_calls made) ≤ 2 ^ 60
+    small_now sound heads distinct is_run_now =
+        let mount_now = subst (λ (o : Opened). IsMount (mount_of o)) (sym cleaned.opened) mount in
+        let most = (sound (mount_of now.view.opened) now.view.run mount_now is_run_now).window.small in
+        let counted = drawn_now sound heads distinct is_run_now in
+        omega (arith, most, counted)
+
     saw_now : SawStop zero.view → SawStop now.view
     saw_now saw = elim saw [
       | inl own ↦ inl (cleaned.keeps.stays own)
@@ -250,6 +260,7 @@ module _ (fds : List Fd) (plan : Plan) (calls : List TracedCall) (made : List Ma
           order = omega (arith, order, more);
           head = subst (λ (o : Opened). word_seen is.now HEAD ≤ o.next + entries_of_calls o.sizes (not_later call (drawing_calls made))) (sym cleaned.opened) is.head;
           tail = λ none. is.tail none (uncleaned none) ∙ sym (ap (λ (o : Opened). o.next) cleaned.opened);
+          behind = begins_all is.now.view.run zero.view.run now.view.run is.behind (cleaned.more, cleaned.run);
         }
 
     not_barred : (call : TracedCall) (place : ℕ) (reply : Reply) → IsOneOf made (record { call = call; answer = Placed place reply }) → early_of_call now.view.opened.sizes fds call.call ≡ None
@@ -314,6 +325,7 @@ module _ (fds : List Fd) (plan : Plan) (calls : List TracedCall) (made : List Ma
       within = within;
       own = own;
       counted = drawn_now sound heads distinct is_run_now;
+      small = small_now sound heads distinct is_run_now;
       room = λ none. subst (λ (o : Opened). entries_of_calls o.sizes (drawing_calls made) ≤ o.sizes.entries) (sym cleaned.opened)
           (has_room fds worker made zero run mount (whole sound) distinct (without none) (uncleaned (without none)));
     }

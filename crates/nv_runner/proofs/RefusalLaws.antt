@@ -45,8 +45,8 @@ read_cause sizes worker fd file at len now (Spent found) shown lasting told = el
   | inr numbers ↦ absurd (true≢false (sym numbers.0))
 ]
 read_cause sizes worker fd file at len now (Again head tail) shown lasting told = absurd (true≢false (sym shown.0))
-read_cause sizes worker fd file at len now RegionFault shown lasting told = (tt, told refl)
-read_cause sizes worker fd file at len now StoreFault shown lasting told = (tt, told refl)
+read_cause sizes worker fd file at len now RegionFault shown lasting told = (tt, told refl, shown)
+read_cause sizes worker fd file at len now StoreFault shown lasting told = (tt, told refl, shown)
 
 no_worker : (worker : Option ℕ) → is_some worker ≡ false → worker ≡ None
 no_worker None none = refl

@@ -400,6 +400,7 @@ module _ (words : WordLaws) (counts : RunsCountDraws) (draws : DrawnLaws) (fds :
               let still = tail_still opened all whole.is_run (all_clean none own_clean) in
               let most = sees.tail in
               omega (arith, up, next, still, most);
+          behind = begins;
         }
 
   pub refusals_in_runs : RefusalsHaveCauses → drawn_of zero.view.opened.sizes (pass_of zero.view) ≡ 0 → RoundsRise (calls_made made) → (call : TracedCall) (refusal : Refusal) → IsOneOf made (record { call = call; answer = Refused refusal }) → IsRefusedInRun fds worker made zero call refusal

@@ -1,10 +1,11 @@
 -- Ended runs: a mount over which calls of a trace were made, and what it tells when pass 0 closes it.
-use Rattle.std.specs.Prelude.{◌≡◌, ℕ, ◌+◌, ◌≤◌, true, false, List, length, is_none, IsPermutation, Option, Some, None, Result, Ok, Err, IfOk, OnOk, if◌then◌else◌}
+use Rattle.std.specs.Prelude.{◌≡◌, ℕ, ◌+◌, ◌^◌, ◌≤◌, true, false, List, length, is_none, IsPermutation, Option, Some, None, Result, Ok, Err, IfOk, OnOk, if◌then◌else◌}
 use Rattle.std.specs.List.{flat_map}
 use Rattle.nv_plain.specs.Faults.{Rose}
 use Rattle.nv_plain.specs.declared.call.Reply.{Reply}
 use Rattle.nv_pmem.specs.Steps.{PartHistory}
 use Rattle.nv_store.specs.Steps.{StoreHistory}
+use Rattle.nv_core.specs.invariant.OneHistory.{IsPrefix}
 use Rattle.nv_core.specs.state.Passes.{IsOneOf}
 use Rattle.nv_core.specs.state.Values.{Value}
 use Rattle.nv_core.specs.state.Words.{ORDER, HEAD, TAIL}
@@ -67,7 +68,7 @@ pub record IsClosedBy (zero : PassState) (part_values store_values : List Value)
   pub lines : KeepLines zero.view parts
 
 -- A call of a run was refused, by such a cause. Its pass had seen HEAD no higher than the first number and what the calls drew that don't come later than it; ORDER no higher than there are placed
--- calls; and TAIL as it was at opening, where no batch may be run.
+-- calls; and TAIL as it was at opening, where no batch may be run. The run went on behind what it had seen.
 pub record IsRefusedSo (fds : List Fd) (worker : Option ℕ) (made : List MadeCall) (zero : PassState) (call : TracedCall) (refusal : Refusal) : Type 0 where
   pub now : PassState
   pub opened : now.view.opened ≡ zero.view.opened
@@ -76,10 +77,11 @@ pub record IsRefusedSo (fds : List Fd) (worker : Option ℕ) (made : List MadeCa
   pub order : word_seen now ORDER ≤ length (history_then zero.view)
   pub head : word_seen now HEAD ≤ zero.view.opened.next + entries_of_calls zero.view.opened.sizes (not_later call (drawing_calls made))
   pub tail : worker ≡ None → word_seen now TAIL ≡ zero.view.opened.next
+  pub behind : IsPrefix now.view.run zero.view.run
 
 -- What became of the calls of a trace: passes made them, and pass 0 came to this. All of them were made, and are sorted out, where the run was brought to its end; then the log is empty, unless the
 -- run is one that is stopped. Each is a call of the trace, and no two are of one line. A fault is answered only of a run that isn't, and where a pass has seen STOP set. Each refusal has its cause; the writes that faults ended are the calls that were left open, each of some bytes, which came only where
--- a pass has seen STOP set; and without a worker the calls drew no more numbers than the log has entries. They drew them in a row, from the number that came next at opening, and HEAD counts their entries.
+-- a pass has seen STOP set; and without a worker the calls drew no more numbers than the log has entries. They drew them in a row, from the number that came next at opening, and HEAD counts their entries, no further than the last number.
 pub record HasOutcome (fds : List Fd) (plan : Plan) (calls : List TracedCall) (start : PassState) (outcome : Result SortedCalls RunError) (zero : PassState) : Type 0 where
   pub made : List MadeCall
   pub run_out : HasRunOut fds (batch_of plan) made start zero
@@ -94,6 +96,7 @@ pub record HasOutcome (fds : List Fd) (plan : Plan) (calls : List TracedCall) (s
   pub own : HaveOwnLines (calls_made made)
   pub drawn : HaveDrawn zero.view.opened.sizes zero.view.opened.next made
   pub counted : word_then zero.view HEAD ≡ zero.view.opened.next + entries_of_calls zero.view.opened.sizes (drawing_calls made)
+  pub small : zero.view.opened.next + entries_of_calls zero.view.opened.sizes (drawing_calls made) ≤ 2 ^ 60
   pub room : plan.worker ≡ false → entries_of_calls zero.view.opened.sizes (drawing_calls made) ≤ zero.view.opened.sizes.entries
 
 -- What is answered of a run that came to this: its error; or its calls, sorted out, or that memory was wanting for that.

@@ -17,6 +17,7 @@ pub mod TryLaws
 pub mod Told
 pub mod OpenRuns
 pub mod FaithfulRuns
+pub mod FailedDevices
 pub mod DrawnNumbers
 pub mod RunNumbers
 pub mod Lives

@@ -1,11 +1,15 @@
 -- Refusals: why a call of a trace is refused: what bars it before its first step, or what its pass has seen of the run.
 use Rattle.std.specs.Prelude.{◌≡◌, ◌⊎◌, ℕ, ◌+◌, ◌<◌, ◌≤◌, ◌^◌, List, length, Option, Some, None, MatchOption}
 use Rattle.nv_plain.specs.Modes.{can_read, can_write}
+use Rattle.nv_core.specs.state.Passes.{IsOneOf}
 use Rattle.nv_core.specs.state.Words.{Sizes, Word, ORDER, HEAD, TAIL}
+use Rattle.nv_core.specs.steps.Events.{CallsDevice}
 use Rattle.nv_core.specs.steps.Opening.{IsMount}
+use Rattle.nv_core.specs.steps.Order.{Work}
 use Rattle.nv_table.specs.state.Opened.{mount_of, state_of}
 use Rattle.nv_table.specs.state.States.{PassState}
 use Rattle.nv_mount.specs.declared.fds.Fd.{Fd}
+use Rattle.nv_mirror.specs.PassSteps.{fault_by}
 use Rattle.nv_mirror.specs.declared.answers.Refusal.{Refusal}
 use Rattle.nv_mirror.specs.declared.answers.Refusal.TheVariants.{BadFd, TooFar, TooLong, Busy, Stopped, Spent, Again, Raced, RegionFault, StoreFault}
 use Rattle.nv_calls.specs.calls.EarlyRefusals.{early_refusal}
@@ -55,6 +59,12 @@ pub record FoundNoRoom (sizes : Sizes) (call : TraceCall) (now : PassState) (hea
   pub tail_least : now.view.opened.next ≤ tail
   pub tail_most : tail ≤ word_seen now TAIL
 
+-- The pass made a device call that failed so: that of an entry's part, or that of a store.
+pub record MetFault (now : PassState) (fault : Refusal) : Type 0 where
+  pub work : Work
+  pub failed : fault_by work.cell work.ending ≡ Some fault
+  pub made : IsOneOf now.view.run (record { by = now.view.number; act = CallsDevice work })
+
 -- ---- causes
 
 -- Why a call that nothing bars was refused. No lock that was held and no number that another write drew is a cause: then it was made again. Nor is want of room where a cleaner's batch may be run; and a write that a device fault ended is not refused.
@@ -67,8 +77,8 @@ IsCause sizes worker call now (Raced seen found) = ⊥
 IsCause sizes worker call now Stopped = HasSeenStop now
 IsCause sizes worker call now (Spent found) = FoundNoPlace now found ⊎ FoundNoNumber sizes call now found
 IsCause sizes worker call now (Again head tail) = (worker ≡ None) × FoundNoRoom sizes call now head tail
-IsCause sizes worker call now RegionFault = IsReadCall call × HasSeenStop now
-IsCause sizes worker call now StoreFault = IsReadCall call × HasSeenStop now
+IsCause sizes worker call now RegionFault = IsReadCall call × HasSeenStop now × MetFault now RegionFault
+IsCause sizes worker call now StoreFault = IsReadCall call × HasSeenStop now × MetFault now StoreFault
 
 -- What bars it is its refusal; and where nothing does, that has such a cause.
 abbrev pub HasCause : List Fd → (worker : Option ℕ) → TraceCall → (now : PassState) → Refusal → Type 0

@@ -5,6 +5,7 @@ use Rattle.nv_core.specs.state.Words.{Sizes, ORDER, HEAD, TAIL}
 use Rattle.nv_core.specs.steps.Events.{own}
 use Rattle.nv_core.specs.steps.Opening.{IsMount}
 use Rattle.nv_core.specs.invariant.Draws.{drawn_of}
+use Rattle.nv_core.specs.invariant.OneHistory.{IsPrefix}
 use Rattle.nv_table.specs.state.Opened.{IsRunOf, mount_of}
 use Rattle.nv_table.specs.state.States.{PassState}
 use Rattle.nv_table.specs.state.Views.{AreDistinctNumbers, Past, PassView, SeesAll, numbers, pass_of}
@@ -44,7 +45,7 @@ entries_of_calls sizes calls = sum_by (λ traced. entries_taken sizes traced.cal
 -- ---- refusals
 
 -- A call of a run was refused, by such a cause. Its pass had seen HEAD no higher than the first number and what the calls drew that don't come later than it; ORDER no higher than there are placed
--- calls; and TAIL as it was at opening, where no batch may be run, and pass 0 has run none.
+-- calls; and TAIL as it was at opening, where no batch may be run, and pass 0 has run none. The run went on behind what it had seen.
 pub record IsRefusedInRun (fds : List Fd) (worker : Option ℕ) (made : List MadeCall) (zero : PassState) (call : TracedCall) (refusal : Refusal) : Type 0 where
   pub now : PassState
   pub opened : now.view.opened ≡ zero.view.opened
@@ -53,6 +54,7 @@ pub record IsRefusedInRun (fds : List Fd) (worker : Option ℕ) (made : List Mad
   pub order : word_seen now ORDER ≤ length (history_then zero.view)
   pub head : word_seen now HEAD ≤ zero.view.opened.next + entries_of_calls zero.view.opened.sizes (not_later call (drawing_calls made))
   pub tail : worker ≡ None → CleansNothing zero.view.number zero.view.run → word_seen now TAIL ≡ zero.view.opened.next
+  pub behind : IsPrefix now.view.run zero.view.run
 
 -- So is each of a run in which pass 0 drew nothing.
 abbrev pub RefusalsInRunsHaveCauses : Type 0

@@ -1,5 +1,6 @@
 //! Laws of the calls that passes made in their order.
 ghost use Rattle.nv_runner.specs.DrawnNumbers.{OneThreadDrawsByLine};
+ghost use Rattle.nv_runner.specs.FailedDevices.{FaultsAreOfTheirDevices};
 ghost use Rattle.nv_runner.specs.FaithfulRuns.{EmptiedLogsGoOn, FilesAreOfTheHistory, RunsAreFaithful, RunsAreNumbered, UnstoppedRunsLeaveNothingOpen};
 ghost use Rattle.nv_runner.specs.Histories.{SortedAreHistory, ThreadsAreLegal};
 ghost use Rattle.nv_runner.specs.Lists.{PlacedAreMine, PlacedStand};
@@ -127,6 +128,13 @@ pub fn runs_are_faithful()
     ensures tails { EmptiedLogsGoOn }
     ensures files { FilesAreOfTheHistory }
 {}
+
+/// A call of a run is answered a fault of the region only where a part of the region has failed since the mount was opened, and one of a store only where a store has: by that device's own count.
+pub fn faults_are_of_their_devices()
+    ensures { FaultsAreOfTheirDevices }
+{
+    runs_are_sound();
+}
 
 /// Where a run isn't to be stopped no pass has seen STOP set by its end, and none of its calls was left open.
 pub fn unstopped_runs_leave_nothing_open()

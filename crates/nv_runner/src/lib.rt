@@ -24,8 +24,8 @@ mod zero;
 pub use answer::{Answer, AnsweredCall};
 pub use gate::{Gate, OpenGate, Point};
 pub use laws::{
-    calls_stand_behind_what_was_seen, history_of_threads_is_legal, lines_keep_order,
-    made_calls_stand_in_order, newcomers_begin_behind, open_answers_are_faults,
+    calls_stand_behind_what_was_seen, faults_are_of_their_devices, history_of_threads_is_legal,
+    lines_keep_order, made_calls_stand_in_order, newcomers_begin_behind, open_answers_are_faults,
     open_calls_are_the_faults, refusals_have_causes, refusals_in_runs_have_causes,
     runs_are_faithful, runs_are_told, runs_draw_in_a_row, runs_leave_lives,
     sorted_calls_are_the_history, tries_go_on, unstopped_runs_leave_nothing_open,
