@@ -1,5 +1,5 @@
 -- Faithful: what a report shows of the sorted calls of a run.
-use Rattle.std.proofs.Common.{◌≡◌, ℕ, ◌^◌, ◌<◌, ◌≤◌, List, [], ◌∷◌, ◌++◌, length, map, true, false, inl, inr, refl, sym, ap, subst, ◌∙◌, arith}
+use Rattle.std.proofs.Common.{◌≡◌, ◌+◌, ℕ, ◌^◌, ◌<◌, ◌≤◌, List, [], ◌∷◌, ◌++◌, length, map, true, false, inl, inr, refl, sym, ap, subst, ◌∙◌, arith}
 use Rattle.std.specs.Prelude.{All, IsPermutation, Ok, Option, Some, None, is_some}
 use Rattle.std.specs.List.Sorted.{IsStrictlyIncreasing}
 use Rattle.std.proofs.lemmas.Bool.{true≢false}
@@ -148,6 +148,7 @@ pub record HaveCauses (fds : List Fd) (plan : Plan) (made : List MadeCall) (zero
   pub placed : (call : TracedCall) (place : ℕ) (reply : Reply) → IsOneOf made (record { call = call; answer = answers.Placed place reply }) → early_of_call zero.view.opened.sizes fds call.call ≡ None
   pub left_open : (call : TracedCall) (number : ℕ) → IsOneOf made (record { call = call; answer = answers.Open number }) → SawStop zero.view × IsWrite call.call × (early_of_call zero.view.opened.sizes fds call.call ≡ None)
   pub room : plan.worker ≡ false → entries_of_calls zero.view.opened.sizes (in_run.drawing_calls made) ≤ zero.view.opened.sizes.entries
+  pub small : zero.view.opened.next + entries_of_calls zero.view.opened.sizes (in_run.drawing_calls made) ≤ 2 ^ 60
 
 module _ (made : List MadeCall) (sorted : SortedCalls) (sorts : AreSortedOut made sorted) where
   abbrev placed_ones : List PlacedCall
@@ -297,6 +298,13 @@ module _ (failed : Type 0) (basis : Basis) (trace : Traced) (fds : List Fd) (pla
       let entries = is.entries in
       omega arith
 
+  pub are_small : basis.next + entries_of basis.sizes (drawing_calls report) ≤ 2 ^ 60
+  are_small =
+      let small = causes.small in
+      let drawn = drew_all_is in
+      let next = is.next in
+      omega arith
+
 -- ---- a run
 
 -- the history is no longer than the calls
@@ -322,7 +330,7 @@ pub faithful_where : (failed : Type 0) (basis : Basis) (trace : Traced) (fds : L
 faithful_where failed basis trace fds plan start zero sorted part_values store_values parts stores faults count tail report formed few lines is new out closed shows stops =
     let told = runs_are_told fds plan trace.calls start zero sorted part_values store_values parts stores faults count tail new out closed lines formed.round_order in
     let made = out.made in
-    let causes : HaveCauses fds plan made zero = record { refused = out.causes; placed = out.not_barred; left_open = out.open_stopped; room = out.room } in
+    let causes : HaveCauses fds plan made zero = record { refused = out.causes; placed = out.not_barred; left_open = out.open_stopped; room = out.room; small = out.small } in
     let low = short_history fds trace.calls sorted (history_then zero.view) told few in
     let there = subst (λ (o : Opened). IsMountOf basis trace o fds) (sym out.run_out.mount) is in
     let shown = all_shown failed basis trace fds plan zero made sorted report formed there out.sorted.1 out.sorted.0 causes low shows stops in record {
@@ -335,6 +343,7 @@ faithful_where failed basis trace fds plan start zero sorted part_values store_v
       not_barred = none_barred failed basis trace fds plan zero made sorted report formed there out.sorted.1 out.sorted.0 causes low shows stops;
       left_open = all_left_open failed basis trace fds plan zero made sorted report formed there out.sorted.1 out.sorted.0 causes low shows stops;
       room = has_room failed basis trace fds plan zero made sorted report formed there out.sorted.1 out.sorted.0 causes low shows stops;
+      numbers = are_small failed basis trace fds plan zero made sorted report formed there out.sorted.1 out.sorted.0 causes low shows stops;
       files = shows.files;
     }
 

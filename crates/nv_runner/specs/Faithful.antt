@@ -211,5 +211,7 @@ pub record IsFaithful (failed : Type 0) (worker : Bool) (basis : Basis) (trace :
   pub left_open : All (IsLeftOpen failed basis (descriptors_in basis.names trace)) (open_calls_of report)
   -- without a worker a write for which the log has no entry left is refused
   pub room : worker ≡ false → entries_of basis.sizes (drawing_calls report) ≤ basis.sizes.entries
+  -- no number is drawn beyond the last one: a write whose entries would pass it is refused
+  pub numbers : basis.next + entries_of basis.sizes (drawing_calls report) ≤ 2 ^ 60
   -- the files are those after the history and then the kept writes, each whole
   pub files : report.files ≡ named basis.names (files_shown basis trace report)

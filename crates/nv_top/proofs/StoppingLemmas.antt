@@ -192,6 +192,7 @@ faithful_while failed more worker basis trace report on is = record {
       All-weaker (IsLeftOpen failed basis descriptors) (IsLeftOpen more basis descriptors)
       (λ call is_open. record { is_write = is_open.is_write; failed_so = on is_open.failed_so; not_barred = is_open.not_barred }) (open_calls_of report) is.left_open;
   room = is.room;
+  numbers = is.numbers;
   files = is.files;
 }
 
