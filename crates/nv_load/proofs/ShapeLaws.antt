@@ -1,5 +1,5 @@
 -- What each generated call is.
-use Rattle.std.proofs.Common.{◌≡◌, ℕ, zero, suc, ◌+◌, ◌*◌, ◌/◌, ◌%◌, ◌==◌, ◌<◌, ◌≤◌, Bool, true, false, if◌then◌else◌, List, [], ◌∷◌, length, inl, inr, refl, sym, ap, ◌∙◌, arith}
+use Rattle.std.proofs.Common.{◌≡◌, ℕ, zero, suc, ◌+◌, ◌*◌, ◌/◌, ◌%◌, ◌==◌, ◌<◌, ◌≤◌, Bool, true, false, if◌then◌else◌, List, [], ◌∷◌, length, inl, inr, refl, sym, ap, ◌∙◌, arith, mul-le-mul}
 use Rattle.std.specs.Prelude.{◌⊎◌}
 use Rattle.std.specs.List.{flat_map, range_with_len}
 use Rattle.std.proofs.lemmas.Bool.{cases_eq, cases_lt}
@@ -12,8 +12,9 @@ use Rattle.nv_pmem.specs.declared.picker.Pick.TheVariants.{Seed}
 use Rattle.nv_trace.specs.declared.trace_call.TraceCall.{TraceCall}
 use Rattle.nv_trace.specs.declared.trace_call.TraceCall.TheVariants.{Pread}
 use Rattle.nv_trace.specs.declared.trace_call.TracedCall.{TracedCall}
+use Rattle.nv_trace.specs.Traced.{Traced}
 use Rattle.nv_load.specs.declared.load.Load.{Load}
-use Rattle.nv_load.specs.Generated.{IsLoad, drawn_call, drawn_calls, fill, first_fills, generated_calls, in_lines, thread_calls}
+use Rattle.nv_load.specs.Generated.{IsLoad, drawn_call, drawn_calls, fill, first_fills, generated, generated_calls, in_lines, thread_calls}
 use Rattle.nv_load.proofs.TraceLaws.{many_drawn}
 use Rattle.nv_runner.proofs.HistoryMembers.{one_either, one_left, one_mapped, one_of_joined, one_of_mapped}
 
@@ -213,3 +214,9 @@ generated_long load =
     let rest = second_long load 0 load.threads in
     let both = length-append (in_lines 3 0 0 first_fills) (flat_map (thread_calls load) (range_with_len 0 load.threads)) in
     omega (arith, first, rest, both)
+
+pub generated_few : (load : Load) (trace : Traced) → IsLoad load → trace ≡ generated load → length trace.calls ≤ 800064
+generated_few load trace limits same =
+    let long = ap (λ (t : Traced). length t.calls) same ∙ generated_long load in
+    let most : load.threads * load.calls ≤ 8 * 100000 = mul-le-mul limits.few_threads limits.calls in
+    omega (arith, long, most)

@@ -1,5 +1,5 @@
 //! Generated calls, as a trace.
-ghost use Rattle.std.specs.Prelude.{◌≡◌, ◌<◌, ◌≤◌, [], IfOk, OnOk};
+ghost use Rattle.std.specs.Prelude.{◌≡◌, ◌<◌, ◌≤◌, [], length, IfOk, OnOk};
 ghost use Rattle.std.specs.List.Sorted.{IsStrictlyIncreasing};
 ghost use Rattle.nv_pmem.specs.Draws.{after_draw};
 ghost use Rattle.nv_trace.specs.Shape.{IsCallWithin};
@@ -25,11 +25,12 @@ const FIRST_FILL: u64 = 3;
 const ROUND: u64 = FIRST_FILL + BLOCKS;
 
 /// The trace of a load: thread 0 fills the blocks of a file with zeros, and then each thread makes its calls, by words that are drawn from a SplitMix64 of its own. Three of four fill one of the
-/// thread's own blocks with some byte, and the others read.
+/// thread's own blocks with some byte, and the others read. They are 800,064 calls at most.
 pub fn generate(alloc: Global, load: Load) -> Result<Trace, NoMemory>
     requires { IsLoad load }
     ensures trace { IfOk result (λ trace. trace ≡ generated load) }
     ensures lines { IfOk result (λ trace. IsStrictlyIncreasing (lines_in trace)) }
+    ensures few { IfOk result (λ trace. length trace.calls ≤ 800064) }
 {
     let mut trace = declare(alloc)?;
     push_fills(alloc, &mut trace)?;

@@ -1,11 +1,12 @@
 //! The command: what a program does, whole.
-ghost use Rattle.std.specs.Prelude.{◌≡◌, ◌≢◌, ◌≤◌, ◌<◌, ◌⊎◌, ◌+◌, ◌-◌, ◌^◌, ℕ, List, [], map, string_bytes, false, true, None, Some, IfSome, IfOk, IfErr, OnOk, Err};
+ghost use Rattle.std.specs.Prelude.{◌≡◌, ◌≢◌, ◌≤◌, ◌<◌, ◌⊎◌, ◌+◌, ◌-◌, ◌^◌, ℕ, List, [], length, map, string_bytes, false, true, None, Some, IfSome, IfOk, IfErr, OnOk, Err};
 ghost use Rattle.std.specs.List.Sorted.{IsStrictlyIncreasing};
 ghost use Rattle.nv_plain.specs.Faults.{Rose};
 ghost use Rattle.nv_bench.specs.Holding.{IsQuietHolding};
 ghost use Rattle.nv_open.specs.Held.{told_after};
 ghost use Rattle.nv_open.specs.declared.error.Refusal.{Refusal};
 ghost use Rattle.nv_open.specs.declared.error.Refusal.TheVariants as refusals;
+ghost use Rattle.nv_runner.specs.declared.running.TheConstants.{MOST_CALLS};
 ghost use Rattle.nv_trace.specs.Reading.{ending_of};
 ghost use Rattle.nv_trace.specs.declared.trace.Form.TheVariants as forms;
 ghost use Rattle.nv_trace.specs.Shape.{IsWellFormed};
@@ -283,6 +284,7 @@ fn run_trace<R: Threads + Wait + Sync, T: Bench, G: Gate + Sync>(
     requires stop { IfSome options.stop (λ k. (1 ≤ k) × (T.can_lose_power ≡ true)) }
     requires well_formed { IsWellFormed trace.now }
     requires lines { IsStrictlyIncreasing (lines_in trace.now) }
+    requires few { length trace.now.calls ≤ MOST_CALLS }
     ensures back { IsLeftBy (commands.Run options) (T.state bench.old) (T.state bench.new) }
     ensures cause { IsSettledStop (expected_faults (T.state bench.old) (T.state bench.new)) (T.state bench.new).faults result }
     ensures never_falls { (T.state bench.old).faults ≤ (T.state bench.new).faults }
@@ -324,6 +326,7 @@ fn stop_run<R: Threads + Wait + Sync, T: Bench, G: Gate + Sync>(
     requires k { 1 ≤ k }
     requires well_formed { IsWellFormed trace.now }
     requires lines { IsStrictlyIncreasing (lines_in trace.now) }
+    requires few { length trace.now.calls ≤ MOST_CALLS }
     ensures back { IsPoweredBack k (T.state bench.old) (T.state bench.new) ⊎ IsGivenBack (T.state bench.old) (T.state bench.new) }
     ensures picked { IsPickedOnce options.image (T.state bench.old) (T.state bench.new) }
     ensures cause { IsSettledStop (expected_faults (T.state bench.old) (T.state bench.new)) (T.state bench.new).faults result }

@@ -48,7 +48,7 @@ use nv_open::{Opened, open};
 use nv_plain::{Bytes, NoMemory};
 use nv_pmem::{Geometry, Lines, images_follow_calls};
 use nv_runner::{
-    Gate, MOST_CALLS, Plan, SortedCalls, run_calls, runs_leave_lives, show_refusals,
+    Gate, Plan, SortedCalls, run_calls, runs_leave_lives, show_refusals,
     unstopped_runs_leave_nothing_open,
 };
 use nv_store::Backing;
@@ -75,6 +75,7 @@ pub(crate) fn run<R: Threads + Wait + Sync, T: Bench, G: Gate + Sync>(
     requires limits { AreInLimits options }
     requires well_formed { IsWellFormed trace.now }
     requires lines { IsStrictlyIncreasing (lines_in trace.now) }
+    requires few { length trace.now.calls ≤ MOST_CALLS }
     ensures back { IsGivenBack (T.state bench.old) (T.state bench.new) }
     ensures ran { IfOk result (λ text. IfSome (T.state bench.old).told (λ holding.
         HasRunOn show options holding (T.state bench.new).told trace.now text.items)) }
@@ -88,9 +89,6 @@ pub(crate) fn run<R: Threads + Wait + Sync, T: Bench, G: Gate + Sync>(
     ensures cause { CountHasCause (T.state bench.old).faults (T.state bench.new).faults result }
 {
     images_follow_calls();
-    if trace.calls().len() > MOST_CALLS {
-        return Err(Stop::NoMemory);
-    }
     let geometry = Geometry {
         page: options.page,
         entries: options.entries,

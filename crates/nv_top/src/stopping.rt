@@ -42,8 +42,8 @@ use nv_open::{Opened, recover_region};
 use nv_pmem::{images_follow_calls, rows_have_states};
 use nv_recover::{Recovered, images_stand_for_files};
 use nv_runner::{
-    Gate, MOST_CALLS, Plan, SortedCalls, history_of_threads_is_legal, open_calls_are_the_faults,
-    run_calls, runs_are_faithful, runs_are_told, runs_leave_lives, show_refusals,
+    Gate, Plan, SortedCalls, history_of_threads_is_legal, open_calls_are_the_faults, run_calls,
+    runs_are_faithful, runs_are_told, runs_leave_lives, show_refusals,
 };
 use nv_store::Backing;
 use nv_table::Pass;
@@ -75,6 +75,7 @@ pub(crate) fn run_to_stop<R: Threads + Wait + Sync, T: Bench, G: Gate + Sync>(
     requires synced { All (λ store. Tells (T.Store.history store) IsQuietStore) opened.stores.items }
     requires well_formed { IsWellFormed trace.now }
     requires lines { IsStrictlyIncreasing (lines_in trace.now) }
+    requires few { length trace.now.calls ≤ MOST_CALLS }
     requires known { All (λ name. said_place name opened.region.names < length opened.region.names) trace.now.names }
     ensures back { IsPoweredBack k (T.state bench.old) (T.state bench.new) ⊎ IsBackUnarmed (T.state bench.old) (T.state bench.new) }
     ensures picked { IsPickedOnce options.image (T.state bench.old) (T.state bench.new) }
@@ -101,10 +102,6 @@ pub(crate) fn run_to_stop<R: Threads + Wait + Sync, T: Bench, G: Gate + Sync>(
         options.worker options.image (T.state bench.old).picked (basis_over opened.region options.pages (files_of now)) trace.now (T.state bench.new) text.items)) }
 {
     let Opened { region, stores } = opened;
-    if trace.calls().len() > MOST_CALLS {
-        bench.give_back(region.into_parts(), stores);
-        return Err(Stop::NoMemory);
-    }
     let plan = Plan {
         batch: options.batch,
         worker: options.worker,

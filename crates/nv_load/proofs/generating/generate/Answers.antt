@@ -1,5 +1,6 @@
 use Rattle.std.proofs.Common.{◌∙◌, ◌-◌, ap, length, sym, arith}
 use Rattle.nv_trace.specs.Traced.{Traced, has_tokens}
+use Rattle.nv_load.proofs.ShapeLaws.{generated_few}
 use Rattle.nv_load.proofs.TraceLaws.{all_threads, in_lines_too, thread_on}
 use Rattle.nv_load.proofs.generating.generate.Goals as goal
 
@@ -22,4 +23,10 @@ pub returns-clause-lines : goal.returns-clause-lines
 returns-clause-lines c =
     let load = c.args.load in
     in_lines_too load c.loop-thread.trace
+    (sym (all_threads load c.loop-thread.trace c.loop-thread.thread (load.threads - c.loop-thread.thread) (omega (arith, c.loop-thread-test.false))) ∙ c.loop-thread.invariant.all)
+
+pub returns-clause-few : goal.returns-clause-few
+returns-clause-few c =
+    let load = c.args.load in
+    generated_few load c.loop-thread.trace c.requires
     (sym (all_threads load c.loop-thread.trace c.loop-thread.thread (load.threads - c.loop-thread.thread) (omega (arith, c.loop-thread-test.false))) ∙ c.loop-thread.invariant.all)

@@ -98,11 +98,6 @@ returns-in_err-region-clause-refused g c why is =
       not_opened = told_at old.told _ holding told (c.in_err-region.ensures.refused why (ap Err (opening_refused error why (sym stop))));
     }))
 
-pub returns-then-calls-gt-MOST_CALLS-clause-life : goal.returns-then-calls-gt-MOST_CALLS-clause-life
-returns-then-calls-gt-MOST_CALLS-clause-life g c =
-    let old = g.T.Bench.state c.args.bench.now in
-    still_run old old c.args.options c.args.trace.now c.images_follow_calls.ensures.quiet refl c.requires.quiet
-
 pub returns-in_err-wanted-clause-life : goal.returns-in_err-wanted-clause-life
 returns-in_err-wanted-clause-life g c =
     let old = g.T.Bench.state c.args.bench.now in

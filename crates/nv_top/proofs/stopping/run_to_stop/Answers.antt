@@ -51,25 +51,6 @@ pub returns-in-Ok-clause-never : goal.returns-in-Ok-clause-never
 returns-in-Ok-clause-never g c why is parts now parts_are now_are =
     c.stop_mount.ensures.never why is (basis_over c.args.opened.region c.args.options.pages (files_of now)) (c.in-Ok.ensures.begins parts now parts_are now_are) (sym c.requires.lent)
 
-pub returns-then-calls-gt-MOST_CALLS-clause-life : goal.returns-then-calls-gt-MOST_CALLS-clause-life
-returns-then-calls-gt-MOST_CALLS-clause-life g c parts now parts_are now_are =
-    let history = g.T.Part.Lines.history in
-    let held = g.T.Store.Backing.history in
-    let region = c.args.opened.region in
-    let stores = c.args.opened.stores.items in
-    let trace = c.args.trace.now in
-    let start = g.T.Bench.state c.args.bench.now in
-    let home = g.T.Bench.state c.give_back.new.self in
-    let basis = basis_over region c.args.options.pages (files_of now) in
-    let rest = rest_lives history held basis trace region.parts.items stores parts now region.geometry.page region.geometry.entries region.next parts_are now_are region.is_region.tells (quiet_stores held stores now now_are c.requires.synced) refl in
-    let left_so : AreLeftSo history held basis trace c.into_parts.result.items stores = left_same history held basis trace c.into_parts.result.items region.parts.items stores stores (ap (λ parts. map history parts.items) c.into_parts.ensures.parts) refl rest in
-    if_some start.told (λ left. IsAway region.names left → HasLived basis trace home.told) (λ left told_is away.
-    lived_home basis trace history held c.into_parts.result.items stores home.told left.stores (λ holding is. g.met.T.Bench.whole c.give_back.new.self holding is) left_so
-    (λ disks are. all_behind region.names left.stores (named_stores region.names disks) away
-    ∙ own_stores region.names disks (sym (length_now (map held stores) disks are ∙ ap length (refl) ∙ length-map stores held ∙ c.requires.stores)) region.is_region.names_are.distinct)
-    (λ back disks back_are disks_are. c.give_back.ensures.told back disks back_are disks_are
-    ∙ ap (λ (told : Option Holding). option_map (λ (holding : Holding). home_with holding start.lent back disks) told) told_is ∙ ap (λ names. Some (home_with left names back disks)) c.requires.lent))
-
 pub returns-in-Ok-clause-life : goal.returns-in-Ok-clause-life
 returns-in-Ok-clause-life g c parts now parts_are now_are =
     c.stop_mount.ensures.life (basis_over c.args.opened.region c.args.options.pages (files_of now)) (c.in-Ok.ensures.begins parts now parts_are now_are) (sym c.requires.lent)
@@ -82,15 +63,15 @@ returns-in-Err-clause-life g c parts now parts_are now_are =
     let stores = c.args.opened.stores.items in
     let trace = c.args.trace.now in
     let start = g.T.Bench.state c.args.bench.now in
-    let home = g.T.Bench.state c.give_back-in-Err.new.self in
+    let home = g.T.Bench.state c.give_back.new.self in
     let basis = basis_over region c.args.options.pages (files_of now) in
     let rest = rest_lives history held basis trace region.parts.items stores parts now region.geometry.page region.geometry.entries region.next parts_are now_are region.is_region.tells (quiet_stores held stores now now_are c.requires.synced) refl in
     let left_so : AreLeftSo history held basis trace c.in-Err.field-0.parts.items c.in-Err.field-0.stores.items = left_same history held basis trace c.in-Err.field-0.parts.items region.parts.items c.in-Err.field-0.stores.items stores c.in-Err.ensures.same_parts c.in-Err.ensures.same_stores rest in
     if_some start.told (λ left. IsAway region.names left → HasLived basis trace home.told) (λ left told_is away.
-    lived_home basis trace history held c.in-Err.field-0.parts.items c.in-Err.field-0.stores.items home.told left.stores (λ holding is. g.met.T.Bench.whole c.give_back-in-Err.new.self holding is) left_so
+    lived_home basis trace history held c.in-Err.field-0.parts.items c.in-Err.field-0.stores.items home.told left.stores (λ holding is. g.met.T.Bench.whole c.give_back.new.self holding is) left_so
     (λ disks are. all_behind region.names left.stores (named_stores region.names disks) away
     ∙ own_stores region.names disks (sym (length_now (map held c.in-Err.field-0.stores.items) disks are ∙ ap length (c.in-Err.ensures.same_stores) ∙ length-map stores held ∙ c.requires.stores)) region.is_region.names_are.distinct)
-    (λ back disks back_are disks_are. c.give_back-in-Err.ensures.told back disks back_are disks_are
+    (λ back disks back_are disks_are. c.give_back.ensures.told back disks back_are disks_are
     ∙ ap (λ (told : Option Holding). option_map (λ (holding : Holding). home_with holding start.lent back disks) told) told_is ∙ ap (λ names. Some (home_with left names back disks)) c.requires.lent))
 
 pub returns-in-Err-clause-never_falls : goal.returns-in-Err-clause-never_falls
@@ -99,4 +80,4 @@ returns-in-Err-clause-never_falls g c =
     let failed = c.in-Err.field-0 in
     let before = sum_by g.T.Part.Lines.fault_count region.parts.items + sum_by g.T.Store.Backing.fault_count c.args.opened.stores.items in
     let now = sum_by g.T.Part.Lines.fault_count failed.parts.items + sum_by g.T.Store.Backing.fault_count failed.stores.items in
-    omega (arith, stop_grows before now failed.stop c.in-Err.ensures.cause, ap (λ (s : BenchState). s.faults) c.give_back-in-Err.ensures.taken)
+    omega (arith, stop_grows before now failed.stop c.in-Err.ensures.cause, ap (λ (s : BenchState). s.faults) c.give_back.ensures.taken)
