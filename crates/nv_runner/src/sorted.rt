@@ -72,6 +72,8 @@ fn part_calls<'a>(
     let mut placed = Vec::new(alloc);
     let mut refused = Vec::new(alloc);
     let mut open_calls = Vec::new(alloc);
+    // Most calls have a place: room that is taken once needs no second list while it grows.
+    placed.reserve_exact(answered.len())?;
     for call in answered {
         put_one(call, &mut placed, &mut refused, &mut open_calls)?;
     }
