@@ -11,6 +11,7 @@ pub mod ReadingLemmas
 pub mod RestLemmas
 pub mod RowLemmas
 pub mod RunLemmas
+pub mod ShownLemmas
 pub mod StopLemmas
 pub mod StoppingLemmas
 pub mod TestBenches

@@ -1,4 +1,4 @@
--- A region that power was lost of isn't refused: its header can be read, its lines are there, and its groups are whole.
+-- Regions that aren't refused: the header can be read, the lines are there, and the groups are whole. So it is with one that power was lost of.
 use Rattle.std.proofs.Common.{◌≡◌, ℕ, suc, ◌+◌, ◌<◌, ◌≤◌, All, List, [], ◌∷◌, Option, Some, IfSome, option_map, length, map, get_or, refl, sym, ap, subst, ◌∙◌, inl, inr, arith}
 use Rattle.std.proofs.lemmas.List.{get_or-map, get_or-take, length-map, length-take}
 use Rattle.std.proofs.lemmas.List.Elements.{All-nil, All-cons, All-head, All-tail}
@@ -33,7 +33,7 @@ use Rattle.nv_table.specs.state.Opened.{Opened, mount_of}
 use Rattle.nv_table.specs.state.States.{PassState}
 use Rattle.nv_mount.specs.Mounts.{MountState}
 use Rattle.nv_mount.specs.Telling.{HasLongParts}
-use Rattle.nv_open.specs.Refusals.{AreLong, CanBeRead, IsHeadRefused, IsRefusedFor, head_image, header_part, rooms_of}
+use Rattle.nv_open.specs.Refusals.{AreLong, CanBeRead, IsBadHeader, IsHeadRefused, IsRefusedFor, head_image, header_part, rooms_of}
 use Rattle.nv_open.specs.declared.error.Refusal.{Refusal}
 use Rattle.nv_open.specs.declared.error.Refusal.TheVariants.{Truncated, BadMagic, BadVersion, BadGeometry, BadName, BadEntry, TooManyFiles}
 use Rattle.nv_trace.specs.Traced.{Traced}
@@ -73,6 +73,37 @@ powered_rooms draws (part ∷ parts) =
     ap (λ count. room_with count ∷ rooms_of (powered_parts one.1 parts).0) (length-picked draws part)
     ∙ ap (λ rooms. room_with (length part) ∷ rooms) (powered_rooms one.1 parts)
 
+-- ---- a region that can be read, and has its lines
+
+module _ (read_so : ReadIsNotRefused) (parts : List Part) (readable : CanBeRead parts) (long : AreLong parts) where
+  good_head : (refusal : HeadError) → SpeaksOfImage refusal → ¬ (IsHeadRefused parts refusal)
+  good_head refusal speaks = read_so version_1 (length (header_part parts)) (head_image parts) refusal readable speaks
+
+  -- it isn't refused for its header
+  pub header_allowed : (why : Refusal) → IsBadHeader why → ¬ (IsRefusedFor parts why)
+  header_allowed (Truncated found wanted) bad is = elim is [
+    | inl short ↦ good_head (head.Truncated found wanted) tt short
+    | inr lacks ↦ lacks.short long
+  ]
+  header_allowed BadMagic bad is = good_head head.BadMagic tt is
+  header_allowed (BadVersion found) bad is = good_head (head.BadVersion found) tt is
+  header_allowed (BadGeometry field found) bad is = good_head (head.BadGeometry field found) tt is
+  header_allowed (BadName i) bad is = good_head (head.BadName i) tt is
+  header_allowed (BadEntry number) bad is = bad
+  header_allowed TooManyFiles bad is = bad
+
+  -- nor for an entry, where its groups are whole
+  pub region_allowed : FittingHasNoBad → Fits version_1 (row_words parts) → (why : Refusal) → ¬ (IsRefusedFor parts why)
+  region_allowed good_so fits (Truncated found wanted) is = header_allowed (Truncated found wanted) tt is
+  region_allowed good_so fits BadMagic is = header_allowed BadMagic tt is
+  region_allowed good_so fits (BadVersion found) is = header_allowed (BadVersion found) tt is
+  region_allowed good_so fits (BadGeometry field found) is = header_allowed (BadGeometry field found) tt is
+  region_allowed good_so fits (BadName i) is = header_allowed (BadName i) tt is
+  region_allowed good_so fits (BadEntry number) is = good_so version_1 (row_words parts) number fits is.2
+  region_allowed good_so fits TooManyFiles is = is
+
+-- ---- one that power was lost of
+
 module _ (good_so : FittingHasNoBad) (read_so : ReadIsNotRefused) (page entries first : ℕ) (names : List (List ℕ)) (parts : List Part)
     (header : ReadsAs version_1 page entries names first (row_words parts)) (fits : Fits version_1 (row_words parts)) (long : HasLines version_1 page entries (rooms_of parts)) where
   long_first : (parts : List Part) → version_1.header_lines ≤ header_lines_in (rooms_of parts) → version_1.header_lines ≤ length (header_part parts)
@@ -92,20 +123,8 @@ module _ (good_so : FittingHasNoBad) (read_so : ReadIsNotRefused) (page entries 
       let Of : ℕ → Type 0 = λ page. Long page (header_of (head_image parts)).entries in
       subst Of (sym header.page_is) (subst (Long page) (sym header.entries_is) long)
 
-  good_head : (refusal : HeadError) → SpeaksOfImage refusal → ¬ (IsHeadRefused parts refusal)
-  good_head refusal speaks = read_so version_1 (length (header_part parts)) (head_image parts) refusal can_be_read speaks
-
   pub not_refused : (why : Refusal) → ¬ (IsRefusedFor parts why)
-  not_refused (Truncated found wanted) is = elim is [
-    | inl short ↦ good_head (head.Truncated found wanted) tt short
-    | inr lacks ↦ lacks.short are_long
-  ]
-  not_refused BadMagic is = good_head head.BadMagic tt is
-  not_refused (BadVersion found) is = good_head (head.BadVersion found) tt is
-  not_refused (BadGeometry field found) is = good_head (head.BadGeometry field found) tt is
-  not_refused (BadName i) is = good_head (head.BadName i) tt is
-  not_refused (BadEntry number) is = good_so version_1 (row_words parts) number fits is.2
-  not_refused TooManyFiles is = is
+  not_refused = region_allowed read_so parts can_be_read are_long good_so fits
 
 -- ---- an image that stores may be left with
 

@@ -96,6 +96,12 @@ pub record IsUnhindered (command : Command) (input : Option (List ℕ)) (holding
   pub read : ¬ read_failed
   pub devices : ¬ device_failed
 
+-- A command that shows what it does, of an input that tells, wasn't refused by the region.
+abbrev pub ShownIsNotRefused : Type 0
+ShownIsNotRefused =
+    (command : Command) (input : Option (List ℕ)) (old new : BenchState) (holding : Holding) (text : List ℕ)
+    → HasInput command input → IsShown command input old new holding text → (why : Refusal) → ¬ (HasRefusal command input holding why)
+
 -- A region that was refused is as it was, unless it was refused for its files.
 abbrev pub IsRegionUnwritten : (old new : BenchState) → Refusal → Type 0
 IsRegionUnwritten old new why = ¬ (why ≡ refusals.TooManyFiles) → new.told ≡ told_after why old.told

@@ -13,7 +13,7 @@ ghost use Rattle.nv_trace.specs.Shape.{IsWellFormed};
 ghost use Rattle.nv_trace.specs.Streams.{Appends};
 ghost use Rattle.nv_top.specs.Commands.{IsGivenBack, IsNotRun, RestsNotRun};
 ghost use Rattle.nv_top.specs.Endings.{IsErrorLine, AppendsFront, usage_line, read_line, device_line, memory_line, input_line, region_line, IsTrace};
-ghost use Rattle.nv_top.specs.Headline.{HasStopped, IsLeftBy, IsCommandRefused, IsUnhindered, IsShown, IsShownOf, command_over, expected_faults, possible};
+ghost use Rattle.nv_top.specs.Headline.{HasInput, HasRefusal, HasStopped, IsLeftBy, IsCommandRefused, IsUnhindered, IsShown, IsShownOf, command_over, expected_faults, possible};
 ghost use Rattle.nv_trace.specs.Traced.{lines_in};
 ghost use Rattle.nv_top.specs.Lives.{LeavesLife, LeavesRun};
 ghost use Rattle.nv_top.specs.Stopping.{IsPickedOnce, IsPoweredBack, IsSettledStop};
@@ -26,6 +26,7 @@ ghost use Rattle.nv_top.specs.declared.words.Command.TheVariants as commands;
 ghost use Rattle.nv_top.specs.declared.words.WordsError.TheVariants as words_errors;
 
 use crate::ending::{DONE, Stop, say, say_stop};
+use crate::laws::a_refused_region_shows_nothing;
 use crate::loading::run_load;
 use crate::looking::look;
 use crate::names::copy_names;
@@ -112,6 +113,9 @@ pub fn nv_main<R: Threads + Wait + Sync, I: Source, O: Sink, B: Bench, G: Gate +
     ensures complete { (command : Command) → command_over B.can_lose_power (map string_bytes words.now) ≡ Some command → IfSome (B.state bench.old).told (λ holding. IsUnhindered command (I.left src.old) holding (Rose (I.fault_count src.old) (I.fault_count src.new))
         (Rose (expected_faults (B.state bench.old) (B.state bench.new)) (B.state bench.new).faults)
         → ¬ (Rose (O.fault_count out.old) (O.fault_count out.new)) → (result ≡ DONE) ⊎ (result ≡ NO_MEMORY)) }
+    // With status 0 the region wasn't refused, where the input tells. So a command that nothing else stands in the way of ends with 7 exactly where it is, unless memory is wanting.
+    ensures unrefused { result ≡ DONE → (command : Command) → command_over B.can_lose_power (map string_bytes words.now) ≡ Some command → HasInput command (I.left src.old)
+        → IfSome (B.state bench.old).told (λ holding. (why : Refusal) → ¬ (HasRefusal command (I.left src.old) holding why)) }
     ensures counts { result ≡ DONE → (B.state bench.new).faults ≡ expected_faults (B.state bench.old) (B.state bench.new) }
 
     // Whatever the status is, the count of the bench's faults is no lower than it was.
@@ -135,6 +139,7 @@ pub fn nv_main<R: Threads + Wait + Sync, I: Source, O: Sink, B: Bench, G: Gate +
         (text : List ℕ) × IsShown command (I.left src.old) (B.state bench.old) (B.state bench.new) holding text
         × Appends (O.written out.old) (O.written out.new) text) }
 {
+    a_refused_region_shows_nothing();
     match report(rt, alloc, words, src, bench, gate) {
         Ok(text) => say(out, DONE, &text),
         Err(stop) => say_stop(alloc, out, &stop),

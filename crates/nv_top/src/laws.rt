@@ -1,6 +1,10 @@
 //! Laws of reports, and of commands one behind the other.
+ghost use Rattle.nv_top.specs.Headline.{ShownIsNotRefused};
 ghost use Rattle.nv_top.specs.NextCommands.{NextBeginsBehind, NextBeginsBehindRecovery, NextBeginsBehindStop, NextFindsLooked, NextFindsRecovered, NextFindsRun, NextFindsStopped, NextIsReady, RunsHaveOneHistory};
 ghost use Rattle.nv_top.specs.Readings.{OneNumber, OneReading, OneRecoveryReading};
+
+use nv_header::a_header_has_one_answer;
+use nv_recover::images_stand_for_files;
 
 /// The text of a report has one reading: reports of one text list the same lines, field by field, those of runs and those of
 /// recoveries. A field that is a number below 2^64 stands for that number alone.
@@ -29,3 +33,12 @@ pub fn a_next_command_may_follow()
     ensures finds_looked { NextFindsLooked }
     ensures one_history { RunsHaveOneHistory }
 {}
+
+/// A command that shows what it does wasn't refused by the region of its bench: one that is refused for its bytes, or for too many
+/// files, shows nothing.
+pub fn a_refused_region_shows_nothing()
+    ensures { ShownIsNotRefused }
+{
+    images_stand_for_files();
+    a_header_has_one_answer();
+}

@@ -3,6 +3,8 @@ use Rattle.nv_trace.specs.Streams.{Appends}
 use Rattle.nv_top.specs.Endings.{AppendsFront}
 use Rattle.nv_top.specs.declared.ending.TheConstants.{DONE, WRITE_FAULT}
 use Rattle.nv_top.proofs.HeadlineLemmas.{written_so}
+use Rattle.nv_open.specs.declared.error.Refusal.{Refusal}
+use Rattle.nv_top.specs.Headline.{HasRefusal, IsShown}
 use Rattle.nv_top.specs.Stops.{TakesMemory}
 use Rattle.nv_top.proofs.CommandLemmas.{if_told, told_at}
 use Rattle.nv_top.proofs.StopLemmas.{said_before}
@@ -24,6 +26,16 @@ returns-in-Ok-clause-report g c is command over =
   where
     differ : {status : ℕ} → status ≡ DONE → status ≡ WRITE_FAULT → ⊥
     differ {status} done fault = cc
+
+pub returns-in-Ok-clause-unrefused : goal.returns-in-Ok-clause-unrefused
+returns-in-Ok-clause-unrefused g c is command over has =
+    let old = g.B.Bench.state c.args.bench.now in
+    let left = g.I.Source.left c.args.src.now in
+    let new = g.B.Bench.state c.report.new.bench in
+    let text = c.in-Ok.text.items in
+    if_told old.told (λ holding. (why : Refusal) → ¬ (HasRefusal command left holding why)) (λ holding told.
+    c.a_refused_region_shows_nothing.ensures command left old new holding text has
+    (told_at old.told (λ holding. IsShown command left old new holding text) holding told (c.in-Ok.ensures.report command over)))
 
 pub returns-in-Err-clause-unopened : goal.returns-in-Err-clause-unopened
 returns-in-Err-clause-unopened g c is = c.in-Err.ensures.unopened (said_before c.say_stop.result c.in-Err.stop (TakesMemory c.in-Err.stop) c.say_stop.ensures.status is)

@@ -1,0 +1,120 @@
+-- What is shown of a region: it isn't refused.
+use Rattle.std.proofs.Common.{◌≡◌, ℕ, ◌≤◌, Bool, true, false, List, [], Option, Some, None, length, refl, sym, ap, subst, ◌∙◌, arith, slice_index_or}
+use Rattle.std.specs.List.{range_with_len}
+use Rattle.std.proofs.lemmas.List.{length-map}
+use Rattle.std.proofs.lemmas.List.FromFn.{length-range_with_len}
+use Rattle.nv_plain.specs.Images.{Image, header_of, name_of}
+use Rattle.nv_plain.specs.Layouts.{version_1}
+use Rattle.nv_pmem.specs.Part.{Part}
+use Rattle.nv_pmem.specs.Rows.{row_words}
+use Rattle.nv_pmem.specs.declared.geometry.Geometry.{Geometry}
+use Rattle.nv_pmem.proofs.ImageLaws.{image_of_now}
+use Rattle.nv_bench.specs.Benches.{BenchState}
+use Rattle.nv_bench.specs.Holding.{Holding}
+use Rattle.nv_bench.specs.Opening.{is_blank}
+use Rattle.nv_header.specs.Heads.{first_names}
+use Rattle.nv_header.specs.Refusals.{ReadIsNotRefused}
+use Rattle.nv_header.specs.Regions.{IsAtRest}
+use Rattle.nv_recover.specs.Groups.{FittingHasNoBad}
+use Rattle.nv_open.specs.Adding.{all_names}
+use Rattle.nv_open.specs.Begun.{HasTooMany, IsOpeningBegun}
+use Rattle.nv_open.specs.declared.error.Refusal.{Refusal}
+use Rattle.nv_open.specs.declared.error.Refusal.TheVariants.{Truncated, BadMagic, BadVersion, BadGeometry, BadName, BadEntry, TooManyFiles}
+use Rattle.nv_trace.specs.Reading.{Whole}
+use Rattle.nv_trace.specs.Traced.{Traced}
+use Rattle.nv_runner.specs.Faithful.{Basis}
+use Rattle.nv_load.specs.Generated.{generated}
+use Rattle.nv_top.specs.Commands.{HasLooked, HasRunOn, IsBasis, IsNotRun, IsNotShown}
+use Rattle.nv_top.specs.Headline.{HasRefusal, IsShown, IsShownOf, ShownIsNotRefused}
+use Rattle.nv_top.specs.Loads.{load_options}
+use Rattle.nv_top.specs.Stopping.{next_in}
+use Rattle.nv_top.specs.declared.show.Show.{Show}
+use Rattle.nv_top.specs.declared.show.Show.TheVariants.{Report, Summary}
+use Rattle.nv_top.specs.declared.words.Command.TheVariants.{Run, Recover, Look, Gen}
+use Rattle.nv_top.specs.declared.words.RunOptions.{RunOptions}
+use Rattle.nv_top.proofs.UnrefusedLemmas.{header_allowed, region_allowed}
+
+-- ---- names
+
+first_many : (image : Image) (count : ℕ) → length (first_names version_1 image count) ≡ count
+unfolding first_names
+first_many image count = length-map (range_with_len 0 count) (name_of version_1 image) ∙ length-range_with_len 0 count
+
+-- a region at rest has no more names than a header may have
+rested_few : (page entries next : ℕ) (names : List (List ℕ)) (parts : List Part) → IsAtRest version_1 page entries names next parts → length names ≤ version_1.file_limit
+rested_few page entries next names parts rest =
+    let image = row_words parts in
+    let empty = rest.empty image (record { each = λ i. image_of_now (slice_index_or parts i []) }) in
+    let files = empty.header.readable.fields.files in
+    let many = first_many image (header_of image).files in
+    subst (λ (names : List (List ℕ)). length names ≤ version_1.file_limit) empty.header.names_are (omega (arith, many, files))
+
+-- ---- a run
+
+-- an opening begins with the same names, whatever is wanted of it
+begun_known : {one two : Geometry} {page entries next page_too entries_too next_too : ℕ} (parts : List Part) (known other : List (List ℕ)) (blank : Bool) → is_blank parts ≡ blank
+    → IsOpeningBegun parts one page entries known next → IsOpeningBegun parts two page_too entries_too other next_too → known ≡ other
+begun_known parts known other true is first second = (first.formatted is).names_are ∙ sym (second.formatted is).names_are
+begun_known parts known other false is first second = (first.kept is).recovered.names_are ∙ sym (second.kept is).recovered.names_are
+
+module _ (good_so : FittingHasNoBad) (read_so : ReadIsNotRefused) where
+  -- a run that began, with no more names than a header may have, wasn't refused
+  begun_allowed : (options : RunOptions) (holding : Holding) (wanted : List (List ℕ)) (basis : Basis) → IsBasis options holding wanted basis → length basis.names ≤ version_1.file_limit
+      → (why : Refusal) → ¬ (IsNotRun options holding wanted why)
+  begun_allowed options holding wanted basis is few why refused = by why refused where
+    opened_allowed : (why : Refusal) → ¬ (why ≡ TooManyFiles) → IsNotRun options holding wanted why → ⊥
+    opened_allowed why other refused =
+        let both = refused.not_opened.not_blank other in
+        let kept = (is.begun.kept both.0).recovered in
+        region_allowed read_so holding.parts kept.readable kept.long good_so kept.log.fits why both.1
+
+    by : (why : Refusal) → IsNotRun options holding wanted why → ⊥
+    by (Truncated found most) refused = opened_allowed (Truncated found most) (λ same. cc) refused
+    by BadMagic refused = opened_allowed BadMagic (λ same. cc) refused
+    by (BadVersion found) refused = opened_allowed (BadVersion found) (λ same. cc) refused
+    by (BadGeometry field found) refused = opened_allowed (BadGeometry field found) (λ same. cc) refused
+    by (BadName i) refused = opened_allowed (BadName i) (λ same. cc) refused
+    by (BadEntry number) refused = opened_allowed (BadEntry number) (λ same. cc) refused
+    by TooManyFiles refused =
+        let many : HasTooMany holding.parts refused.geometry wanted = refused.not_opened.many refl in
+        let known = begun_known holding.parts is.known many.known (is_blank holding.parts) refl is.begun many.begun in
+        let names = ap length (is.names_are ∙ ap (λ known. all_names known wanted) known) in
+        let more = many.many in
+        omega (arith, names, few, more)
+
+  ran_allowed : (show : Show) (options : RunOptions) (holding : Holding) (told : Option Holding) (trace : Traced) (text : List ℕ) → HasRunOn show options holding told trace text
+      → (why : Refusal) → ¬ (IsNotRun options holding trace.names why)
+  ran_allowed show options holding told trace text ran =
+      let left = ran.left.left in
+      begun_allowed options holding trace.names ran.basis ran.begun (rested_few left.page left.entries left.next ran.basis.names ran.left.now.parts left.rest)
+
+  run_allowed : (stop : Option ℕ) (options : RunOptions) (old new : BenchState) (holding : Holding) (trace : Traced) (text : List ℕ) → IsShownOf stop options old new holding trace text
+      → (why : Refusal) → ¬ (IsNotRun options holding trace.names why)
+  run_allowed None options old new holding trace text ran = ran_allowed Report options holding new.told trace text ran
+  run_allowed (Some k) options old new holding trace text run =
+      let rests = run.stopped.rests in
+      begun_allowed options holding trace.names run.basis run.begun
+      (rested_few run.basis.sizes.page run.basis.sizes.entries (next_in run.stopped.parts run.basis.files) run.basis.names rests.now.parts rests.rest)
+
+  -- ---- a look
+
+  look_allowed : (files : Bool) (holding : Holding) (text : List ℕ) → HasLooked files holding text → (why : Refusal) → ¬ (IsNotShown files holding why)
+  look_allowed false holding text shown why refused = header_allowed read_so holding.parts shown.says.readable shown.long why refused.1 refused.0
+  look_allowed true holding text shown why refused = region_allowed read_so holding.parts shown.shown.says.readable shown.shown.long good_so shown.fits why refused
+
+  -- ---- a command
+
+  pub shown_is_not_refused : ShownIsNotRefused
+  shown_is_not_refused (Run options) input old new holding text has shown why refused =
+      let Shown : Option (List ℕ) → Type 0 = λ input. IsShown (Run options) input old new holding text in
+      let Refused : Option (List ℕ) → Type 0 = λ input. HasRefusal (Run options) input holding why in
+      let report = subst Shown has.1 shown in
+      let cause = subst Refused has.1 refused in
+      let same : cause.0 ≡ report.0 = one_trace (sym cause.1 ∙ report.1) in
+      run_allowed options.stop options old new holding report.0 text report.2 why (subst (λ (trace : Traced). IsNotRun options holding trace.names why) same cause.2)
+    where
+      one_trace : {one other : Traced} → Whole one ≡ Whole other → one ≡ other
+      one_trace {one} {other} is = cc
+  shown_is_not_refused Recover input old new holding text has shown why refused = region_allowed read_so holding.parts shown.readable shown.long good_so shown.fits why refused
+  shown_is_not_refused (Look files) input old new holding text has shown why refused = look_allowed files holding text shown why refused
+  shown_is_not_refused (Gen load) input old new holding text has shown why refused = ran_allowed (Summary load) load_options holding new.told (generated load) text shown.ran why refused
