@@ -103,6 +103,8 @@ fn lines_of_open_calls(rt: HostRuntime) -> Result<(), Fail> {
         let line = open_line(alloc, 0, &hello, fate)?;
         assert_eq!(rt; line.as_slice(), want.as_bytes(), "{want}");
     }
+    let line = open_line(alloc, 7, &TraceCall::Fsync { fd: 3 }, Fate::Unanswered)?;
+    assert_eq!(rt; line.as_slice(), "open 7 fsync 3: unanswered\n".as_bytes());
     Ok(())
 }
 

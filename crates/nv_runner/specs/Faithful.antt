@@ -15,7 +15,7 @@ use Rattle.nv_trace.specs.declared.trace_call.TraceCall.{TraceCall}
 use Rattle.nv_trace.specs.declared.trace_call.TraceCall.TheVariants.{Pread, Pwrite, Fsync}
 use Rattle.nv_trace.specs.declared.trace_call.TracedCall.{TracedCall}
 use Rattle.nv_trace.specs.declared.report.Fate.{Fate}
-use Rattle.nv_trace.specs.declared.report.Fate.TheVariants.{Kept, Lost}
+use Rattle.nv_trace.specs.declared.report.Fate.TheVariants.{Kept, Lost, Unanswered}
 use Rattle.nv_trace.specs.declared.report.Refusal.{Refusal}
 use Rattle.nv_trace.specs.declared.report.Refusal.TheVariants.{BadDescriptor, TooFar, TooLong, Stopped, Spent, Again, RegionFault, StoreFault}
 use Rattle.nv_trace.specs.Said.{said_place}
@@ -63,10 +63,11 @@ abbrev pub history_of : List Descriptor → List PlacedCall → List Answered
 history_of descriptors placed =
     map (λ p. record { caller = p.call.thread; call = file_call descriptors p.call.call; reply = p.reply }) placed
 
--- the files after a call of this fate: a kept one is whole in them, and nothing of a lost one is
+-- the files after a call of this fate: a kept one is whole in them, and nothing of a lost one is; one without an answer changes none
 abbrev pub after_fate : FileCall → Files → Fate → Files
 after_fate call files Kept = files_after call files
 after_fate call files Lost = files
+after_fate call files Unanswered = files
 
 -- the files after some open calls, the first of them first
 abbrev pub after_open : List Descriptor → List OpenCall → Files → Files

@@ -41,7 +41,7 @@ use Rattle.nv_trace.specs.Said.{said_place}
 use Rattle.nv_trace.specs.Shape.{IsCallWithin, IsWellFormed}
 use Rattle.nv_trace.specs.Traced.{Traced}
 use Rattle.nv_trace.specs.declared.report.Fate.{Fate}
-use Rattle.nv_trace.specs.declared.report.Fate.TheVariants.{Kept, Lost}
+use Rattle.nv_trace.specs.declared.report.Fate.TheVariants.{Kept, Lost, Unanswered}
 use Rattle.nv_trace.specs.declared.trace.Descriptor.{Descriptor}
 use Rattle.nv_trace.specs.declared.trace_call.TraceCall.{TraceCall}
 use Rattle.nv_trace.specs.declared.trace_call.TraceCall.TheVariants.{Pread, Pwrite, Fsync}
@@ -61,6 +61,7 @@ use Rattle.nv_top.proofs.StoppingLemmas.{faithful_while}
 fate_many : (call : FileCall) (files : Files) (fate : Fate) → length (after_fate call files fate).contents ≡ length files.contents
 fate_many call files Kept = length-files_after call files
 fate_many call files Lost = refl
+fate_many call files Unanswered = refl
 
 open_many : (descriptors : List Descriptor) (calls : List OpenCall) (files : Files) → length (after_open descriptors calls files).contents ≡ length files.contents
 open_many descriptors [] files = refl
@@ -295,6 +296,7 @@ opened_there count descriptors (o ∷ later) inside within =
     by : (fate : Fate) → IsThere count (file_call descriptors o.call.call) → AreThere count (kept_calls descriptors later) → AreThere count (done_so descriptors o fate ++ kept_calls descriptors later)
     by Kept here rest = All-cons (λ (answered : Answered). IsThere count answered.call) (record { caller = o.call.thread; call = file_call descriptors o.call.call; reply = whole_reply o.call.call }) (kept_calls descriptors later) here rest
     by Lost here rest = rest
+    by Unanswered here rest = rest
 
 done_there : (failed : Type 0) (worker : Bool) (options : RunOptions) (holding : Holding) (basis : Basis) (trace : Traced) (report : Report) → IsBasis options holding trace.names basis → IsFaithful failed worker basis trace report → IsWellFormed trace
     → AreThere (length basis.files.contents) (done_by basis trace report)
@@ -326,6 +328,7 @@ kept_after descriptors (o ∷ later) files = by o.fate (λ files. kept_after des
         → after (done_so descriptors o fate ++ kept_calls descriptors later) files ≡ after_open descriptors later (after_fate (file_call descriptors o.call.call) files fate)
     by Kept rest = rest (files_after (file_call descriptors o.call.call) files)
     by Lost rest = rest files
+    by Unanswered rest = rest files
 
 -- a write is answered with its count, whatever the files are
 write_reply : (descriptors : List Descriptor) (call : TraceCall) (files : Files) → IsWrite call → whole_reply call ≡ reply_of (file_call descriptors call) files
@@ -345,6 +348,7 @@ kept_legal failed basis descriptors (o ∷ later) files left =
         → IsLegal (done_so descriptors o fate ++ kept_calls descriptors later) files
     by Kept reply legal = (reply, legal (files_after (file_call descriptors o.call.call) files))
     by Lost reply legal = legal files
+    by Unanswered reply legal = legal files
 
 module _ (failed : Type 0) (worker : Bool) (basis : Basis) (trace : Traced) (report : Report) (faithful : IsFaithful failed worker basis trace report) where
   abbrev descriptors : List Descriptor

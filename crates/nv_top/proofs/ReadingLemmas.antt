@@ -12,7 +12,7 @@ use Rattle.nv_plain.specs.declared.call.Reply.TheVariants.{Bytes, Count, Done}
 use Rattle.nv_trace.specs.declared.trace_call.TraceCall.{TraceCall}
 use Rattle.nv_trace.specs.declared.trace_call.TraceCall.TheVariants.{Pread, Pwrite, Fsync}
 use Rattle.nv_trace.specs.declared.report.Fate.{Fate}
-use Rattle.nv_trace.specs.declared.report.Fate.TheVariants.{Kept, Lost}
+use Rattle.nv_trace.specs.declared.report.Fate.TheVariants.{Kept, Lost, Unanswered}
 use Rattle.nv_trace.specs.declared.report.Refusal.{Refusal}
 use Rattle.nv_trace.specs.declared.report.Refusal.TheVariants.{BadDescriptor, TooFar, TooLong, Stopped, Spent, Again, RegionFault, StoreFault}
 use Rattle.nv_trace.specs.Lines.{onto_first, parts_between, but_last, fields_of, ended_lines}
@@ -306,6 +306,7 @@ refusal_plain StoreFault = (word (codes "store") refl, (word (codes "fault") ref
 fate_plain : (fate : Fate) → IsPlain (fate_text fate)
 fate_plain Kept = word (codes "kept") refl
 fate_plain Lost = word (codes "lost") refl
+fate_plain Unanswered = word (codes "unanswered") refl
 
 placed_plain : (place : ℕ) (placed : PlacedCall) → IsLine (placed_fields place placed)
 placed_plain place placed = (

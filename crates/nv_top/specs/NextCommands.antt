@@ -17,7 +17,7 @@ use Rattle.nv_open.specs.Refusals.{head_image}
 use Rattle.nv_runner.specs.Faithful.{Basis, IsFaithful, descriptors_in, file_call, files_shown, history_of}
 use Rattle.nv_runner.specs.Reports.{OpenCall, Report}
 use Rattle.nv_trace.specs.declared.report.Fate.{Fate}
-use Rattle.nv_trace.specs.declared.report.Fate.TheVariants.{Kept, Lost}
+use Rattle.nv_trace.specs.declared.report.Fate.TheVariants.{Kept, Lost, Unanswered}
 use Rattle.nv_trace.specs.declared.trace.Descriptor.{Descriptor}
 use Rattle.nv_trace.specs.declared.trace_call.TraceCall.{TraceCall}
 use Rattle.nv_trace.specs.declared.trace_call.TraceCall.TheVariants.{Pread, Pwrite, Fsync}
@@ -132,6 +132,7 @@ whole_reply (Fsync fd) = Done
 abbrev pub done_so : List Descriptor → OpenCall → Fate → List Answered
 done_so descriptors o Kept = record { caller = o.call.thread; call = file_call descriptors o.call.call; reply = whole_reply o.call.call } ∷ []
 done_so descriptors o Lost = []
+done_so descriptors o Unanswered = []
 
 -- all that a run did of its files: the calls of its history, and behind them the kept ones of its open writes
 abbrev pub done_by : Basis → Traced → Report → List Answered

@@ -9,7 +9,7 @@ use Rattle.nv_trace.specs.declared.trace_call.TraceCall.TheVariants.{Pread, Pwri
 use Rattle.nv_trace.specs.declared.report.Refusal.{Refusal}
 use Rattle.nv_trace.specs.declared.report.Refusal.TheVariants.{BadDescriptor, TooFar, TooLong, Stopped, Spent, Again, RegionFault, StoreFault}
 use Rattle.nv_trace.specs.declared.report.Fate.{Fate}
-use Rattle.nv_trace.specs.declared.report.Fate.TheVariants.{Kept, Lost}
+use Rattle.nv_trace.specs.declared.report.Fate.TheVariants.{Kept, Lost, Unanswered}
 
 -- some fields, a space between each two
 abbrev pub spaced : List (List ℕ) → List ℕ
@@ -60,6 +60,7 @@ refused_text thread call refusal =
 abbrev pub fate_text : Fate → List ℕ
 fate_text Kept = codes "kept"
 fate_text Lost = codes "lost"
+fate_text Unanswered = codes "unanswered"
 
 -- `open T CALL: FATE`
 unfoldable pub open_text : (thread : ℕ) → TraceCall → Fate → List ℕ

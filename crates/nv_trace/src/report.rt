@@ -27,13 +27,15 @@ pub enum Refusal {
     StoreFault,
 }
 
-/// What became of a write that was left open: whether the recovery after it found it.
+/// What became of a call that was left open: of a write, whether the recovery after it found it.
 #[derive(Clone, Copy, Debug, PartialEq, Eq)]
 pub enum Fate {
-    /// It is in the files, whole.
+    /// The write is in the files, whole.
     Kept,
-    /// Nothing of it is.
+    /// Nothing of the write is.
     Lost,
+    /// A read, or an fsync: it was begun, and has no answer.
+    Unanswered,
 }
 
 /// The line of a call that was answered: `PLACE T CALL = REPLY`.
@@ -67,7 +69,7 @@ pub fn refused_line(
     Ok(Bytes::from_vec(line.into_bytes()))
 }
 
-/// The line of a call that was left open: `open T CALL: kept` or `open T CALL: lost`.
+/// The line of a call that was left open: `open T CALL: kept`, `open T CALL: lost` or `open T CALL: unanswered`.
 pub fn open_line(
     alloc: Global,
     thread: u64,
@@ -160,6 +162,7 @@ fn fate_text(fate: Fate) -> &'static str
     match fate {
         Fate::Kept => "kept",
         Fate::Lost => "lost",
+        Fate::Unanswered => "unanswered",
     }
 }
 
