@@ -1,11 +1,11 @@
 #!/usr/bin/env python3
-"""Follows schedules by `nv_sim sched` and by the model of machine.py, and compares what the two report.
+"""Follows schedules by the model of machine.py and by a program's command `sched`, which nv_sim lacks yet, and compares what the two report.
 
 First come rows whose reports are known. A schedule is drawn by its number: three threads and the cleaner over a file or two of four pages
 and a small log, with cuts and without, and each pick. What the model recovers is compared with its history and the writes that were kept.
 Closes with 'N passed, M failed', and fails where one fails.
 
-    schedules.py PROGRAM [COUNT [FIRST]]   PROGRAM is nv_sim; COUNT schedules, 300 unless said, are drawn from number FIRST on
+    schedules.py PROGRAM [COUNT [FIRST]]   PROGRAM has `sched`; COUNT schedules, 300 unless said, are drawn from number FIRST on
     schedules.py --rows                    the rows by the model alone
 """
 
