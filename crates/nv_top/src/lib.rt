@@ -28,3 +28,4 @@ pub use ending::{
 pub use laws::{a_next_command_may_follow, a_refused_region_shows_nothing, report_has_one_reading};
 pub use nv_runner::{Gate, OpenGate, Point};
 pub use program::program_words;
+pub use words::{Command, RunOptions};

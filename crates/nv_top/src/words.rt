@@ -16,7 +16,7 @@ const LARGEST: u64 = 4_294_967_295;
 
 /// What the words behind a program's name ask for.
 #[derive(Clone, Copy, Debug, PartialEq, Eq)]
-pub(crate) enum Command {
+pub enum Command {
     /// A run of a trace.
     Run(RunOptions),
     /// A recovery.
@@ -29,23 +29,23 @@ pub(crate) enum Command {
 
 /// How a trace is run.
 #[derive(Clone, Copy, Debug, PartialEq, Eq)]
-pub(crate) struct RunOptions {
-    /// Bytes of a page of a region that is formatted.
-    pub(crate) page: u64,
-    /// Entries of the log of a region that is formatted.
-    pub(crate) entries: u64,
-    /// Pages of the cache.
-    pub(crate) cache: u64,
-    /// Entries of a batch.
-    pub(crate) batch: u64,
-    /// Pages of a file.
-    pub(crate) pages: u64,
+pub struct RunOptions {
+    /// Bytes of a page of a region that is formatted: whole lines of 64, up to 4,096.
+    pub page: u64,
+    /// Entries of the log of a region that is formatted: 2 to 1,024.
+    pub entries: u64,
+    /// Pages of the cache: 1 to 16,384.
+    pub cache: u64,
+    /// Entries of a batch: 1 to 1,024.
+    pub batch: u64,
+    /// Pages of a file: 1 to 1,024.
+    pub pages: u64,
     /// A worker cleans the log while the calls are made.
-    pub(crate) worker: bool,
-    /// The device call to stop at.
-    pub(crate) stop: Option<u64>,
+    pub worker: bool,
+    /// The device call to stop at, counted from the opening of the mount: 1 to 4,294,967,295.
+    pub stop: Option<u64>,
     /// The image that power leaves where the run is stopped.
-    pub(crate) image: Pick,
+    pub image: Pick,
 }
 
 /// Why words are no command.
