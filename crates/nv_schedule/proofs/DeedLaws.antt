@@ -67,7 +67,7 @@ events_are_deeds : (number : ℕ) (works : List Work) (act : Act) → is_deed ac
 events_are_deeds number [] act deed = (deed, tt)
 events_are_deeds number (work ∷ later) act deed = (refl, events_are_deeds number later act deed)
 
-no_cell_back : (cell : Word) (left : List Word) → cell ∷ left ≡ [] → ⊥
+pub no_cell_back : (cell : Word) (left : List Word) → cell ∷ left ≡ [] → ⊥
 no_cell_back cell left same = let l = ap length same in omega (arith, l)
 
 pub step_is_deeds : (step : PassStep) (old new : PassState) → HasTaken step old new → old.view.number ≢ 0 → PutNothingBack new → AreDeeds (events_of old.view.number step)

@@ -2,6 +2,7 @@ mod AnswerLaws
 mod BatchLaws
 mod BegunLaws
 mod BehindLaws
+mod CountedLaws
 mod CutLaws
 mod CallerShares
 mod DeedLaws

@@ -134,7 +134,7 @@ past_same opened pass past same stood =
     ap (past_pass opened) stood.is ∙ ap (λ (o : Opened). past_pass o (past_of stood.last)) (sym same ∙ sym (puts_opened stood.cells pass.view stood.last stood.back))
 
 -- what is so of all but what it still owns
-stood_same : {X : Type 0} (read_of : Pass → X) (stays : (pass : Pass) (left : List Word) → read_of (record pass { left = left }) ≡ read_of pass) (opened : Opened) (pass : PassState) (past : Past) → pass.view.opened ≡ opened
+pub stood_same : {X : Type 0} (read_of : Pass → X) (stays : (pass : Pass) (left : List Word) → read_of (record pass { left = left }) ≡ read_of pass) (opened : Opened) (pass : PassState) (past : Past) → pass.view.opened ≡ opened
     → (stood : IsTakenAsItStood pass past) → read_of (past_pass opened past) ≡ read_of (pass_of pass.view)
 stood_same read_of stays opened pass past same stood = ap read_of (past_same opened pass past same stood) ∙ puts_left read_of stays stood.cells pass.view stood.last stood.back
 

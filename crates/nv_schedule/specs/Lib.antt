@@ -1,5 +1,6 @@
 pub mod Begun
 pub mod Callers
+pub mod Counted
 pub mod Cuts
 pub mod FaithfulSchedules
 pub mod Faulted

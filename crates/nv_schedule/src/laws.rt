@@ -1,5 +1,6 @@
 //! Laws of schedules that were followed.
 ghost use Rattle.nv_schedule.specs.Begun.{SchedulesBegin};
+ghost use Rattle.nv_schedule.specs.Counted.{FaultsAreCounted};
 ghost use Rattle.nv_schedule.specs.FaithfulSchedules.{SchedulesAreFaithful};
 ghost use Rattle.nv_schedule.specs.Growing.{SchedulesGrow, TrailsAreDeeds};
 ghost use Rattle.nv_schedule.specs.RefusedCalls.{PlacedAreUnbarred, RefusalsHaveCauses};
@@ -23,6 +24,18 @@ pub fn uncut_schedules_meet_no_fault()
     ensures whole { UncutSchedulesAreWhole }
     ensures met { FaultsAreMet }
 {}
+
+/// Where a schedule over a new mount met a fault, and the mount was closed then, the count of its devices' faults rose above what it was at opening: the pass whose device call has failed set STOP by its next step.
+pub fn faults_of_schedules_are_counted()
+    ensures { FaultsAreCounted }
+{
+    ended_calls_heed_stop();
+    refused_writes_leave_words();
+    faults_open_writes();
+    tries_go_on();
+    runs_are_sound();
+    passes_are_left_alone();
+}
 
 /// Of each thread of a trace the calls that a schedule lists are the first ones, each once, and behind them the one that it lists without an answer, if there is one. No two of all these are of one line.
 pub fn schedules_begin_in_order()
