@@ -1,12 +1,12 @@
 -- Cuts: how the armings of tokens add up, and how many there are.
-use Rattle.std.proofs.Common.{◌≡◌, ◌+◌, ◌≤◌, Bool, true, false, List, [], ◌∷◌, ◌++◌, length, refl, sym, ap, subst, ◌∙◌, arith, length-append}
-use Rattle.std.specs.Prelude.{All}
+use Rattle.std.proofs.Common.{◌≡◌, ℕ, ◌+◌, ◌-◌, ◌^◌, ◌≤◌, Bool, true, false, List, [], ◌∷◌, ◌++◌, length, refl, sym, ap, subst, ◌∙◌, arith, length-append}
+use Rattle.std.specs.Prelude.{All, OnErr, Result, Ok, Err, is_err}
 use Rattle.std.proofs.Math.Seq.{get_or-append_seam}
 use Rattle.std.proofs.lemmas.Bool.{true≢false}
 use Rattle.std.proofs.lemmas.List.{append-nil}
 use Rattle.std.proofs.lemmas.List.Elements.{All-get_or}
 use Rattle.nv_bench.specs.Benches.{BenchState, armed_with}
-use Rattle.nv_schedule.specs.Cuts.{IsCutBy, IsCutBySome, armed_by, cut_behind, cuts_of}
+use Rattle.nv_schedule.specs.Cuts.{CutTells, IsArmedOnly, IsCutBy, IsCutBySome, armed_by, cut_behind, cuts_of}
 use Rattle.nv_trace.specs.declared.token.Token.{Token}
 use Rattle.nv_trace.specs.declared.token.Token.TheVariants.{Advance, Cut}
 
@@ -54,3 +54,33 @@ pub uncut_unarmed : (cut : Bool) (tokens : List Token) (old new : BenchState) �
 uncut_unarmed cut [] old new uncut is = is
 uncut_unarmed cut (Cut number ∷ later) old new uncut is = absurd (true≢false (sym (still_cut later) ∙ uncut))
 uncut_unarmed cut (Advance turn reach ∷ later) old new uncut is = uncut_unarmed cut later old new uncut is
+
+-- since a cut it is armed
+armed_since : (tokens : List Token) (bench : BenchState) → bench.settled ≡ 2 ^ 64 - 1 → (armed_by (cuts_of tokens) bench).settled ≡ 2 ^ 64 - 1
+armed_since [] bench is = is
+armed_since (Cut number ∷ later) bench is = armed_since later (armed_with number bench) refl
+armed_since (Advance turn reach ∷ later) bench is = armed_since later bench is
+
+settled_cut : (tokens : List Token) (bench : BenchState) → cut_behind false tokens ≡ true → (armed_by (cuts_of tokens) bench).settled ≡ 2 ^ 64 - 1
+settled_cut [] bench cut = absurd (true≢false (sym cut))
+settled_cut (Cut number ∷ later) bench cut = armed_since later (armed_with number bench) refl
+settled_cut (Advance turn reach ∷ later) bench cut = settled_cut later bench cut
+
+pub cut_tells : (cut : Bool) (tokens : List Token) (old new : BenchState) → cut ≡ cut_behind false tokens → IsCutBy tokens old new → CutTells cut old new
+cut_tells false tokens old new same is = uncut_unarmed false tokens old new (sym same) is
+cut_tells true tokens old new same is = ap (λ (bench : BenchState). bench.settled) is ∙ settled_cut tokens old (sym same)
+
+armed_frame : (tokens : List Token) (bench : BenchState) → IsArmedOnly bench (armed_by (cuts_of tokens) bench)
+armed_frame [] bench = refl
+armed_frame (Cut number ∷ later) bench =
+    armed_frame later (armed_with number bench)
+armed_frame (Advance turn reach ∷ later) bench = armed_frame later bench
+
+-- a cut changes nothing else
+pub armed_only : (tokens : List Token) (old new : BenchState) → IsCutBy tokens old new → IsArmedOnly old new
+armed_only tokens old new is = subst (IsArmedOnly old) (sym is) (armed_frame tokens old)
+
+-- what holds where an error is answered
+pub on_err : {T E : Type 0} (result : Result T E) (P : Type 0) → is_err result ≡ true → OnErr result P → P
+on_err (Ok value) P err holds = absurd (true≢false (sym err))
+on_err (Err error) P err holds = holds

@@ -1,11 +1,12 @@
 //! A schedule over a mount.
-ghost use Rattle.std.specs.Prelude.{◌≡◌, ◌+◌, ◌^◌, ◌<◌, [], All, length, map, sum_by, true, Result};
+ghost use Rattle.std.specs.Prelude.{◌≡◌, ◌+◌, ◌^◌, ◌<◌, [], All, length, map, sum_by, true, false, Result};
 ghost use Rattle.nv_table.specs.ends.Closing.{IsClosed};
 ghost use Rattle.nv_table.specs.state.SlotValues.{part_value, slot_value, store_value};
 ghost use Rattle.nv_table.specs.state.States.{IsOf, PassState};
 ghost use Rattle.nv_table.specs.state.Views.{first_view, made_of};
 ghost use Rattle.nv_runner.specs.EndedRuns.{IsClosedBy};
 ghost use Rattle.nv_runner.specs.Workers.{IsZero};
+ghost use Rattle.nv_schedule.specs.Cuts.{CutTells, IsArmedOnly};
 ghost use Rattle.nv_schedule.specs.Following.{Stands};
 ghost use Rattle.nv_schedule.specs.Ran.{RunTells};
 ghost use Rattle.nv_schedule.specs.Scheduled.{HasScheduled, IsAside, IsToldBy};
@@ -29,7 +30,7 @@ use nv_table::{Pass, Workspace, export_view, import_view};
 use nv_trace::{Token, TracedCall};
 use std::alloc::Global;
 
-/// Makes the callers of a trace's calls, by passes that pass 0 makes, and lets them follow a schedule. Pass 0 is told the run up to their last step then.
+/// Makes the callers of a trace's calls, by passes that pass 0 makes, and lets them follow a schedule. Pass 0 is told the run up to their last step then, and `cut` is set where a cut was reached.
 pub(crate) fn run_on<'a, D: Bench, L: Lines + Drop, B: Backing + Drop>(
     alloc: Global,
     bench: &mut D,
@@ -39,10 +40,12 @@ pub(crate) fn run_on<'a, D: Bench, L: Lines + Drop, B: Backing + Drop>(
     batch: u64,
     tokens: &[Token],
     callers: &mut Vec<Caller<'a, L, B>>,
+    cut: &mut bool,
 ) -> Result<(), ScheduleError>
     requires zero { IsZero mount.now zero.old }
     requires none { callers.old.items ≡ [] }
     requires first { made_of zero.old.view ≡ 0 }
+    requires uncut { cut.old ≡ false }
     requires images { D.can_lose_power ≡ true }
     requires within { All IsTokenWithin tokens.now }
     requires arms { (D.state bench.old).arms + length tokens.now < 2 ^ 64 }
@@ -52,12 +55,14 @@ pub(crate) fn run_on<'a, D: Bench, L: Lines + Drop, B: Backing + Drop>(
     ensures count { made_of zero.new.view ≡ length callers.new.items }
     ensures stand { All (Stands mount.now) callers.new.items }
     ensures tells { RunTells mount.now tokens.now calls.now batch callers.new.items zero.new (D.state bench.old) (D.state bench.new) result }
+    ensures cut { CutTells cut.new (D.state bench.old) (D.state bench.new) }
+    ensures armed { IsArmedOnly (D.state bench.old) (D.state bench.new) }
 {
     let mut workspace = Workspace::new(alloc, mount.board().layout())?;
     hire(alloc, mount, zero, calls, batch, callers)?;
     let board = mount.board();
     let view = export_view(board, zero);
-    let (after, done) = follow(
+    let (after, done, reached) = follow(
         alloc,
         bench,
         mount,
@@ -67,6 +72,7 @@ pub(crate) fn run_on<'a, D: Bench, L: Lines + Drop, B: Backing + Drop>(
         tokens,
     );
     import_view(board, zero, after);
+    *cut = reached;
     done
 }
 
@@ -113,6 +119,8 @@ pub fn run_schedule<'a, D: Bench, L: Lines + Drop, B: Backing + Drop>(
         (map L.history result.closed.parts.items) (map B.history result.closed.stores.items)
         (sum_by L.fault_count result.closed.parts.items + sum_by B.fault_count result.closed.stores.items)
         result.closed.placed result.closed.tail }
+    ensures cut { CutTells result.cut (D.state bench.old) (D.state bench.new) }
+    ensures armed { IsArmedOnly (D.state bench.old) (D.state bench.new) }
 {
     ended_calls_heed_stop();
     refused_writes_leave_words();
@@ -127,6 +135,7 @@ pub fn run_schedule<'a, D: Bench, L: Lines + Drop, B: Backing + Drop>(
         answered: Vec::new(alloc),
         unanswered: Vec::new(alloc),
     };
+    let mut cut = false;
     let ran = run_on(
         alloc,
         bench,
@@ -136,11 +145,13 @@ pub fn run_schedule<'a, D: Bench, L: Lines + Drop, B: Backing + Drop>(
         batch,
         tokens,
         &mut callers,
+        &mut cut,
     );
     let taken = take_in_all(&mount, &mut pass, callers, &mut begun);
     let closed = close_bare(mount, pass);
     Scheduled {
         closed,
         outcome: tell(ran, taken, begun),
+        cut,
     }
 }

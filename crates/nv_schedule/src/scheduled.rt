@@ -23,4 +23,6 @@ pub struct Scheduled<'a, L, B> {
     pub closed: Closed<L, B>,
     /// The calls that were begun; or why there is nothing to tell of them.
     pub outcome: Result<ScheduledCalls<'a>, ScheduleError>,
+    /// Whether a cut was reached.
+    pub cut: bool,
 }

@@ -3,7 +3,7 @@ ghost use Rattle.std.specs.Prelude.{◌≡◌, ◌≢◌, ◌+◌, ◌^◌, ◌<
 ghost use Rattle.nv_core.specs.steps.Events.{Event};
 ghost use Rattle.nv_op.specs.declared.kinds.Kind.{Kind as AnyKind};
 ghost use Rattle.nv_table.specs.state.Workspaces.{IsWorkspace};
-ghost use Rattle.nv_schedule.specs.Cuts.{cut_behind};
+ghost use Rattle.nv_schedule.specs.Cuts.{CutTells, IsArmedOnly, cut_behind};
 ghost use Rattle.nv_schedule.specs.Following.{IsWell, OneTells, ScheduleTells, Stands, TokenTells, next_at};
 ghost use Rattle.nv_schedule.specs.Orders.{ComeBehind};
 ghost use Rattle.nv_trace.specs.Shape.{IsTokenWithin};
@@ -134,7 +134,7 @@ fn cut_then(cut: bool, token: Token) -> bool
 }
 
 /// Makes the advances of a schedule's tokens, one token after another, each behind all before it, up to one that has used up its advances, or to want of memory; and arms the bench at each cut. A device
-/// call that fails before any cut ends them.
+/// call that fails before any cut ends them. Whether a cut was reached is told too.
 pub(crate) fn follow<'a, D: Bench, L: Lines + Drop, B: Backing + Drop>(
     alloc: Global,
     bench: &mut D,
@@ -143,7 +143,7 @@ pub(crate) fn follow<'a, D: Bench, L: Lines + Drop, B: Backing + Drop>(
     workspace: &mut Workspace<L, B>,
     view: ExportedView<L, B>,
     tokens: &[Token],
-) -> (ExportedView<L, B>, Result<(), ScheduleError>)
+) -> (ExportedView<L, B>, Result<(), ScheduleError>, bool)
     requires stand { All (Stands mount.now) callers.old }
     requires workspace { IsWorkspace mount.now.board.opened.sizes workspace.old }
     requires bare { workspace.old.parts.items ≡ [] }
@@ -154,6 +154,8 @@ pub(crate) fn follow<'a, D: Bench, L: Lines + Drop, B: Backing + Drop>(
     requires arms { (D.state bench.old).arms + length tokens.now < 2 ^ 64 }
     ensures stand { All (Stands mount.now) callers.new }
     ensures tells { ScheduleTells mount.now.fds false tokens.now callers.old callers.new view.run result.0.run (D.state bench.old) (D.state bench.new) result.1 }
+    ensures cut { CutTells result.2 (D.state bench.old) (D.state bench.new) }
+    ensures armed { IsArmedOnly (D.state bench.old) (D.state bench.new) }
     ensures workspace { IsWorkspace mount.now.board.opened.sizes workspace.new }
     ensures bare { workspace.new.parts.items ≡ [] }
     ensures view { result.0.table ≡ mount.now.board.table }
@@ -166,12 +168,12 @@ pub(crate) fn follow<'a, D: Bench, L: Lines + Drop, B: Backing + Drop>(
         let (after, done) = follow_one(alloc, bench, mount, callers, workspace, view, token, cut);
         view = after;
         if done.is_err() {
-            return (view, done);
+            return (view, done, cut);
         }
         cut = cut_then(cut, token);
         rest = &rest[1..];
     }
-    (view, Ok(()))
+    (view, Ok(()), cut)
 }
 
 // Makes the advances of one token. A cut makes none, and arms the bench.
@@ -196,6 +198,7 @@ fn follow_one<'a, D: Bench, L: Lines + Drop, B: Backing + Drop>(
     ensures stand { All (Stands mount.now) callers.new }
     ensures tells { ScheduleTells mount.now.fds cut (token ∷ []) callers.old callers.new view.run result.0.run (D.state bench.old) (D.state bench.new) result.1 }
     ensures well { OnOk result.1 (cut_behind cut (token ∷ []) ≡ false → All IsWell callers.new) }
+    ensures still { OnErr result.1 (D.state bench.new ≡ D.state bench.old) }
     ensures workspace { IsWorkspace mount.now.board.opened.sizes workspace.new }
     ensures bare { workspace.new.parts.items ≡ [] }
     ensures view { result.0.table ≡ mount.now.board.table }

@@ -64,4 +64,6 @@ returns g c =
         c.close_bare-closed.ensures.closed,
         told,
       );
+      cut = ran.cut;
+      armed = ran.armed;
     }

@@ -1,12 +1,12 @@
 -- One token after another.
-use Rattle.std.proofs.Common.{◌∷◌, ◌++◌, Bool, false, List, [], drop, length, sym, ap, subst, ◌∙◌, arith, length-append}
+use Rattle.std.proofs.Common.{◌≡◌, ◌∷◌, ◌++◌, Bool, false, List, [], drop, length, sym, ap, subst, ◌∙◌, arith, length-append}
 use Rattle.std.specs.Prelude.{All}
 use Rattle.nv_bench.specs.Benches.{BenchState}
 use Rattle.nv_schedule.specs.Cuts.{cut_behind}
 use Rattle.nv_schedule.specs.Following.{ScheduleTells}
 use Rattle.nv_trace.specs.Shape.{IsTokenWithin}
 use Rattle.nv_trace.specs.declared.token.Token.{Token}
-use Rattle.nv_schedule.proofs.CutLaws.{all_at, cut_behind_both, few_arms}
+use Rattle.nv_schedule.proofs.CutLaws.{all_at, armed_only, cut_behind_both, cut_tells, few_arms, on_err}
 use Rattle.nv_schedule.proofs.FollowLaws.{done_on, moved_on, on_ok, schedule_on}
 use Rattle.nv_schedule.proofs.tokens.follow.Goals as goal
 
@@ -67,3 +67,29 @@ returns-then-is_err-clause-tells g c =
     (sym (so_far.tokens ∙ ap (λ l. so_far.before ++ l) c.first_of-token.ensures))
     (schedule_on fds false so_far.before token c.args.callers.now c.loop-rest.callers c.follow_one-after.new.callers c.args.view.run c.loop-rest.view.run c.follow_one-after.result.0.run so_far.trail
     (g.D.Bench.state c.args.bench.now) (g.D.Bench.state c.loop-rest.bench) (g.D.Bench.state c.follow_one-after.new.bench) so_far.follows so_far.behind so_far.armed (drop 1 rest) done tells (sym c.is_err.ensures.value ∙ c.if-is_err.true))
+
+pub returns-then-is_err-clause-cut : goal.returns-then-is_err-clause-cut
+returns-then-is_err-clause-cut g c =
+    let so_far = c.loop-rest.invariant in
+    let old = g.D.Bench.state c.loop-rest.bench in
+    let new = g.D.Bench.state c.follow_one-after.new.bench in
+    let still : new ≡ old = on_err c.follow_one-after.result.1 (new ≡ old) (sym c.is_err.ensures.value ∙ c.if-is_err.true) c.follow_one-after.ensures.still in
+    cut_tells c.loop-rest.cut so_far.before (g.D.Bench.state c.args.bench.now) new so_far.cut (still ∙ so_far.armed)
+
+pub returns-clause-cut : goal.returns-clause-cut
+returns-clause-cut g c =
+    let so_far = c.loop-rest.invariant in
+    cut_tells c.loop-rest.cut so_far.before (g.D.Bench.state c.args.bench.now) (g.D.Bench.state c.loop-rest.bench) so_far.cut so_far.armed
+
+pub returns-then-is_err-clause-armed : goal.returns-then-is_err-clause-armed
+returns-then-is_err-clause-armed g c =
+    let so_far = c.loop-rest.invariant in
+    let old = g.D.Bench.state c.loop-rest.bench in
+    let new = g.D.Bench.state c.follow_one-after.new.bench in
+    let still : new ≡ old = on_err c.follow_one-after.result.1 (new ≡ old) (sym c.is_err.ensures.value ∙ c.if-is_err.true) c.follow_one-after.ensures.still in
+    armed_only so_far.before (g.D.Bench.state c.args.bench.now) new (still ∙ so_far.armed)
+
+pub returns-clause-armed : goal.returns-clause-armed
+returns-clause-armed g c =
+    let so_far = c.loop-rest.invariant in
+    armed_only so_far.before (g.D.Bench.state c.args.bench.now) (g.D.Bench.state c.loop-rest.bench) so_far.armed
