@@ -9,7 +9,7 @@ use Rattle.nv_runner.specs.declared.run_error.RunError.{RunError}
 use Rattle.nv_runner.specs.declared.run_error.RunError.TheVariants.{Fault, NoMemory as RunNoMemory}
 use Rattle.nv_top.specs.Stops.{CountHasCause, MayEndRun, RunHasCause, StopHasCause, stop_of_run}
 use Rattle.nv_top.specs.declared.ending.Stop.{Stop}
-use Rattle.nv_top.specs.declared.ending.Stop.TheVariants.{Usage, BadLine, InputLong, Read, Device, Region, NoMemory}
+use Rattle.nv_top.specs.declared.ending.Stop.TheVariants.{Usage, BadLine, InputLong, Read, Device, Region, NoMemory, Turns}
 
 stop_with : (before now first last : ℕ) (stop : Stop) → (now ≡ before → last ≡ first) → (Rose before now → Rose first last) → StopHasCause before now stop → StopHasCause first last stop
 stop_with before now first last Usage same rose cause = cause
@@ -19,6 +19,7 @@ stop_with before now first last Read same rose cause = cause
 stop_with before now first last Device same rose cause = rose cause
 stop_with before now first last (Region refusal) same rose cause = same cause
 stop_with before now first last NoMemory same rose cause = same cause
+stop_with before now first last Turns same rose cause = cause
 
 -- where one count stays or rises with the other
 pub cause_with : {T : Type 0} (before now first last : ℕ) (result : Result T Stop) → (now ≡ before → last ≡ first) → (Rose before now → Rose first last)
@@ -55,6 +56,7 @@ may_end first parts mid last Read grew never cause = cause
 may_end first parts mid last Device grew never cause = record { never_falls = omega (arith, grew, cause.never_falls); more = omega (arith, grew, cause.never_falls, cause.more) }
 may_end first parts mid last (Region refusal) grew never cause = never refusal refl
 may_end first parts mid last NoMemory grew never cause = omega (arith, grew, cause)
+may_end first parts mid last Turns grew never cause = cause
 
 -- what isn't a refusal of the region may end a run
 pub stop_ends : (before now : ℕ) (stop : Stop) → ((why : Refusal) → stop ≡ Region why → ⊥) → StopHasCause before now stop → MayEndRun before now stop
@@ -65,6 +67,7 @@ stop_ends before now Read never cause = cause
 stop_ends before now Device never cause = cause
 stop_ends before now (Region refusal) never cause = never refusal refl
 stop_ends before now NoMemory never cause = omega (arith, cause)
+stop_ends before now Turns never cause = cause
 
 -- a run that was told of its stores, whose count is part of one that didn't fall
 pub told_cause : {T : Type 0} (first parts mid last : ℕ) (result : Result T Stop) → first ≤ parts + mid → ((why : Refusal) → result ≡ Err (Region why) → ⊥) → CountHasCause mid last result

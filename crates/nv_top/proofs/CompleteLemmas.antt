@@ -1,77 +1,40 @@
 -- Commands that nothing stands in the way of: they are followed to their end.
-use Rattle.std.proofs.Common.{◌≡◌, ◌≢◌, ℕ, ◌≤◌, Bool, true, false, List, Option, Some, None, Result, Ok, Err, inl, inr, refl, sym, ap, subst, ◌∙◌, arith}
+use Rattle.std.proofs.Common.{◌≡◌, ◌⊎◌, ℕ, ◌≤◌, Bool, true, false, List, Option, Some, None, Result, Ok, Err, inl, inr, refl, sym, ap, subst, ◌∙◌, arith}
 use Rattle.std.specs.Prelude.{IfErr, IfSome, OnOk, max}
 use Rattle.nv_plain.specs.Faults.{Rose}
 use Rattle.nv_bench.specs.Benches.{BenchState}
 use Rattle.nv_bench.specs.Holding.{Holding}
 use Rattle.nv_open.specs.declared.error.Refusal.{Refusal}
-use Rattle.nv_trace.specs.Reading.{Bad, Long, Whole, ending_of}
-use Rattle.nv_trace.specs.declared.bad_line.BadLine.{BadLine}
-use Rattle.nv_trace.specs.declared.trace.Form.TheVariants as forms
 use Rattle.nv_top.specs.Commands.{IsLookedAt}
-use Rattle.nv_top.specs.Endings.{IsTrace}
 use Rattle.nv_top.specs.Headline.{HasRefusal, IsCommandRefused, IsUnhindered}
-use Rattle.nv_top.specs.Stops.{CountHasCause, IsCauseOf, SaidAs, TakesMemory, stop_status}
+use Rattle.nv_top.specs.Stops.{CountHasCause, IsOwnStop, SaidAs, TakesMemory, stop_status}
 use Rattle.nv_top.specs.Stopping.{IsSettledStop}
 use Rattle.nv_top.specs.declared.ending.Stop.{Stop}
-use Rattle.nv_top.specs.declared.ending.Stop.TheVariants.{Usage, BadLine as BadLineStop, InputLong, Read, Device, Region, NoMemory}
-use Rattle.nv_top.specs.declared.ending.TheConstants.{NO_MEMORY, WRITE_FAULT}
+use Rattle.nv_top.specs.declared.ending.Stop.TheVariants.{Usage, BadLine as BadLineStop, InputLong, Read, Device, Region, NoMemory, Turns}
+use Rattle.nv_top.specs.declared.ending.TheConstants.{NO_MEMORY, TURNS_USED, WRITE_FAULT}
 use Rattle.nv_top.specs.declared.words.Command.{Command}
-use Rattle.nv_top.specs.declared.words.Command.TheVariants.{Run, Recover, Look, Gen}
-use Rattle.nv_top.specs.declared.words.RunOptions.{RunOptions}
+use Rattle.nv_top.specs.declared.words.Command.TheVariants.{Run, Sched, Recover, Look, Gen}
 use Rattle.nv_top.proofs.CommandLemmas.{if_told, told_at}
-
-not_bad : (input : List ℕ) (bad : BadLine) → IsTrace input → ending_of forms.Run input ≡ Bad bad → ⊥
-not_bad input bad trace is = let both : Whole trace.0 ≡ Bad bad = sym trace.1 ∙ is in cc
-
-not_long : (input : List ℕ) → IsTrace input → ending_of forms.Run input ≡ Long → ⊥
-not_long input trace is = let both : Whole trace.0 ≡ Long = sym trace.1 ∙ is in cc
-
-at_bytes : (left : Option (List ℕ)) (P : List ℕ → Type 0) (bytes : List ℕ) → left ≡ Some bytes → IfSome left P → P bytes
-at_bytes left P bytes is has =
-    let At : Option (List ℕ) → Type 0 = λ left. IfSome left P in
-    subst At is has
 
 -- what a refusal of a command is
 refusal_of : (command : Command) (left : Option (List ℕ)) (old new : BenchState) (holding : Holding) (why : Refusal) → IsCommandRefused command left old new holding why → HasRefusal command left holding why
 refusal_of (Run options) None old new holding why is = tt
 refusal_of (Run options) (Some input) old new holding why is = (is.0, is.1, is.2)
+refusal_of (Sched options) None old new holding why is = tt
+refusal_of (Sched options) (Some input) old new holding why (is, unpowered) = (is.0, is.1, is.2)
 refusal_of Recover left old new holding why is = is.0
 refusal_of (Look files) left old new holding why is = is
 refusal_of (Gen load) left old new holding why is = is.0
 
--- a run
-pub run_done : {T : Type 0} (options : RunOptions) (left : Option (List ℕ)) (old new : BenchState) (read_failed device_failed : Type 0) (result : Result T Stop)
-    → result ≢ Err Usage → IfErr result (λ stop. IfSome left (IsCauseOf stop)) → (result ≡ Err Read → read_failed) → (result ≡ Err Device → device_failed)
-    → ((why : Refusal) → result ≡ Err (Region why) → IfSome old.told (λ holding. IsCommandRefused (Run options) left old new holding why))
-    → IfSome old.told (λ holding. IsUnhindered (Run options) left holding read_failed device_failed → IfErr result (λ stop. stop ≡ NoMemory))
-run_done {T} options left old new read_failed device_failed result words cause read device region =
-    if_told old.told (λ holding. IsUnhindered (Run options) left holding read_failed device_failed → IfErr result (λ stop. stop ≡ NoMemory)) (λ holding told free. by result words cause read device region holding told free)
+-- a run, or a schedule
+pub settled_done : {T : Type 0} (command : Command) (left : Option (List ℕ)) (old new : BenchState) (read_failed : Type 0) (settled now : ℕ) (result : Result T Stop) → IsSettledStop settled now result
+    → ((why : Refusal) → result ≡ Err (Region why) → IfSome old.told (λ holding. IsCommandRefused command left old new holding why))
+    → IfSome old.told (λ holding. IsUnhindered command left holding read_failed (Rose settled now) → IfErr result IsOwnStop)
+settled_done {T} command left old new read_failed settled now result cause region =
+    if_told old.told (λ holding. IsUnhindered command left holding read_failed (Rose settled now) → IfErr result IsOwnStop) (λ holding told free. by result cause region holding told free)
   where
-    by : (result : Result T Stop) → result ≢ Err Usage → IfErr result (λ stop. IfSome left (IsCauseOf stop)) → (result ≡ Err Read → read_failed) → (result ≡ Err Device → device_failed)
-        → ((why : Refusal) → result ≡ Err (Region why) → IfSome old.told (λ holding. IsCommandRefused (Run options) left old new holding why))
-        → (holding : Holding) → old.told ≡ Some holding → IsUnhindered (Run options) left holding read_failed device_failed → IfErr result (λ stop. stop ≡ NoMemory)
-    by (Ok value) words cause read device region holding told free = tt
-    by (Err Usage) words cause read device region holding told free = absurd (words refl)
-    by (Err (BadLineStop bad)) words cause read device region holding told free =
-        let input = free.has_input in absurd (not_bad input.0 bad input.2 (at_bytes left (IsCauseOf (BadLineStop bad)) input.0 input.1 cause))
-    by (Err InputLong) words cause read device region holding told free =
-        let input = free.has_input in absurd (not_long input.0 input.2 (at_bytes left (IsCauseOf InputLong) input.0 input.1 cause))
-    by (Err Read) words cause read device region holding told free = absurd (free.read (read refl))
-    by (Err Device) words cause read device region holding told free = absurd (free.devices (device refl))
-    by (Err (Region why)) words cause read device region holding told free =
-        absurd (free.not_refused why (refusal_of (Run options) left old new holding why (told_at old.told (λ holding. IsCommandRefused (Run options) left old new holding why) holding told (region why refl))))
-    by (Err NoMemory) words cause read device region holding told free = refl
-
--- one that came to an end of its own
-pub settled_done : {T : Type 0} (options : RunOptions) (left : Option (List ℕ)) (old new : BenchState) (read_failed : Type 0) (settled now : ℕ) (result : Result T Stop) → IsSettledStop settled now result
-    → ((why : Refusal) → result ≡ Err (Region why) → IfSome old.told (λ holding. IsCommandRefused (Run options) left old new holding why))
-    → IfSome old.told (λ holding. IsUnhindered (Run options) left holding read_failed (Rose settled now) → IfErr result (λ stop. stop ≡ NoMemory))
-settled_done {T} options left old new read_failed settled now result cause region =
-    if_told old.told (λ holding. IsUnhindered (Run options) left holding read_failed (Rose settled now) → IfErr result (λ stop. stop ≡ NoMemory)) (λ holding told free. by result cause region holding told free)
-  where
-    by : (result : Result T Stop) → IsSettledStop settled now result → ((why : Refusal) → result ≡ Err (Region why) → IfSome old.told (λ holding. IsCommandRefused (Run options) left old new holding why))
-        → (holding : Holding) → old.told ≡ Some holding → IsUnhindered (Run options) left holding read_failed (Rose settled now) → IfErr result (λ stop. stop ≡ NoMemory)
+    by : (result : Result T Stop) → IsSettledStop settled now result → ((why : Refusal) → result ≡ Err (Region why) → IfSome old.told (λ holding. IsCommandRefused command left old new holding why))
+        → (holding : Holding) → old.told ≡ Some holding → IsUnhindered command left holding read_failed (Rose settled now) → IfErr result IsOwnStop
     by (Ok value) cause region holding told free = tt
     by (Err Usage) cause region holding told free = absurd cause
     by (Err (BadLineStop bad)) cause region holding told free = absurd cause
@@ -79,18 +42,19 @@ settled_done {T} options left old new read_failed settled now result cause regio
     by (Err Read) cause region holding told free = absurd cause
     by (Err Device) cause region holding told free = absurd (free.devices cause)
     by (Err (Region why)) cause region holding told free =
-        absurd (free.not_refused why (refusal_of (Run options) left old new holding why (told_at old.told (λ holding. IsCommandRefused (Run options) left old new holding why) holding told (region why refl))))
-    by (Err NoMemory) cause region holding told free = refl
+        absurd (free.not_refused why (refusal_of command left old new holding why (told_at old.told (λ holding. IsCommandRefused command left old new holding why) holding told (region why refl))))
+    by (Err NoMemory) cause region holding told free = inl refl
+    by (Err Turns) cause region holding told free = inr refl
 
 -- a recovery, or a look
 pub other_done : {T : Type 0} (command : Command) (left : Option (List ℕ)) (old : BenchState) (now : ℕ) (read_failed device_failed : Type 0) (result : Result T Stop)
     → CountHasCause old.faults now result → (Rose old.faults now → device_failed) → ((why : Refusal) → result ≡ Err (Region why) → IfSome old.told (λ holding. HasRefusal command left holding why))
-    → IfSome old.told (λ holding. IsUnhindered command left holding read_failed device_failed → IfErr result (λ stop. stop ≡ NoMemory))
+    → IfSome old.told (λ holding. IsUnhindered command left holding read_failed device_failed → IfErr result IsOwnStop)
 other_done {T} command left old now read_failed device_failed result cause rose region =
-    if_told old.told (λ holding. IsUnhindered command left holding read_failed device_failed → IfErr result (λ stop. stop ≡ NoMemory)) (λ holding told free. by result cause region holding told free)
+    if_told old.told (λ holding. IsUnhindered command left holding read_failed device_failed → IfErr result IsOwnStop) (λ holding told free. by result cause region holding told free)
   where
     by : (result : Result T Stop) → CountHasCause old.faults now result → ((why : Refusal) → result ≡ Err (Region why) → IfSome old.told (λ holding. HasRefusal command left holding why))
-        → (holding : Holding) → old.told ≡ Some holding → IsUnhindered command left holding read_failed device_failed → IfErr result (λ stop. stop ≡ NoMemory)
+        → (holding : Holding) → old.told ≡ Some holding → IsUnhindered command left holding read_failed device_failed → IfErr result IsOwnStop
     by (Ok value) cause region holding told free = tt
     by (Err Usage) cause region holding told free = absurd cause
     by (Err (BadLineStop bad)) cause region holding told free = absurd cause
@@ -98,7 +62,8 @@ other_done {T} command left old now read_failed device_failed result cause rose 
     by (Err Read) cause region holding told free = absurd cause
     by (Err Device) cause region holding told free = absurd (free.devices (rose cause))
     by (Err (Region why)) cause region holding told free = absurd (free.not_refused why (told_at old.told (λ holding. HasRefusal command left holding why) holding told (region why refl)))
-    by (Err NoMemory) cause region holding told free = refl
+    by (Err NoMemory) cause region holding told free = inl refl
+    by (Err Turns) cause region holding told free = absurd cause
 
 -- ---- counts
 
@@ -120,10 +85,16 @@ counted_counts before now settled (Err stop) cause low = tt
 
 -- ---- what is said
 
-pub said_memory : (result : ℕ) (stop : Stop) → SaidAs result (stop_status stop) (TakesMemory stop) → stop ≡ NoMemory → (result ≡ WRITE_FAULT → ⊥) → result ≡ NO_MEMORY
-said_memory result stop said is sound =
+pub said_own : (result : ℕ) (stop : Stop) → SaidAs result (stop_status stop) (TakesMemory stop) → IsOwnStop stop → (result ≡ WRITE_FAULT → ⊥) → (result ≡ NO_MEMORY) ⊎ (result ≡ TURNS_USED)
+said_own result stop said own sound =
     let Said : Stop → Type 0 = λ stop. SaidAs result (stop_status stop) (TakesMemory stop) in
-    elim (subst Said is said) [
-      | inl same ↦ same
-      | inr rest ↦ elim rest [ inl fault ↦ absurd (sound fault) | inr memory ↦ memory.0 ]
+    elim own [
+      | inl is ↦ elim (subst Said is said) [
+        | inl same ↦ inl same
+        | inr rest ↦ elim rest [ inl fault ↦ absurd (sound fault) | inr memory ↦ inl memory.0 ]
+      ]
+      | inr is ↦ elim (subst Said is said) [
+        | inl same ↦ inr same
+        | inr rest ↦ elim rest [ inl fault ↦ absurd (sound fault) | inr memory ↦ inl memory.0 ]
+      ]
     ]

@@ -4,7 +4,7 @@ use Rattle.nv_trace.specs.declared.bad_line.BadLine.{BadLine}
 use Rattle.nv_trace.specs.declared.bad_line.Why.TheVariants.{Form}
 use Rattle.nv_open.specs.declared.error.Refusal.{Refusal}
 use Rattle.nv_open.specs.declared.error.Refusal.TheVariants.{BadMagic}
-use Rattle.nv_top.specs.Endings.{IsErrorLine, usage_line, bad_line, long_line, read_line, device_line, memory_line, region_line}
+use Rattle.nv_top.specs.Endings.{IsErrorLine, usage_line, bad_line, long_line, read_line, device_line, memory_line, region_line, turns_line}
 
 some : BadLine
 some = record { number = 0; why = Form }
@@ -29,3 +29,6 @@ memory_is_error = (some, BadMagic, (5, lit< tt, refl))
 
 pub region_is_error : (refusal : Refusal) → IsErrorLine (region_line refusal)
 region_is_error refusal = (some, refusal, (6, lit< tt, refl))
+
+pub turns_is_error : IsErrorLine turns_line
+turns_is_error = (some, BadMagic, (7, lit< tt, refl))

@@ -1,10 +1,12 @@
 -- What a recovery makes of the writes that were left open, and so of the files.
-use Rattle.std.proofs.Common.{◌≡◌, ℕ, zero, suc, ◌<◌, ◌≤◌, ◌==◌, ◌||◌, nat_lt, Bool, true, false, if◌then◌else◌, All, List, [], ◌∷◌, ◌++◌, length, map, Some, option_map, refl, sym, ap, ◌∙◌, arith, inl, inr, IsPermutation}
+use Rattle.std.proofs.Common.{◌≡◌, ℕ, zero, suc, ◌<◌, ◌≤◌, ◌==◌, ◌||◌, nat_lt, Bool, true, false, if◌then◌else◌, All, List, [], ◌∷◌, ◌++◌, length, map, Some, option_map, refl, sym, ap, ◌∙◌, arith, inl, inr, IsPermutation, subst}
 use Rattle.std.specs.Prelude.{filter}
+use Rattle.std.specs.List.Sorted.{IsNonDecreasingBy}
 use Rattle.std.specs.List.{flat_map, list_any, slice_get}
-use Rattle.std.proofs.lemmas.List.{length-map}
+use Rattle.std.proofs.lemmas.Bool.{eqb-true}
+use Rattle.std.proofs.lemmas.List.{append-nil, length-map}
 use Rattle.std.proofs.lemmas.List.Elements.{All-nil, All-cons, All-head, All-tail}
-use Rattle.std.proofs.lemmas.List.Sorted.{All-permutation, IsPermutation-sym}
+use Rattle.std.proofs.lemmas.List.Sorted.{All-permutation, IsPermutation-refl, IsPermutation-sym}
 use Rattle.nv_plain.specs.Files.{Files}
 use Rattle.nv_plain.specs.declared.call.FileCall.{FileCall}
 use Rattle.nv_core.specs.state.Passes.{Fault, IsOneOf, is_write}
@@ -25,7 +27,9 @@ use Rattle.nv_runner.specs.Histories.{CallsOnFiles}
 use Rattle.nv_runner.specs.OpenRuns.{open_of}
 use Rattle.nv_runner.specs.OpenWrites.{is_kept_open, kept_open}
 use Rattle.nv_runner.specs.Sorted.{opened_call}
-use Rattle.nv_top.specs.Fates.{fated}
+use Rattle.nv_trace.specs.declared.trace_call.TracedCall.{TracedCall}
+use Rattle.nv_runner.specs.Reports.{OpenCall}
+use Rattle.nv_top.specs.Fates.{AreShownOpen, begun_call, fated}
 
 -- ---- the calls that were left open, as writes of their files
 
@@ -114,3 +118,27 @@ numbers_low descriptors first faults open_calls low moved =
         let Low : OpenWrite → Type 0 = λ w. first ≤ w.first in
         All-cons (λ (o : Open). first ≤ o.number) one later (All-head Low (open_write descriptors one) (map (open_write descriptors) later) all)
         (go later (All-tail Low (open_write descriptors one) (map (open_write descriptors) later) all))
+
+-- ---- what a report shows of them
+
+-- where no other call was begun
+pub shown_none : (first : ℕ) (groups : List ℕ) (left : List Open) (begun : List TracedCall) (shown : List OpenCall) → begun ≡ [] → shown ≡ map (fated first groups) left → AreShownOpen first groups left begun shown
+shown_none first groups left begun shown none is = record {
+  all = subst (λ all. IsPermutation all shown) (sym (ap (λ begun. map (fated first groups) left ++ map begun_call begun) none ∙ append-nil (map (fated first groups) left) ∙ sym is)) (IsPermutation-refl shown);
+  by_line = λ order. subst (IsNonDecreasingBy (λ (o : OpenCall). o.call.line)) (sym is) order;
+  none = λ same. is;
+}
+
+-- and where some were
+pub shown_some : (first : ℕ) (groups : List ℕ) (left : List Open) (begun : List TracedCall) (shown : List OpenCall) → (begun ≡ [] → ⊥) → IsPermutation (map (fated first groups) left ++ map begun_call begun) shown
+    → IsNonDecreasingBy (λ (o : OpenCall). o.call.line) shown → AreShownOpen first groups left begun shown
+shown_some first groups left begun shown some all order = record { all = all; by_line = λ before. order; none = λ none. absurd (some none) }
+
+-- whether some were
+pub none_begun : {X Y : Type 0} (f : X → Y) (xs : List X) → (length xs == 0) ≡ true → map f xs ≡ []
+none_begun f [] is = refl
+none_begun f (x ∷ xs) is = absurd (let none : length (x ∷ xs) ≡ 0 = eqb-true (length (x ∷ xs)) 0 is in omega (arith, none))
+
+pub some_begun : {X Y : Type 0} (f : X → Y) (xs : List X) → (length xs == 0) ≡ false → map f xs ≡ [] → ⊥
+some_begun f [] is none = cc
+some_begun f (x ∷ xs) is none = cc

@@ -51,7 +51,7 @@ use Rattle.nv_runner.specs.Histories.{PlacedCall}
 use Rattle.nv_runner.specs.Reports.{OpenCall, Report, ShownRefusal}
 use Rattle.nv_top.specs.Commands.{IsBasis}
 use Rattle.nv_top.specs.Stopping.{next_in}
-use Rattle.nv_top.specs.NextCommands.{FindsFiles, HasOwnNames, IsReportOf, NextFindsLooked, NextFindsRecovered, NextFindsRun, NextFindsStopped, RunsHaveOneHistory, done_by, done_so, whole_reply}
+use Rattle.nv_top.specs.NextCommands.{FindsFiles, HasOwnNames, IsReportOf, NextFindsLooked, NextFindsRecovered, NextFindsRun, NextFindsScheduled, NextFindsStopped, RunsHaveOneHistory, done_by, done_so, whole_reply}
 use Rattle.nv_top.specs.declared.words.RunOptions.{RunOptions}
 use Rattle.nv_top.proofs.NameLemmas.{descriptors_known, wanted_known}
 use Rattle.nv_top.proofs.StoppingLemmas.{faithful_while}
@@ -171,6 +171,14 @@ next_finds_stopped options old new holding trace text run own =
     let rests = run.stopped.rests in
     finds_rested run.basis.sizes.page run.basis.sizes.entries (next_in run.stopped.parts run.basis.files) run.basis.names (files_shown run.basis trace run.stopped.report) rests.now rests.others rests.disks rests.rest rests.stores_are rests.files_are
     (shown_many run.basis trace run.stopped.report ∙ basis_many options holding trace.names run.basis run.begun) own
+
+pub next_finds_scheduled : NextFindsScheduled
+next_finds_scheduled options old new holding trace text run own =
+    let names = run.basis.names in
+    let power = run.scheduled.power in
+    let rests = run.scheduled.rests in
+    finds_rested run.basis.sizes.page run.basis.sizes.entries (next_in power.parts run.basis.files) names (files_named power.parts names power.stores) rests.now rests.others rests.disks rests.rest rests.stores_are rests.files_are
+    (named_many power.parts names power.stores) own
 
 pub next_finds_recovered : NextFindsRecovered
 next_finds_recovered holding told text recovered own =

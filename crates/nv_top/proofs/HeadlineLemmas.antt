@@ -2,6 +2,7 @@
 use Rattle.std.proofs.Common.{◌≡◌, ◌++◌, ℕ, ◌≤◌, Bool, true, false, List, [], if◌then◌else◌, Option, Some, None, refl, ap, subst, ◌∙◌}
 use Rattle.std.specs.Prelude.{IfSome, option_map}
 use Rattle.std.proofs.lemmas.List.{append-nil}
+use Rattle.nv_plain.specs.Faults.{Rose}
 use Rattle.nv_bench.specs.Benches.{BenchState}
 use Rattle.nv_bench.specs.Holding.{Holding, IsQuietHolding, NamedStore}
 use Rattle.nv_bench.specs.Naming.{AreDistinct, HasDistinctStores, names_of}
@@ -16,17 +17,18 @@ use Rattle.nv_store.specs.Store.{IsQuietStore}
 use Rattle.nv_load.specs.Generated.{IsLoad, generated}
 use Rattle.nv_load.specs.declared.load.Load.{Load}
 use Rattle.nv_trace.specs.Reading.{ending_of, Whole}
+use Rattle.nv_trace.specs.declared.trace.Form.{Form}
 use Rattle.nv_trace.specs.declared.trace.Form.TheVariants as forms
 use Rattle.nv_trace.specs.Traced.{Traced}
 use Rattle.nv_top.specs.Commands.{IsNotRun, RestsNotRun}
-use Rattle.nv_top.specs.Headline.{IsCommandRefused, IsShown, IsShownOf, IsLeftNotRun, command_over, may_stop, possible}
+use Rattle.nv_top.specs.Headline.{HasFollowed, IsCommandRefused, IsShown, IsShownOf, IsLeftNotRun, IsTraceRefused, command_over, may_stop, possible}
 use Rattle.nv_top.specs.Loads.{load_options}
 use Rattle.nv_top.specs.Words.{AreInLimits, command_of}
 use Rattle.nv_top.specs.declared.words.Command.{Command}
-use Rattle.nv_top.specs.declared.words.Command.TheVariants.{Run, Recover, Look, Gen}
+use Rattle.nv_top.specs.declared.words.Command.TheVariants.{Run, Sched, Recover, Look, Gen}
 use Rattle.nv_top.specs.declared.words.RunOptions.{RunOptions}
 use Rattle.nv_top.proofs.CommandLemmas.{if_told, told_at}
-use Rattle.nv_top.proofs.WordLemmas.{and_then_some, load_in_limits, run_in_limits, stop_from_one}
+use Rattle.nv_top.proofs.WordLemmas.{and_then_some, load_in_limits, run_in_limits, sched_in_limits, stop_from_one}
 
 -- ---- words
 
@@ -38,6 +40,10 @@ runs_on images (Run one) options is = by_test (may_stop images one.stop) refl is
       let May : RunOptions → Type 0 = λ options. may_stop images options.stop ≡ true in
       (ap Run same, subst May same may)
   by_test false may is = cc
+runs_on images (Sched one) options is = by_test images is where
+  by_test : (test : Bool) → (if test then Some (Sched one) else None) ≡ Some (Run options) → (Sched one ≡ Run options) × (may_stop images options.stop ≡ true)
+  by_test true is = cc
+  by_test false is = cc
 runs_on images Recover options is = cc
 runs_on images (Look files) options is = cc
 runs_on images (Gen load) options is = cc
@@ -63,9 +69,33 @@ stop_possible images words options run =
 pub run_limits : (images : Bool) (words : List (List ℕ)) (options : RunOptions) → command_over images words ≡ Some (Run options) → AreInLimits options
 run_limits images words options run = run_in_limits words options (run_over images words options run).0
 
+pub schedules_on : (images : Bool) (command : Command) (options : RunOptions) → possible images command ≡ Some (Sched options) → (command ≡ Sched options) × (images ≡ true)
+schedules_on images (Run one) options is = by_test (may_stop images one.stop) is where
+  by_test : (test : Bool) → (if test then Some (Run one) else None) ≡ Some (Sched options) → (Run one ≡ Sched options) × (images ≡ true)
+  by_test true is = cc
+  by_test false is = cc
+schedules_on images (Sched one) options is = by_test images refl is where
+  by_test : (test : Bool) → images ≡ test → (if test then Some (Sched one) else None) ≡ Some (Sched options) → (Sched one ≡ Sched options) × (images ≡ true)
+  by_test true same is = (cc, same)
+  by_test false same is = cc
+schedules_on images Recover options is = cc
+schedules_on images (Look files) options is = cc
+schedules_on images (Gen load) options is = cc
+
+-- a schedule that a bench can follow has sizes within their limits, and the bench's devices lose power
+pub schedule_limits : (images : Bool) (words : List (List ℕ)) (options : RunOptions) → command_over images words ≡ Some (Sched options) → AreInLimits options × (images ≡ true)
+schedule_limits images words options is =
+    let command = and_then_some (possible images) (command_of words) (Sched options) is in
+    let both = schedules_on images command.0 options command.2 in
+    (sched_in_limits words options (command.1 ∙ ap Some both.0), both.1)
+
 loads_on : (images : Bool) (command : Command) (load : Load) → possible images command ≡ Some (Gen load) → command ≡ Gen load
 loads_on images (Run one) load is = by_test (may_stop images one.stop) is where
   by_test : (test : Bool) → (if test then Some (Run one) else None) ≡ Some (Gen load) → Run one ≡ Gen load
+  by_test true is = cc
+  by_test false is = cc
+loads_on images (Sched one) load is = by_test images is where
+  by_test : (test : Bool) → (if test then Some (Sched one) else None) ≡ Some (Gen load) → Sched one ≡ Gen load
   by_test true is = cc
   by_test false is = cc
 loads_on images Recover load is = cc
@@ -89,13 +119,13 @@ shown_from options (Some input) old new trace text whole ran =
     if_told old.told (λ holding. IsShown (Run options) (Some input) old new holding text) (λ holding told.
     (trace, whole, told_at old.told (λ holding. IsShownOf options.stop options old new holding trace text) holding told ran))
 
-pub refused_from : (options : RunOptions) (left : Option (List ℕ)) (old new : BenchState) (trace : Traced) (why : Refusal)
-    → IfSome left (λ input. ending_of forms.Run input ≡ Whole trace)
+pub refused_from : (form : Form) (options : RunOptions) (left : Option (List ℕ)) (old new : BenchState) (trace : Traced) (why : Refusal)
+    → IfSome left (λ input. ending_of form input ≡ Whole trace)
     → IfSome old.told (λ holding. IsNotRun options holding trace.names why × IsLeftNotRun options holding trace.names old new why)
-    → IfSome old.told (λ holding. IsCommandRefused (Run options) left old new holding why)
-refused_from options None old new trace why whole refused = if_told old.told (λ holding. IsCommandRefused (Run options) None old new holding why) (λ holding told. tt)
-refused_from options (Some input) old new trace why whole refused =
-    if_told old.told (λ holding. IsCommandRefused (Run options) (Some input) old new holding why) (λ holding told.
+    → IfSome old.told (λ holding. IsTraceRefused form options left old new holding why)
+refused_from form options None old new trace why whole refused = if_told old.told (λ holding. IsTraceRefused form options None old new holding why) (λ holding told. tt)
+refused_from form options (Some input) old new trace why whole refused =
+    if_told old.told (λ holding. IsTraceRefused form options (Some input) old new holding why) (λ holding told.
     let both = told_at old.told (λ holding. IsNotRun options holding trace.names why × IsLeftNotRun options holding trace.names old new why) holding told refused in
     (trace, whole, both.0, both.1))
 
@@ -112,10 +142,9 @@ both_told options old new names why refused unwritten rests =
       ),
     ))
 
-pub unarmed_from : (left : Option (List ℕ)) (old new : BenchState) (trace : Traced) → IfSome left (λ input. ending_of forms.Run input ≡ Whole trace)
-    → IfSome old.told (λ holding. new.arms ≡ old.arms) → IfSome left (λ input. IfSome old.told (λ holding. new.arms ≡ old.arms))
-unarmed_from None old new trace whole unarmed = tt
-unarmed_from (Some input) old new trace whole unarmed = unarmed
+pub where_read : (form : Form) (left : Option (List ℕ)) (trace : Traced) (P : Type 0) → IfSome left (λ input. ending_of form input ≡ Whole trace) → P → IfSome left (λ input. P)
+where_read form None trace P whole holds = tt
+where_read form (Some input) trace P whole holds = holds
 
 -- what holds of a bench that wasn't armed
 pub where_unarmed : (old new : BenchState) (P : Holding → Type 0) → IfSome old.told (λ holding. new.arms ≡ old.arms) → (new.arms ≡ old.arms → IfSome old.told P) → IfSome old.told P
@@ -151,6 +180,28 @@ written_so command left old new text said W same shown written =
 
 pub same_some : {one other : Command} → Some one ≡ Some other → one ≡ other
 same_some {one} {other} is = cc
+
+-- what a schedule shows, and why it is refused
+pub followed_from : (options : RunOptions) (left : Option (List ℕ)) (old new : BenchState) (trace : Traced) (text : List ℕ)
+    → IfSome left (λ input. ending_of forms.Sched input ≡ Whole trace)
+    → IfSome old.told (λ holding. HasFollowed (Rose old.faults new.faults) options old.picked holding new trace text)
+    → IfSome old.told (λ holding. IsShown (Sched options) left old new holding text)
+followed_from options None old new trace text whole ran = if_told old.told (λ holding. IsShown (Sched options) None old new holding text) (λ holding told. tt)
+followed_from options (Some input) old new trace text whole ran =
+    if_told old.told (λ holding. IsShown (Sched options) (Some input) old new holding text) (λ holding told.
+    (trace, whole, told_at old.told (λ holding. HasFollowed (Rose old.faults new.faults) options old.picked holding new trace text) holding told ran))
+
+pub schedule_refused : (options : RunOptions) (left : Option (List ℕ)) (old new : BenchState) (trace : Traced) (why : Refusal)
+    → IfSome left (λ input. ending_of forms.Sched input ≡ Whole trace)
+    → IfSome old.told (λ holding. IsNotRun options holding trace.names why × IsLeftNotRun options holding trace.names old new why × (new.picked ≡ old.picked))
+    → IfSome old.told (λ holding. IsCommandRefused (Sched options) left old new holding why)
+schedule_refused options left old new trace why whole refused =
+    let Refused : Holding → Type 0 = λ holding. IsNotRun options holding trace.names why × IsLeftNotRun options holding trace.names old new why × (new.picked ≡ old.picked) in
+    if_told old.told (λ holding. IsCommandRefused (Sched options) left old new holding why) (λ holding told.
+    let all = told_at old.told Refused holding told refused in
+    let both = if_told old.told (λ holding. IsNotRun options holding trace.names why × IsLeftNotRun options holding trace.names old new why) (λ holding told.
+    let here = told_at old.told Refused holding told refused in (here.0, here.1)) in
+    (told_at old.told (λ holding. IsTraceRefused forms.Sched options left old new holding why) holding told (refused_from forms.Sched options left old new trace why whole both), all.2))
 
 -- why a recovery is refused
 pub recovery_refused : (left : Option (List ℕ)) (old new : BenchState) (why : Refusal)

@@ -21,3 +21,5 @@ pub mod LifeLemmas
 pub mod CompleteLemmas
 pub mod NextLemmas
 pub mod FoundLemmas
+pub mod FollowedLemmas
+pub mod SchedulingLemmas

@@ -38,7 +38,7 @@ use Rattle.nv_trace.specs.Reading.{ending_of, Whole}
 use Rattle.nv_trace.specs.declared.trace.Form.TheVariants as forms
 use Rattle.nv_trace.specs.Traced.{Traced}
 use Rattle.nv_top.specs.declared.words.Command.{Command}
-use Rattle.nv_top.specs.declared.words.Command.TheVariants.{Run, Recover, Look, Gen}
+use Rattle.nv_top.specs.declared.words.Command.TheVariants.{Run, Sched, Recover, Look, Gen}
 use Rattle.nv_open.proofs.GivenBack.{still_stands}
 use Rattle.nv_runner.specs.Faithful.{Basis}
 use Rattle.nv_runner.specs.Histories.{PlacedCall}
@@ -290,6 +290,7 @@ life_unopened options (Some input) old new one is quiet =
 
 pub life_unread : (command : Command) (left : Option (List ℕ)) (old new : BenchState) → QuietPartHasOneImage → new ≡ with_faults new.faults old → IfSome old.told IsQuietHolding → IfSome old.told (λ was. LeavesLife command left was new.told)
 life_unread (Run options) left old new one is quiet = life_unopened options left old new one is quiet
+life_unread (Sched options) left old new one is quiet = if_told old.told (λ was. LeavesLife (Sched options) left was new.told) (λ was told. tt)
 life_unread Recover left old new one is quiet = if_told old.told (λ was. LeavesLife Recover left was new.told) (λ was told readable. still_stands old new was is told quiet readable)
 life_unread (Look files) left old new one is quiet = if_told old.told (λ was. LeavesLife (Look files) left was new.told) (λ was told. tt)
 life_unread (Gen load) left old new one is quiet = still_run old new load_options (generated load) one is quiet

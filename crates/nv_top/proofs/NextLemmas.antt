@@ -26,9 +26,10 @@ use Rattle.nv_recover.specs.Standing.{AreQuietStores}
 use Rattle.nv_top.specs.Commands.{IsBasis, IsGivenBack, IsLookedAt}
 use Rattle.nv_top.specs.Headline.{IsLeftAfter, IsShown, IsShownOf, expected_faults}
 use Rattle.nv_top.specs.Leaving.{Leaves}
-use Rattle.nv_top.specs.NextCommands.{BeginsAt, IsReady, NextBeginsBehind, NextBeginsBehindRecovery, NextBeginsBehindStop, NextIsReady}
+use Rattle.nv_top.specs.NextCommands.{BeginsAt, IsReady, NextBeginsBehind, NextBeginsBehindRecovery, NextBeginsBehindSchedule, NextBeginsBehindStop, NextIsReady}
+use Rattle.nv_top.specs.Scheduling.{IsBackPowered}
 use Rattle.nv_top.specs.Stopping.{IsPoweredBack, RestsWith, next_in}
-use Rattle.nv_top.specs.declared.words.Command.TheVariants.{Run, Recover, Look, Gen}
+use Rattle.nv_top.specs.declared.words.Command.TheVariants.{Run, Sched, Recover, Look, Gen}
 use Rattle.nv_top.proofs.CommandLemmas.{told_at}
 use Rattle.nv_trace.specs.Traced.{Traced}
 use Rattle.nv_top.specs.declared.words.RunOptions.{RunOptions}
@@ -63,7 +64,7 @@ rests_quiet : {page entries : ℕ} {names : List (List ℕ)} {next : ℕ} {files
 rests_quiet {page} {entries} {names} {next} {files} {told} rests =
     told_quiet told rests.now rests.told_is (record { parts = rests.rest.quiet; stores = both_still rests.others names rests.disks rests.now.stores rests.stores_are rests.still rests.synced })
 
-module _ (old new : BenchState) (holding : Holding) (ready : IsReady old) (told : old.told ≡ Some holding) (room : old.arms + 1 < 2 ^ 63) (counts : new.faults ≡ expected_faults old new) where
+module _ (old new : BenchState) (holding : Holding) (ready : IsReady old) (told : old.told ≡ Some holding) (room : new.arms < 2 ^ 63) (counts : new.faults ≡ expected_faults old new) where
   was_quiet : IsQuietHolding holding
   was_quiet = told_at old.told IsQuietHolding holding told ready.quiet
 
@@ -75,7 +76,7 @@ module _ (old new : BenchState) (holding : Holding) (ready : IsReady old) (told 
     closed = ap (λ (s : BenchState). s.is_open) back ∙ ready.closed;
     home = ap (λ (s : BenchState). s.lent) back ∙ ready.home;
     quiet = quiet;
-    arms = (let same = ap (λ (s : BenchState). s.arms) back in omega (arith, same, room));
+    arms = room;
     settled = settled_low;
   }
 
@@ -84,7 +85,16 @@ module _ (old new : BenchState) (holding : Holding) (ready : IsReady old) (told 
     closed = ap (λ (s : BenchState). s.is_open) back;
     home = ap (λ (s : BenchState). s.lent) back;
     quiet = quiet;
-    arms = (let same = ap (λ (s : BenchState). s.arms) back in omega (arith, same, room));
+    arms = room;
+    settled = settled_low;
+  }
+
+  schedule_ready : IsBackPowered old new → IfSome new.told IsQuietHolding → IsReady new
+  schedule_ready back quiet = record {
+    closed = ap (λ (s : BenchState). s.is_open) back;
+    home = ap (λ (s : BenchState). s.lent) back;
+    quiet = quiet;
+    arms = room;
     settled = settled_low;
   }
 
@@ -93,7 +103,7 @@ module _ (old new : BenchState) (holding : Holding) (ready : IsReady old) (told 
     closed = ap (λ (s : BenchState). s.is_open) left ∙ ready.closed;
     home = ap (λ (s : BenchState). s.lent) left ∙ ready.home;
     quiet = subst (λ (one : Option Holding). IfSome one IsQuietHolding) (sym (ap (λ (s : BenchState). s.told) left)) ready.quiet;
-    arms = (let same = ap (λ (s : BenchState). s.arms) left in omega (arith, same, room));
+    arms = room;
     settled = settled_low;
   }
   look_ready true left =
@@ -112,7 +122,7 @@ run_quiet : (stop : Option ℕ) (options : _) (old new : BenchState) (holding : 
 run_quiet None options old new holding trace text quiet shown = left_quiet quiet shown.left
 run_quiet (Some k) options old new holding trace text quiet shown = rests_quiet shown.stopped.rests
 
-run_ready : (stop : Option ℕ) (pick : Pick) (old new : BenchState) (holding : Holding) → IsReady old → old.told ≡ Some holding → old.arms + 1 < 2 ^ 63 → new.faults ≡ expected_faults old new → IsLeftAfter stop pick old new → IfSome new.told IsQuietHolding → IsReady new
+run_ready : (stop : Option ℕ) (pick : Pick) (old new : BenchState) (holding : Holding) → IsReady old → old.told ≡ Some holding → new.arms < 2 ^ 63 → new.faults ≡ expected_faults old new → IsLeftAfter stop pick old new → IfSome new.told IsQuietHolding → IsReady new
 run_ready None pick old new holding ready told room counts left quiet = given_ready old new holding ready told room counts left quiet
 run_ready (Some k) pick old new holding ready told room counts (inl left, picked) quiet = powered_ready old new holding ready told room counts k left quiet
 run_ready (Some k) pick old new holding ready told room counts (inr left, picked) quiet = given_ready old new holding ready told room counts left quiet
@@ -123,6 +133,10 @@ next_is_ready (Run options) input old new holding text ready told room has left 
     let report = subst Shown has.1 shown in
     run_ready options.stop options.image old new holding ready told room counts left
     (run_quiet options.stop options old new holding report.0 text (told_at old.told IsQuietHolding holding told ready.quiet) report.2)
+next_is_ready (Sched options) input old new holding text ready told room has left counts shown =
+    let Shown : Option (List ℕ) → Type 0 = λ input. IsShown (Sched options) input old new holding text in
+    let report = subst Shown has.1 shown in
+    schedule_ready old new holding ready told room counts left.0 (rests_quiet report.2.scheduled.rests)
 next_is_ready Recover input old new holding text ready told room has left counts shown =
     given_ready old new holding ready told room counts left (left_quiet (told_at old.told IsQuietHolding holding told ready.quiet) shown.left)
 next_is_ready (Look files) input old new holding text ready told room has left counts shown = look_ready old new holding ready told room counts files left
@@ -157,6 +171,11 @@ pub next_begins_behind_stop : NextBeginsBehindStop
 next_begins_behind_stop options later old new holding trace text run wanted basis second =
     let rests = run.stopped.rests in
     (begins_at run.basis.sizes.page run.basis.sizes.entries (next_in run.stopped.parts run.basis.files) run.basis.names rests.now later wanted basis rests.rest second).0
+
+pub next_begins_behind_schedule : NextBeginsBehindSchedule
+next_begins_behind_schedule options later old new holding trace text run wanted basis second =
+    let rests = run.scheduled.rests in
+    (begins_at run.basis.sizes.page run.basis.sizes.entries (next_in run.scheduled.power.parts run.basis.files) run.basis.names rests.now later wanted basis rests.rest second).0
 
 pub next_begins_behind_recovery : NextBeginsBehindRecovery
 next_begins_behind_recovery later holding told text recovered wanted basis second =

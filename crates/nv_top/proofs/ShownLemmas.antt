@@ -4,11 +4,13 @@ use Rattle.std.specs.List.{range_with_len}
 use Rattle.std.proofs.lemmas.List.{length-map}
 use Rattle.std.proofs.lemmas.List.FromFn.{length-range_with_len}
 use Rattle.nv_plain.specs.Images.{Image, header_of, name_of}
+use Rattle.nv_plain.specs.Faults.{Rose}
 use Rattle.nv_plain.specs.Layouts.{version_1}
 use Rattle.nv_pmem.specs.Part.{Part}
 use Rattle.nv_pmem.specs.Rows.{row_words}
 use Rattle.nv_pmem.specs.declared.geometry.Geometry.{Geometry}
 use Rattle.nv_pmem.proofs.ImageLaws.{image_of_now}
+use Rattle.nv_pmem.specs.declared.picker.Pick.{Pick}
 use Rattle.nv_bench.specs.Benches.{BenchState}
 use Rattle.nv_bench.specs.Holding.{Holding}
 use Rattle.nv_bench.specs.Opening.{is_blank}
@@ -25,12 +27,12 @@ use Rattle.nv_trace.specs.Traced.{Traced}
 use Rattle.nv_runner.specs.Faithful.{Basis}
 use Rattle.nv_load.specs.Generated.{generated}
 use Rattle.nv_top.specs.Commands.{HasLooked, HasRunOn, IsBasis, IsNotRun, IsNotShown}
-use Rattle.nv_top.specs.Headline.{HasRefusal, IsShown, IsShownOf, ShownIsNotRefused}
+use Rattle.nv_top.specs.Headline.{HasFollowed, HasRefusal, IsShown, IsShownOf, ShownIsNotRefused}
 use Rattle.nv_top.specs.Loads.{load_options}
 use Rattle.nv_top.specs.Stopping.{next_in}
 use Rattle.nv_top.specs.declared.show.Show.{Show}
 use Rattle.nv_top.specs.declared.show.Show.TheVariants.{Report, Summary}
-use Rattle.nv_top.specs.declared.words.Command.TheVariants.{Run, Recover, Look, Gen}
+use Rattle.nv_top.specs.declared.words.Command.TheVariants.{Run, Sched, Recover, Look, Gen}
 use Rattle.nv_top.specs.declared.words.RunOptions.{RunOptions}
 use Rattle.nv_top.proofs.UnrefusedLemmas.{header_allowed, region_allowed}
 
@@ -50,6 +52,10 @@ rested_few page entries next names parts rest =
     subst (λ (names : List (List ℕ)). length names ≤ version_1.file_limit) empty.header.names_are (omega (arith, many, files))
 
 -- ---- a run
+
+-- two readings of one input are the same trace
+one_trace : {one other : Traced} → Whole one ≡ Whole other → one ≡ other
+one_trace {one} {other} is = cc
 
 -- an opening begins with the same names, whatever is wanted of it
 begun_known : {one two : Geometry} {page entries next page_too entries_too next_too : ℕ} (parts : List Part) (known other : List (List ℕ)) (blank : Bool) → is_blank parts ≡ blank
@@ -96,6 +102,15 @@ module _ (good_so : FittingHasNoBad) (read_so : ReadIsNotRefused) where
       begun_allowed options holding trace.names run.basis run.begun
       (rested_few run.basis.sizes.page run.basis.sizes.entries (next_in run.stopped.parts run.basis.files) run.basis.names rests.now.parts rests.rest)
 
+  -- a schedule that was followed wasn't either
+  followed_allowed : (failed : Type 0) (options : RunOptions) (before : List Pick) (holding : Holding) (bench : BenchState) (trace : Traced) (text : List ℕ) → HasFollowed failed options before holding bench trace text
+      → (why : Refusal) → ¬ (IsNotRun options holding trace.names why)
+  followed_allowed failed options before holding bench trace text shown =
+      let basis = shown.basis in
+      let rests = shown.scheduled.rests in
+      begun_allowed options holding trace.names basis shown.begun
+      (rested_few basis.sizes.page basis.sizes.entries (next_in shown.scheduled.power.parts basis.files) basis.names rests.now.parts rests.rest)
+
   -- ---- a look
 
   look_allowed : (files : Bool) (holding : Holding) (text : List ℕ) → HasLooked files holding text → (why : Refusal) → ¬ (IsNotShown files holding why)
@@ -112,9 +127,13 @@ module _ (good_so : FittingHasNoBad) (read_so : ReadIsNotRefused) where
       let cause = subst Refused has.1 refused in
       let same : cause.0 ≡ report.0 = one_trace (sym cause.1 ∙ report.1) in
       run_allowed options.stop options old new holding report.0 text report.2 why (subst (λ (trace : Traced). IsNotRun options holding trace.names why) same cause.2)
-    where
-      one_trace : {one other : Traced} → Whole one ≡ Whole other → one ≡ other
-      one_trace {one} {other} is = cc
+  shown_is_not_refused (Sched options) input old new holding text has shown why refused =
+      let Shown : Option (List ℕ) → Type 0 = λ input. IsShown (Sched options) input old new holding text in
+      let Refused : Option (List ℕ) → Type 0 = λ input. HasRefusal (Sched options) input holding why in
+      let report = subst Shown has.1 shown in
+      let cause = subst Refused has.1 refused in
+      let same : cause.0 ≡ report.0 = one_trace (sym cause.1 ∙ report.1) in
+      followed_allowed (Rose old.faults new.faults) options old.picked holding new report.0 text report.2 why (subst (λ (trace : Traced). IsNotRun options holding trace.names why) same cause.2)
   shown_is_not_refused Recover input old new holding text has shown why refused = region_allowed read_so holding.parts shown.readable shown.long good_so shown.fits why refused
   shown_is_not_refused (Look files) input old new holding text has shown why refused = look_allowed files holding text shown why refused
   shown_is_not_refused (Gen load) input old new holding text has shown why refused = ran_allowed (Summary load) load_options holding new.told (generated load) text shown.ran why refused

@@ -72,12 +72,13 @@ use Rattle.nv_runner.specs.Reports.{OpenCall, Report, ShownRefusal}
 use Rattle.nv_runner.specs.Sorted.{OpenedCall, opened_call, placed_call, refused_call}
 use Rattle.nv_runner.specs.Told.{AreTold, DescriptorsSayFiles, RunsAreTold}
 use Rattle.nv_top.specs.Fates.{fate_of, fated, fated_report}
+use Rattle.nv_top.specs.Outcomes.{shown_report}
 use Rattle.nv_top.specs.Reports.{report_text}
 use Rattle.nv_top.specs.Runs.{BeginsMount}
-use Rattle.nv_top.specs.Stopping.{HasFate, HaveFates, HasStoppedOn, IsAway, RestsWith, ShowsRecovered, next_in}
+use Rattle.nv_top.specs.Stopping.{HasFate, HaveFates, HasStoppedOn, IsAway, RestsWith, ShowsOpen, ShowsRecovered, next_in}
 use Rattle.nv_top.specs.Stops.{CountHasCause, StopHasCause}
 use Rattle.nv_top.specs.declared.ending.Stop.{Stop}
-use Rattle.nv_top.specs.declared.ending.Stop.TheVariants.{Usage, BadLine, InputLong, Read, Device, Region, NoMemory}
+use Rattle.nv_top.specs.declared.ending.Stop.TheVariants.{Usage, BadLine, InputLong, Read, Device, Region, NoMemory, Turns}
 use Rattle.nv_top.proofs.FateLemmas.{after_fates, numbers_low, open_write, open_writes_are}
 use Rattle.nv_top.proofs.HomeLemmas.{images_again}
 use Rattle.nv_top.proofs.NameLemmas.{names_plain}
@@ -116,16 +117,16 @@ told_again old lent holding names now disks told_is home lent_is =
     ∙ ap (λ (lent : List (List ℕ)). Some (record { parts = now; stores = without_stores names holding.stores ++ named_stores (lent ++ names) disks })) home
 
 -- a recovery's report shows what the bench stood for
-pub shows : (old lent : BenchState) (new_told : Option Holding) (holding : Holding) (sorted : SortedCalls) (text : List ℕ) (found : recover.Recovered) (page entries next : ℕ) (names shown : List (List ℕ))
+pub shows : (old lent : BenchState) (new_told : Option Holding) (holding : Holding) (sorted : SortedCalls) (begun : List TracedCall) (text : List ℕ) (found : recover.Recovered) (page entries next : ℕ) (names shown : List (List ℕ))
     (parts_row : List lines.PartHistory) (row : List stores.StoreHistory)
     → old.told ≡ Some holding → IsQuietHolding holding → old.lent ≡ [] → lent ≡ with_faults lent.faults (all_lent names old) → names ≡ shown
-    → ((now : List Store) → AreNow row now → text ≡ report_text (fated_report sorted found shown (files_of now)))
+    → ((now : List Store) → AreNow row now → ShowsOpen sorted begun found shown (files_of now) text)
     → IsRecovered holding.parts page entries names next found
     → HoldFiles row (files_named holding.parts names holding.stores)
     → All (λ history. 0 < length history) parts_row → RowTells parts_row (IsAtRest version_1 page entries names next)
     → ((now : List Part) (disks : List Store) → AreNow parts_row now → AreNow row disks → new_told ≡ told_back now disks lent)
-    → ShowsRecovered holding sorted new_told text
-shows old lent new_told holding sorted text found page entries next names shown parts_row row told_is quiet home lent_is same text_of recovered holds tell rest gives =
+    → ShowsRecovered holding sorted begun new_told text
+shows old lent new_told holding sorted begun text found page entries next names shown parts_row row told_is quiet home lent_is same text_of recovered holds tell rest gives =
     let now = present parts_row tell in
     let header = header_of (head_image holding.parts) in
     let Rests : List (List ℕ) → Type 0 = λ names. RestsWith header.page header.entries names found.next (files_named holding.parts names holding.stores) new_told in
@@ -133,11 +134,9 @@ shows old lent new_told holding sorted text found page entries next names shown 
     record {
       found = found;
       log = recovered.log;
-      text_is =
-          text_of holds.held holds.are
-          ∙ ap (λ names. report_text (fated_report sorted found names (files_of holds.held))) (sym same)
-          ∙ ap (λ files. report_text (fated_report sorted found names files)) holds.files_are
-          ∙ ap (λ names. report_text (fated_report sorted found names (files_named holding.parts names holding.stores))) recovered.names_are;
+      shown = subst (λ names. ShowsOpen sorted begun found names (files_named holding.parts names holding.stores) text) recovered.names_are
+          (subst (λ files. ShowsOpen sorted begun found names files text) holds.files_are
+          (subst (λ names. ShowsOpen sorted begun found names (files_of holds.held) text) (sym same) (text_of holds.held holds.are)));
       left = subst Rests recovered.names_are
           (subst (λ page. RestsWith page header.entries names found.next files new_told) recovered.page_is (subst (λ entries. RestsWith page entries names found.next files new_told) recovered.entries_is
           (subst (λ next. RestsWith page entries names next files new_told) recovered.next_is (record {
@@ -202,7 +201,7 @@ pub all_right : {X : Type 0} (P : X → Type 0) (xs ys : List X) → All P (xs +
 all_right P [] ys all = all
 all_right P (x ∷ xs) ys all = all_right P xs ys (All-tail P x (xs ++ ys) all)
 
-within_open : (count : ℕ) (open_calls : List Open) → All (λ (call : TracedCall). IsCallWithin count call.call) (map (λ (o : OpenedCall). o.call) (map opened_call open_calls))
+pub within_open : (count : ℕ) (open_calls : List Open) → All (λ (call : TracedCall). IsCallWithin count call.call) (map (λ (o : OpenedCall). o.call) (map opened_call open_calls))
     → All (λ (o : Open). IsCallWithin count o.call.now.call) open_calls
 within_open count [] all = All-nil (λ (o : Open). IsCallWithin count o.call.now.call)
 within_open count (one ∷ later) all =
@@ -210,7 +209,7 @@ within_open count (one ∷ later) all =
     let rest = map (λ (o : OpenedCall). o.call) (map opened_call later) in
     All-cons (λ (o : Open). IsCallWithin count o.call.now.call) one later (All-head Within one.call.now rest all) (within_open count later (All-tail Within one.call.now rest all))
 
-same_files : (descriptors : List Descriptor) → map (λ (fd : Fd). fd.file) (map as_fd descriptors) ≡ map (λ (d : Descriptor). d.file) descriptors
+pub same_files : (descriptors : List Descriptor) → map (λ (fd : Fd). fd.file) (map as_fd descriptors) ≡ map (λ (d : Descriptor). d.file) descriptors
 same_files [] = refl
 same_files (one ∷ later) = ap (λ files. one.file ∷ files) (same_files later)
 
@@ -218,7 +217,7 @@ calls_again : (first : ℕ) (groups : List ℕ) (open_calls : List Open) → map
 calls_again first groups [] = refl
 calls_again first groups (one ∷ later) = ap (λ calls. one.call.now ∷ calls) (calls_again first groups later)
 
-each_allowed : (names : List (List ℕ)) → AreFileNames version_1 names → All (λ name. is_name version_1.name_limit name ≡ true) names
+pub each_allowed : (names : List (List ℕ)) → AreFileNames version_1 names → All (λ name. is_name version_1.name_limit name ≡ true) names
 each_allowed names are k d inside =
     let May : List ℕ → Type 0 = λ name. is_name version_1.name_limit name ≡ true in
     subst May (get_or_default names k [] d inside) (are.allowed k inside)
@@ -246,6 +245,43 @@ have_fates parts files found drawn (one ∷ later) all low told =
     All-cons (HasFate parts files drawn) (fated found.first found.groups one) (map (fated found.first found.groups) later) here
     (have_fates parts files found drawn later all (All-tail Low one later low) (All-tail Told (opened_call one) (map opened_call later) told))
 
+-- ---- what a mount tells that was closed
+
+-- a mount that was opened from a basis was closed by a pass that was new at the start
+pub record HasClosedOver (basis : Basis) (trace : Traced) (mount : MountState) (pass zero : PassState) (part_values store_values : List Value)
+    (parts : List lines.PartHistory) (held : List stores.StoreHistory) (faults placed tail : ℕ) : Type 0 where
+  pub begins : BeginsMount basis trace mount pass
+  pub new : pass.view ≡ first_view mount.board.opened
+  pub opened : zero.view.opened ≡ pass.view.opened
+  pub spare : zero.spare ≡ pass.spare
+  pub closed : IsClosedBy zero part_values store_values parts held faults placed tail
+
+module _ (basis : Basis) (trace : Traced) (mount : MountState) (pass zero : PassState) (part_values store_values : List Value)
+    (parts : List lines.PartHistory) (held : List stores.StoreHistory) (faults placed tail : ℕ)
+    (over : HasClosedOver basis trace mount pass zero part_values store_values parts held faults placed tail) where
+  pub still_opened : zero.view.opened ≡ mount.board.opened
+  still_opened = over.opened ∙ ap (λ (v : PassView). v.opened) over.new
+
+  pub log_opens : OpensLog (mount_of zero.view.opened) zero.view.opened.next
+  log_opens = subst (λ (o : Opened). OpensLog (mount_of o) o.next) (sym still_opened) over.begins.is_mount.log
+
+  pub files_open : Opens (mount_of zero.view.opened) basis.files
+  files_open = subst (λ (o : Opened). Opens (mount_of o) basis.files) (sym still_opened) over.begins.is_mount.files
+
+  pub region_opens : OpensRegion (mount_of zero.view.opened) basis.names
+  region_opens = subst (λ (o : Opened). OpensRegion (mount_of o) basis.names) (sym still_opened) over.begins.region
+
+  pub devices_tell : AllDevicesTell parts × AllDevicesTell held
+  devices_tell = over.closed.telling basis.files log_opens files_open (subst (λ values. All IsTelling values) (sym over.spare) over.begins.spare)
+
+  -- whatever power leaves of them
+  pub power_leaves : (states : List Part) (disks : List Store) → AreNow parts states → AreNow held disks → (image : Image) (bytes : Files) → IsRowImage states image → AreStoreImages disks bytes
+      → LeavesWholeWrites zero.view basis.files basis.names image bytes
+  power_leaves states disks are stand image bytes is images =
+      row_tells_at held (λ disks. (bytes : Files) → AreStoreImages disks bytes → LeavesWholeWrites zero.view basis.files basis.names image bytes) disks stand
+      (row_tells_at parts (InEachRowImage (λ image. RowTells held (λ disks. (bytes : Files) → AreStoreImages disks bytes → LeavesWholeWrites zero.view basis.files basis.names image bytes)))
+      states are (over.closed.crash basis.files basis.names log_opens files_open region_opens) image is) bytes images
+
 -- ---- what a run tells whose mount was closed
 
 -- a run of a trace over a mount that was opened from its basis was brought to its end, and the mount closed
@@ -268,28 +304,17 @@ module _ (basis : Basis) (trace : Traced) (mount : MountState) (pass zero : Pass
   abbrev items : List Open
   items = sorted.open_calls.items
 
-  pub same_opened : zero.view.opened ≡ mount.board.opened
-  same_opened = run.out.run_out.mount ∙ ap (λ (v : PassView). v.opened) run.new
+  pub closed_over : HasClosedOver basis trace mount pass zero part_values store_values parts held faults placed tail
+  closed_over = record { begins = run.begins; new = run.new; opened = run.out.run_out.mount; spare = run.out.run_out.spare; closed = run.closed }
+
+  same_opened : zero.view.opened ≡ mount.board.opened
+  same_opened = still_opened basis trace mount pass zero part_values store_values parts held faults placed tail closed_over
 
   opens_log : OpensLog (mount_of zero.view.opened) zero.view.opened.next
-  opens_log = subst (λ (o : Opened). OpensLog (mount_of o) o.next) (sym same_opened) run.begins.is_mount.log
+  opens_log = log_opens basis trace mount pass zero part_values store_values parts held faults placed tail closed_over
 
   opens_files : Opens (mount_of zero.view.opened) basis.files
-  opens_files = subst (λ (o : Opened). Opens (mount_of o) basis.files) (sym same_opened) run.begins.is_mount.files
-
-  opens_region : OpensRegion (mount_of zero.view.opened) basis.names
-  opens_region = subst (λ (o : Opened). OpensRegion (mount_of o) basis.names) (sym same_opened) run.begins.region
-
-  pub all_told : AllDevicesTell parts × AllDevicesTell held
-  all_told = run.closed.telling basis.files opens_log opens_files (subst (λ values. All IsTelling values) (sym run.out.run_out.spare) run.begins.spare)
-
-  -- whatever power leaves of them
-  pub leaves : (states : List Part) (disks : List Store) → AreNow parts states → AreNow held disks → (image : Image) (bytes : Files) → IsRowImage states image → AreStoreImages disks bytes
-      → LeavesWholeWrites zero.view basis.files basis.names image bytes
-  leaves states disks are stand image bytes is images =
-      row_tells_at held (λ disks. (bytes : Files) → AreStoreImages disks bytes → LeavesWholeWrites zero.view basis.files basis.names image bytes) disks stand
-      (row_tells_at parts (InEachRowImage (λ image. RowTells held (λ disks. (bytes : Files) → AreStoreImages disks bytes → LeavesWholeWrites zero.view basis.files basis.names image bytes)))
-      states are (run.closed.crash basis.files basis.names opens_log opens_files opens_region) image is) bytes images
+  opens_files = files_open basis trace mount pass zero part_values store_values parts held faults placed tail closed_over
 
   begins_so : pass.view ≡ first_view pass.view.opened
   begins_so = run.new ∙ ap first_view (sym (ap (λ (v : PassView). v.opened) run.new))
@@ -347,7 +372,7 @@ module _ (basis : Basis) (trace : Traced) (mount : MountState) (pass zero : Pass
     -- ---- the report
 
     module _ (faithful_so : RunsAreFaithful) (numbered_so : RunsAreNumbered) (stand_so : ReadableStandsForRecovered) (failed : Type 0) (saw : SawStop zero.view → failed) (allowed : AreFileNames version_1 basis.names)
-        (bench : BenchState) (text : List ℕ) (after_power : Holding) (shows_so : ShowsRecovered after_power sorted bench.told text) (power_left : bench.left ≡ Some after_power.parts) (before : List Pick)
+        (bench : BenchState) (text : List ℕ) (after_power : Holding) (shows_so : ShowsRecovered after_power sorted [] bench.told text) (power_left : bench.left ≡ Some after_power.parts) (before : List Pick)
         (picked : bench.picked ≡ plan.image ∷ before)
         (left : LeavesWholeWrites zero.view basis.files basis.names (row_words after_power.parts) (files_of (stores_named basis.names after_power.stores))) where
       abbrev found : recover.Recovered
@@ -402,7 +427,10 @@ module _ (basis : Basis) (trace : Traced) (mount : MountState) (pass zero : Pass
             report = report;
             faithful = is_faithful;
             plain = names_plain version_1.name_limit basis.names shown_files.contents (each_allowed basis.names allowed);
-            text_is = shows_so.text_is ∙ ap (λ names. report_text (fated_report sorted found names shown_files)) names_so;
+            text_is =
+                shows_so.shown.text_is
+                ∙ ap (λ open_calls. report_text (shown_report sorted open_calls (header_names after_power.parts) shown_files)) (shows_so.shown.are_open.none refl)
+                ∙ ap (λ names. report_text (fated_report sorted found names shown_files)) names_so;
             picked = picked;
             parts = after_power.parts;
             power_left = power_left;
@@ -438,22 +466,22 @@ pub record IsLeftBehind (basis : Basis) (zero : PassState) (parts : List lines.P
   pub off_is : off ≡ Some after
   pub whole : LeavesWholeWrites zero.view basis.files basis.names (row_words after.parts) (files_of (stores_named basis.names after.stores))
 
-module _ (basis : Basis) (trace : Traced) (mount : MountState) (pass zero : PassState) (plan : Plan) (sorted : SortedCalls) (part_values store_values : List Value)
+module _ (basis : Basis) (trace : Traced) (mount : MountState) (pass zero : PassState) (part_values store_values : List Value)
     (parts : List lines.PartHistory) (held : List stores.StoreHistory) (faults placed tail : ℕ)
-    (run : HasRunToClose basis trace mount pass zero plan sorted part_values store_values parts held faults placed tail)
+    (over : HasClosedOver basis trace mount pass zero part_values store_values parts held faults placed tail)
     (power_so : PowerLeavesAnImage) (many : length held ≡ mount.board.opened.sizes.files) (named_so : AreFileNames version_1 basis.names) (pick : Pick) (left : Holding) (given off : Option Holding)
     (gives : (now : List Part) (disks : List Store) → AreNow parts now → AreNow held disks → given ≡ Some (home_with left basis.names now disks))
     (powers : off ≡ option_map (powered pick) given) (whole : (holding : Holding) → given ≡ Some holding → AreWholeStores holding) (away : IsAway basis.names left) where
   pub left_behind : IsLeftBehind basis zero parts pick given off
   left_behind =
-      let tell = all_told basis trace mount pass zero plan sorted part_values store_values parts held faults placed tail run in
+      let tell = devices_tell basis trace mount pass zero part_values store_values parts held faults placed tail over in
       let states = present parts tell.0 in
       let disks = present held tell.1 in
       let before = home_with left basis.names states.states disks.states in
       let after = powered pick before in
       let given_is : given ≡ Some before = gives states.states disks.states states.are disks.are in
       let image = (power_so pick before (whole before given_is)).0 in
-      let long : length basis.names ≡ length disks.states = run.begins.is_mount.names ∙ sym many ∙ sym (length_now held disks.states disks.are) in
+      let long : length basis.names ≡ length disks.states = over.begins.is_mount.names ∙ sym many ∙ sym (length_now held disks.states disks.are) in
       record {
         before = before;
         parts_are = states.are;
@@ -461,7 +489,7 @@ module _ (basis : Basis) (trace : Traced) (mount : MountState) (pass zero : Pass
         after = after;
         after_is = refl;
         off_is = powers ∙ ap (option_map (powered pick)) given_is;
-        whole = leaves basis trace mount pass zero plan sorted part_values store_values parts held faults placed tail run states.states disks.states states.are disks.are
+        whole = power_leaves basis trace mount pass zero part_values store_values parts held faults placed tail over states.states disks.states states.are disks.are
             (row_words after.parts) (files_of (stores_named basis.names after.stores)) image.parts
             (images_again basis.names left.stores disks.states before after refl long named_so.distinct away image);
       }
@@ -476,6 +504,7 @@ stop_grows before now Read cause = absurd cause
 stop_grows before now Device cause = cause.never_falls
 stop_grows before now (Region refusal) cause = omega (arith, cause)
 stop_grows before now NoMemory cause = omega (arith, cause)
+stop_grows before now Turns cause = absurd cause
 
 pub count_grows : {T : Type 0} (before now : ℕ) (result : Result T Stop) → CountHasCause before now result → before ≤ now
 count_grows before now (Ok value) cause = omega (arith, cause)

@@ -37,11 +37,9 @@ use Rattle.nv_open.specs.Refusals.{AreLong, CanBeRead, IsBadHeader, IsHeadRefuse
 use Rattle.nv_open.specs.declared.error.Refusal.{Refusal}
 use Rattle.nv_open.specs.declared.error.Refusal.TheVariants.{Truncated, BadMagic, BadVersion, BadGeometry, BadName, BadEntry, TooManyFiles}
 use Rattle.nv_trace.specs.Traced.{Traced}
-use Rattle.nv_runner.specs.declared.plan.Plan.{Plan}
-use Rattle.nv_runner.specs.declared.sorted.SortedCalls.{SortedCalls}
 use Rattle.nv_runner.specs.Faithful.{Basis}
 use Rattle.nv_top.proofs.RowLemmas.{present}
-use Rattle.nv_top.proofs.StoppingLemmas.{HasRunToClose, all_right, all_told, at_some, home_with, leaves, same_opened}
+use Rattle.nv_top.proofs.StoppingLemmas.{HasClosedOver, all_right, at_some, devices_tell, home_with, power_leaves, still_opened}
 
 -- the room of so many lines, as far as it is their count
 abbrev room_with : ℕ → Room
@@ -136,11 +134,11 @@ whole_named (name ∷ names) (store ∷ disks) long all =
     let first : NamedStore = record { name = name; store = store } in
     All-cons IsWholeStore store disks (All-head Whole first (named_stores names disks) all) (whole_named names disks (omega (arith, long)) (All-tail Whole first (named_stores names disks) all))
 
--- ---- a run that was stopped
+-- ---- power went off over a mount that was closed
 
-module _ (basis : Basis) (trace : Traced) (mount : MountState) (pass zero : PassState) (plan : Plan) (sorted : SortedCalls) (part_values store_values : List Value)
+module _ (basis : Basis) (trace : Traced) (mount : MountState) (pass zero : PassState) (part_values store_values : List Value)
     (parts : List lines.PartHistory) (held : List stores.StoreHistory) (faults placed tail : ℕ)
-    (run : HasRunToClose basis trace mount pass zero plan sorted part_values store_values parts held faults placed tail)
+    (over : HasClosedOver basis trace mount pass zero part_values store_values parts held faults placed tail)
     (power_so : PowerLeavesAnImage) (good_so : FittingHasNoBad) (read_so : ReadIsNotRefused) (each_so : EachPartHasOne)
     (many_parts : 1 + mount.board.opened.sizes.entries ≤ length parts) (many : length held ≡ mount.board.opened.sizes.files) (pick : Pick) (left : Holding) (given off : Option Holding)
     (gives : (now : List Part) (disks : List Store) → AreNow parts now → AreNow held disks → given ≡ Some (home_with left basis.names now disks))
@@ -148,15 +146,15 @@ module _ (basis : Basis) (trace : Traced) (mount : MountState) (pass zero : Pass
   slots_long : (states : List Part) → AreNow parts states → HasLines version_1 zero.view.opened.sizes.page zero.view.opened.sizes.entries (rooms_of states)
   slots_long states are =
       let same : zero.view.opened.sizes.entries ≡ mount.board.opened.sizes.entries =
-      ap (λ (o : Opened). o.sizes.entries) (same_opened basis trace mount pass zero plan sorted part_values store_values parts held faults placed tail run) in
+      ap (λ (o : Opened). o.sizes.entries) (still_opened basis trace mount pass zero part_values store_values parts held faults placed tail over) in
       let long : HasLongParts (mount_of zero.view.opened) =
-      subst (λ (o : Opened). HasLongParts (mount_of o)) (sym (same_opened basis trace mount pass zero plan sorted part_values store_values parts held faults placed tail run)) run.begins.long in
+      subst (λ (o : Opened). HasLongParts (mount_of o)) (sym (still_opened basis trace mount pass zero part_values store_values parts held faults placed tail over)) over.begins.long in
       have_lines zero.view.opened.sizes.page zero.view.opened.sizes.entries states (omega (arith, many_parts, same, length_now parts states are))
-      (λ slot least. run.closed.lines long slot (get_or states slot []) least (each_so parts states slot are (omega (arith, many_parts, same, least))))
+      (λ slot least. over.closed.lines long slot (get_or states slot []) least (each_so parts states slot are (omega (arith, many_parts, same, least))))
 
   pub never_refused : (why : Refusal) → ¬ (IfSome off (λ holding. IsRefusedFor holding.parts why))
   never_refused why refused =
-      let tell = all_told basis trace mount pass zero plan sorted part_values store_values parts held faults placed tail run in
+      let tell = devices_tell basis trace mount pass zero part_values store_values parts held faults placed tail over in
       let states = present parts tell.0 in
       let disks = present held tell.1 in
       let before = home_with left basis.names states.states disks.states in
@@ -165,11 +163,11 @@ module _ (basis : Basis) (trace : Traced) (mount : MountState) (pass zero : Pass
       let off_is : off ≡ Some after = powers ∙ ap (option_map (powered pick)) given_is in
       let all_whole = whole before given_is in
       let image = (power_so pick before all_whole).0 in
-      let long : length basis.names ≡ length disks.states = run.begins.is_mount.names ∙ sym many ∙ sym (length_now held disks.states disks.are) in
+      let long : length basis.names ≡ length disks.states = over.begins.is_mount.names ∙ sym many ∙ sym (length_now held disks.states disks.are) in
       let each_whole : All IsWholeStore disks.states =
       whole_named basis.names disks.states long (all_right (λ (named : NamedStore). IsWholeStore named.store) left.stores (named_stores basis.names disks.states) all_whole) in
       let left_whole =
-      leaves basis trace mount pass zero plan sorted part_values store_values parts held faults placed tail run states.states disks.states states.are disks.are
+      power_leaves basis trace mount pass zero part_values store_values parts held faults placed tail over states.states disks.states states.are disks.are
       (row_words after.parts) (record { contents = map (λ (store : Store). store.durable) disks.states }) image.parts (durable_images disks.states each_whole) in
       let Long : List Room → Type 0 = λ rooms. HasLines version_1 zero.view.opened.sizes.page zero.view.opened.sizes.entries rooms in
       not_refused good_so read_so zero.view.opened.sizes.page zero.view.opened.sizes.entries _ basis.names after.parts left_whole.header left_whole.fits

@@ -2,7 +2,8 @@
 use Rattle.std.proofs.Common.{◌≡◌, ◌≢◌, ◌≤◌, ◌%◌, ◌&&◌, ◌==◌, if◌then◌else◌, length, map, arith, ℕ, Bool, true, false, List, [], ◌∷◌, Option, Some, None, refl, sym, subst}
 use Rattle.std.proofs.lemmas.Bool.{and_parts, eqb-true}
 use Rattle.clap.specs.Faults.{is_free_app}
-use Rattle.std.specs.Prelude.{IfSome, String, codes, option_and_then, string_bytes, slice_index_or, option_map}
+use Rattle.std.specs.Prelude.{IfOk, IfSome, Result, Ok, Err, String, codes, option_and_then, string_bytes, slice_index_or, option_map}
+use Rattle.std.specs.Result.{result_ok}
 use Rattle.std.specs.Str.{bytes_eq}
 use Rattle.std.specs.List.{list_any}
 use Rattle.clap.specs.Kinds.{Kinds}
@@ -10,9 +11,9 @@ use Rattle.clap.specs.Words.{App, Row, built, fault_of, first_of, is_simple, is_
 use Rattle.nv_load.specs.Generated.{IsLoad}
 use Rattle.nv_load.specs.declared.load.Load.{Load}
 use Rattle.nv_pmem.specs.Limits.{IsEntryCount, IsPageSize}
-use Rattle.nv_top.specs.Words.{AreInLimits, command_of, if_lines, image_in, is_dashes, largest_number, load_in, look_in, number_in, number_or, options_in, page_of_words, run_app, run_in, stop_in, unless_refused}
+use Rattle.nv_top.specs.Words.{AreInLimits, command_of, if_lines, image_in, is_dashes, largest_number, load_in, look_in, names_schedule, number_in, number_or, options_behind, options_in, page_of_words, run_app, run_in, sched_app, sched_in, stop_in, unless_refused}
 use Rattle.nv_top.specs.declared.words.Command.{Command}
-use Rattle.nv_top.specs.declared.words.Command.TheVariants.{Gen, Look, Recover, Run}
+use Rattle.nv_top.specs.declared.words.Command.TheVariants.{Gen, Look, Recover, Run, Sched}
 use Rattle.nv_top.specs.declared.words.RunOptions.{RunOptions}
 use Rattle.nv_top.proofs.NumberLemmas.{number_between, option_between}
 
@@ -26,27 +27,41 @@ run_is_free app is =
     let Free : App → Type 0 = λ app. is_simple_and_free app ≡ true in
     subst Free (sym is) simple
 
-pub run_is_simple : (app : App) → app ≡ run_app → is_simple app ≡ true
-run_is_simple app is = (and_parts (is_simple app) (is_free_app (built app)) (run_is_free app is)).0
+sched_simple : is_simple_and_free sched_app ≡ true
+unfolding sched_app
+sched_simple = refl
+
+pub sched_is_free : (app : App) → app ≡ sched_app → is_simple_and_free app ≡ true
+sched_is_free app is =
+    let Free : App → Type 0 = λ app. is_simple_and_free app ≡ true in
+    subst Free (sym is) sched_simple
+
+pub free_is_simple : (app : App) → is_simple_and_free app ≡ true → is_simple app ≡ true
+free_is_simple app free = (and_parts (is_simple app) (is_free_app (built app)) free).0
 
 -- none, where one of the words is `--`
-pub none_dashes : (words : List (List ℕ)) → list_any is_dashes words ≡ true → run_in words ≡ None
-none_dashes words dashes = rw dashes refl
+pub none_dashes : (app : App) (words : List (List ℕ)) → list_any is_dashes words ≡ true → options_behind app words ≡ None
+none_dashes app words dashes = rw dashes refl
 
 -- none, where `clap` refuses them
-pub none_refused : (words : List (List ℕ)) → fault_of run_app words ≢ [] → run_in words ≡ None
-none_refused words refused = by_faults (fault_of run_app words) refl where
-  by_faults : (faults : _) → fault_of run_app words ≡ faults → run_in words ≡ None
+pub none_refused : (app : App) (words : List (List ℕ)) → fault_of app words ≢ [] → options_behind app words ≡ None
+none_refused app words refused = by_faults (fault_of app words) refl where
+  by_faults : (faults : _) → fault_of app words ≡ faults → options_behind app words ≡ None
   by_faults [] is = absurd (refused is)
   by_faults (first ∷ rest) is = by_dashes (list_any is_dashes words) refl where
-    by_dashes : (dashes : Bool) → list_any is_dashes words ≡ dashes → run_in words ≡ None
+    by_dashes : (dashes : Bool) → list_any is_dashes words ≡ dashes → options_behind app words ≡ None
     by_dashes true dashes = rw dashes refl
     by_dashes false dashes = rw (dashes, is) refl
 
 -- and else what their options say
-pub taken : (words : List (List ℕ)) (rows : List Row) → list_any is_dashes words ≡ false → fault_of run_app words ≡ [] → rows ≡ matches_of run_app words
-    → run_in words ≡ option_map Run (options_in rows)
-taken words rows dashes none same = rw (dashes, none, same) refl
+pub taken : (app : App) (words : List (List ℕ)) (rows : List Row) → list_any is_dashes words ≡ false → fault_of app words ≡ [] → rows ≡ matches_of app words
+    → options_behind app words ≡ options_in rows
+taken app words rows dashes none same = rw (dashes, none, same) refl
+
+-- what is answered of what was found is that
+pub ok_found : {T E : Type 0} (result : Result T E) (found : Option T) → found ≡ result_ok result → IfOk result (λ value. found ≡ Some value)
+ok_found (Ok value) found is = is
+ok_found (Err error) found is = tt
 
 -- words of which the first is `run` are a run
 pub first_run : {Z : Type 0} (words : List (String Z)) (none : String Z) → 1 ≤ length words → bytes_eq (string_bytes (slice_index_or words 0 none)) (codes "run") ≡ true
@@ -54,6 +69,13 @@ pub first_run : {Z : Type 0} (words : List (String Z)) (none : String Z) → 1 �
 unfolding command_of
 first_run [] none some is = absurd (omega arith)
 first_run (first ∷ rest) none some is = rw is refl
+
+-- and those of which it is `sched` are a schedule
+pub first_sched : {Z : Type 0} (words : List (String Z)) (none : String Z) → 1 ≤ length words → bytes_eq (string_bytes (slice_index_or words 0 none)) (codes "run") ≡ false
+    → bytes_eq (string_bytes (slice_index_or words 0 none)) (codes "sched") ≡ true → command_of (map string_bytes words) ≡ sched_in (map string_bytes words)
+unfolding command_of
+first_sched [] none some other is = absurd (omega arith)
+first_sched (first ∷ rest) none some other is = rw (other, is) refl
 
 -- ---- what a run's options are
 
@@ -120,107 +142,131 @@ options_allowed rows options is =
       stop_counts (first_of (codes "stop") rows) stop.0 stop.1,
     )
 
-run_said : (dashes : Bool) (faults : Kinds) (found : Option RunOptions) (options : RunOptions) → (if dashes then None else unless_refused faults (option_map Run found)) ≡ Some (Run options)
-    → found ≡ Some options
-run_said true faults found options is = cc
-run_said false (first ∷ rest) found options is = cc
-run_said false [] None options is = cc
-run_said false [] (Some one) options is = cc
+behind_said : (dashes : Bool) (faults : Kinds) (found : Option RunOptions) (options : RunOptions) → (if dashes then None else unless_refused faults found) ≡ Some options → found ≡ Some options
+behind_said true faults found options is = cc
+behind_said false (first ∷ rest) found options is = cc
+behind_said false [] found options is = is
 
-looks_on : (asked : Bool) (options : RunOptions) → (if asked then Some (Look true) else None) ≡ Some (Run options) → ⊥
-looks_on true options is = cc
-looks_on false options is = cc
+-- the sizes of options that words say are within their limits
+behind_allowed : (app : App) (words : List (List ℕ)) (options : RunOptions) → options_behind app words ≡ Some options → AreInLimits options × IfSome options.stop (λ k. 1 ≤ k)
+behind_allowed app words options is =
+    options_allowed (matches_of app words) options (behind_said (list_any is_dashes words) (fault_of app words) (options_in (matches_of app words)) options is)
 
--- a look is no run
-no_look : (words : List (List ℕ)) (options : RunOptions) → look_in words ≡ Some (Run options) → ⊥
-no_look [] options is = cc
-no_look (word ∷ rest) options is = looks_on (bytes_eq word (codes "--files") && length rest == 0) options is
+-- ---- which command words are
 
--- nor is a load
-no_load : (words : List (List ℕ)) (options : RunOptions) → load_in words ≡ Some (Run options) → ⊥
-no_load [] options is = cc
-no_load (seed ∷ []) options is = cc
-no_load (seed ∷ calls ∷ []) options is = cc
-no_load (seed ∷ calls ∷ threads ∷ []) options is =
-    let one = and_then_some _ (number_in 0 largest_number seed) (Run options) is in
-    let two = and_then_some _ (number_in 0 100000 calls) (Run options) one.2 in
-    let three = map_some _ (number_in 1 8 threads) (Run options) two.2 in
-    let last = three.2 in
-    cc
-no_load (seed ∷ calls ∷ threads ∷ one ∷ more) options is = cc
+-- A command that is none of those that its word doesn't name.
+looks_on : (asked : Bool) (command : Command) → (if asked then Some (Look true) else None) ≡ Some command → (files : Bool) × (command ≡ Look files)
+looks_on true command is = (true, cc)
+looks_on false command is = absurd cc
 
-is_run : (run recover look gen : Bool) (said other last : Option Command) (options : RunOptions) → (other ≡ Some (Run options) → ⊥) → (last ≡ Some (Run options) → ⊥)
-    → (if run then said else if recover then Some Recover else if look then other else if gen then last else None) ≡ Some (Run options) → said ≡ Some (Run options)
-is_run true recover look gen said other last options none also is = is
-is_run false true look gen said other last options none also is = cc
-is_run false false true gen said other last options none also is = absurd (none is)
-is_run false false false true said other last options none also is = absurd (also is)
-is_run false false false false said other last options none also is = cc
+-- what a look is
+look_only : (words : List (List ℕ)) (command : Command) → look_in words ≡ Some command → (files : Bool) × (command ≡ Look files)
+look_only [] command is = (false, cc)
+look_only (word ∷ rest) command is = looks_on (bytes_eq word (codes "--files") && length rest == 0) command is
 
-run_allowed : (words : List (List ℕ)) (options : RunOptions) → command_of words ≡ Some (Run options) → AreInLimits options × IfSome options.stop (λ k. 1 ≤ k)
+-- what a load is
+load_only : (words : List (List ℕ)) (command : Command) → load_in words ≡ Some command → (load : Load) × (command ≡ Gen load) × IsLoad load
+load_only [] command is = absurd cc
+load_only (seed ∷ []) command is = absurd cc
+load_only (seed ∷ calls ∷ []) command is = absurd cc
+load_only (seed ∷ calls ∷ threads ∷ []) command is =
+    let one = and_then_some _ (number_in 0 largest_number seed) command is in
+    let two = and_then_some _ (number_in 0 100000 calls) command one.2 in
+    let three = map_some _ (number_in 1 8 threads) command two.2 in
+    let seeded = number_between 0 largest_number seed one.0 one.1 in
+    let called = number_between 0 100000 calls two.0 two.1 in
+    let made = number_between 1 8 threads three.0 three.1 in (
+      record { seed = one.0; calls = two.0; threads = three.0 },
+      sym three.2,
+      record { seed = seeded.1; calls = called.1; some_threads = made.0; few_threads = made.1 },
+    )
+load_only (seed ∷ calls ∷ threads ∷ one ∷ more) command is = absurd cc
+
+-- Each command by its word.
+data Kind (command : Command) : Type 0 where
+  IsRun : (options : RunOptions) → command ≡ Run options → AreInLimits options → IfSome options.stop (λ k. 1 ≤ k) → Kind command
+  IsSched : (options : RunOptions) → command ≡ Sched options → AreInLimits options → Kind command
+  IsRecover : command ≡ Recover → Kind command
+  IsLook : (files : Bool) → command ≡ Look files → Kind command
+  IsGen : (load : Load) → command ≡ Gen load → IsLoad load → Kind command
+
+kind_by : (run sched recover look gen : Bool) (words rest : List (List ℕ)) (command : Command)
+    → (if run then run_in words else if sched then sched_in words else if recover then Some Recover else if look then look_in rest else if gen then load_in rest else None) ≡ Some command → Kind command
+kind_by true sched recover look gen words rest command is =
+    let found = map_some Run (options_behind run_app words) command is in
+    let allowed = behind_allowed run_app words found.0 found.1 in
+    IsRun found.0 (sym found.2) allowed.0 allowed.1
+kind_by false true recover look gen words rest command is =
+    let found = map_some Sched (options_behind sched_app words) command is in
+    IsSched found.0 (sym found.2) (behind_allowed sched_app words found.0 found.1).0
+kind_by false false true look gen words rest command is = IsRecover cc
+kind_by false false false true gen words rest command is = let found = look_only rest command is in IsLook found.0 found.1
+kind_by false false false false true words rest command is = let found = load_only rest command is in IsGen found.0 found.1 found.2
+kind_by false false false false false words rest command is = absurd cc
+
+kind_of : (words : List (List ℕ)) (command : Command) → command_of words ≡ Some command → Kind command
 unfolding command_of
-run_allowed [] options is = cc
-run_allowed (word ∷ words) options is =
-    options_allowed (matches_of run_app (word ∷ words)) options
-    (run_said (list_any is_dashes (word ∷ words)) (fault_of run_app (word ∷ words)) (options_in (matches_of run_app (word ∷ words))) options
-    (is_run (bytes_eq word (codes "run")) (bytes_eq word (codes "recover") && length words == 0) (bytes_eq word (codes "look")) (bytes_eq word (codes "gen")) (run_in (word ∷ words)) (look_in words) (load_in words) options
-    (no_look words options) (no_load words options) is))
+kind_of [] command is = absurd cc
+kind_of (word ∷ words) command is =
+    kind_by (bytes_eq word (codes "run")) (bytes_eq word (codes "sched")) (bytes_eq word (codes "recover") && length words == 0) (bytes_eq word (codes "look")) (bytes_eq word (codes "gen"))
+    (word ∷ words) words command is
 
--- the sizes of a run are within their limits
+-- the sizes of a run are within their limits, and one that words stop is stopped at a device call from the first one on
+pub run_allowed : (words : List (List ℕ)) (options : RunOptions) → command_of words ≡ Some (Run options) → AreInLimits options × IfSome options.stop (λ k. 1 ≤ k)
+run_allowed words options is = by (kind_of words (Run options) is) where
+  by : Kind (Run options) → AreInLimits options × IfSome options.stop (λ k. 1 ≤ k)
+  by (IsRun one same limits counts) =
+      let Allowed : RunOptions → Type 0 = λ options. AreInLimits options × IfSome options.stop (λ k. 1 ≤ k) in
+      let is_one : one ≡ options = cc in
+      subst Allowed is_one (limits, counts)
+  by (IsSched one same limits) = absurd cc
+  by (IsRecover same) = absurd cc
+  by (IsLook files same) = absurd cc
+  by (IsGen load same within) = absurd cc
+
 pub run_in_limits : (words : List (List ℕ)) (options : RunOptions) → command_of words ≡ Some (Run options) → AreInLimits options
 run_in_limits words options is = (run_allowed words options is).0
 
--- a run that words stop is stopped at a device call from the first one on
 pub stop_from_one : (words : List (List ℕ)) (options : RunOptions) → command_of words ≡ Some (Run options) → IfSome options.stop (λ k. 1 ≤ k)
 stop_from_one words options is = (run_allowed words options is).1
 
--- ---- a load
-
-load_said : (words : List (List ℕ)) (load : Load) → load_in words ≡ Some (Gen load) → IsLoad load
-load_said [] load is = cc
-load_said (seed ∷ []) load is = cc
-load_said (seed ∷ calls ∷ []) load is = cc
-load_said (seed ∷ calls ∷ threads ∷ []) load is =
-    let one = and_then_some _ (number_in 0 largest_number seed) (Gen load) is in
-    let two = and_then_some _ (number_in 0 100000 calls) (Gen load) one.2 in
-    let three = map_some _ (number_in 1 8 threads) (Gen load) two.2 in
-    let seeded = number_between 0 largest_number seed one.0 one.1 in
-    let called = number_between 0 100000 calls two.0 two.1 in
-    let made = number_between 1 8 threads three.0 three.1 in
-    subst IsLoad (same_load three.2) (record { seed = seeded.1; calls = called.1; some_threads = made.0; few_threads = made.1 })
-  where
-    same_load : {one : Load} → Gen one ≡ Gen load → one ≡ load
-    same_load {one} is = cc
-load_said (seed ∷ calls ∷ threads ∷ one ∷ more) load is = cc
-
-no_run_load : (words : List (List ℕ)) (load : Load) → run_in words ≡ Some (Gen load) → ⊥
-no_run_load words load is = by_dashes (list_any is_dashes words) (fault_of run_app words) (options_in (matches_of run_app words)) is where
-  by_dashes : (dashes : Bool) (faults : Kinds) (found : Option RunOptions) → (if dashes then None else unless_refused faults (option_map Run found)) ≡ Some (Gen load) → ⊥
-  by_dashes true faults found is = cc
-  by_dashes false (first ∷ rest) found is = cc
-  by_dashes false [] None is = cc
-  by_dashes false [] (Some one) is = cc
-
-look_no_load : (words : List (List ℕ)) (load : Load) → look_in words ≡ Some (Gen load) → ⊥
-look_no_load [] load is = cc
-look_no_load (word ∷ rest) load is = by_test (bytes_eq word (codes "--files") && length rest == 0) is where
-  by_test : (asked : Bool) → (if asked then Some (Look true) else None) ≡ Some (Gen load) → ⊥
-  by_test true is = cc
-  by_test false is = cc
-
-is_load : (run recover look gen : Bool) (first other last : Option Command) (load : Load) → (first ≡ Some (Gen load) → ⊥) → (other ≡ Some (Gen load) → ⊥)
-    → (if run then first else if recover then Some Recover else if look then other else if gen then last else None) ≡ Some (Gen load) → last ≡ Some (Gen load)
-is_load true recover look gen first other last load none also is = absurd (none is)
-is_load false true look gen first other last load none also is = cc
-is_load false false true gen first other last load none also is = absurd (also is)
-is_load false false false true first other last load none also is = is
-is_load false false false false first other last load none also is = cc
+-- so are those of a schedule
+pub sched_in_limits : (words : List (List ℕ)) (options : RunOptions) → command_of words ≡ Some (Sched options) → AreInLimits options
+sched_in_limits words options is = by (kind_of words (Sched options) is) where
+  by : Kind (Sched options) → AreInLimits options
+  by (IsSched one same limits) =
+      let is_one : one ≡ options = cc in
+      subst AreInLimits is_one limits
+  by (IsRun one same limits counts) = absurd cc
+  by (IsRecover same) = absurd cc
+  by (IsLook files same) = absurd cc
+  by (IsGen load same within) = absurd cc
 
 -- a load that words ask for is within its limits
 pub load_in_limits : (words : List (List ℕ)) (load : Load) → command_of words ≡ Some (Gen load) → IsLoad load
+load_in_limits words load is = by (kind_of words (Gen load) is) where
+  by : Kind (Gen load) → IsLoad load
+  by (IsGen one same within) =
+      let is_one : one ≡ load = cc in
+      subst IsLoad is_one within
+  by (IsRun one same limits counts) = absurd cc
+  by (IsSched one same limits) = absurd cc
+  by (IsRecover same) = absurd cc
+  by (IsLook files same) = absurd cc
+
+-- the words of a schedule begin with its own
+only_by : (run sched recover look gen : Bool) (words rest : List (List ℕ)) (options : RunOptions)
+    → (if run then run_in words else if sched then sched_in words else if recover then Some Recover else if look then look_in rest else if gen then load_in rest else None) ≡ Some (Sched options) → sched ≡ true
+only_by true sched recover look gen words rest options is = let found = map_some Run (options_behind run_app words) (Sched options) is in let same = found.2 in cc
+only_by false true recover look gen words rest options is = refl
+only_by false false true look gen words rest options is = cc
+only_by false false false true gen words rest options is = let found = look_only rest (Sched options) is in let same = found.1 in cc
+only_by false false false false true words rest options is = let found = load_only rest (Sched options) is in let same = found.1 in cc
+only_by false false false false false words rest options is = cc
+
+pub only_sched : (words : List (List ℕ)) (options : RunOptions) → command_of words ≡ Some (Sched options) → names_schedule words ≡ true
 unfolding command_of
-load_in_limits [] load is = cc
-load_in_limits (word ∷ words) load is =
-    load_said words load
-    (is_load (bytes_eq word (codes "run")) (bytes_eq word (codes "recover") && length words == 0) (bytes_eq word (codes "look")) (bytes_eq word (codes "gen")) (run_in (word ∷ words)) (look_in words) (load_in words)
-    load (no_run_load (word ∷ words) load) (look_no_load words load) is)
+only_sched [] options is = cc
+only_sched (word ∷ words) options is =
+    only_by (bytes_eq word (codes "run")) (bytes_eq word (codes "sched")) (bytes_eq word (codes "recover") && length words == 0) (bytes_eq word (codes "look")) (bytes_eq word (codes "gen"))
+    (word ∷ words) words options is

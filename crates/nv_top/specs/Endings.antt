@@ -6,7 +6,7 @@ use Rattle.nv_top.specs.RegionTexts.{region_text}
 use Rattle.nv_trace.specs.declared.bad_line.BadLine.{BadLine}
 use Rattle.nv_trace.specs.declared.bad_line.Why.{Why}
 use Rattle.nv_trace.specs.declared.bad_line.Why.TheVariants.{Long as LongLine, Bytes, Form, Late, Number, Name, Mode, Hex, Many, Repeat, Unknown}
-use Rattle.nv_trace.specs.declared.trace.Form.TheVariants.{Run}
+use Rattle.nv_trace.specs.declared.trace.Form.{Form as TraceForm}
 use Rattle.nv_trace.specs.Streams.{Appends}
 use Rattle.nv_trace.specs.Traced.{Traced}
 use Rattle.nv_trace.specs.Reading.{Ending, Whole, Bad, Long, ending_of}
@@ -26,6 +26,9 @@ device_line = as_line (codes "error device")
 
 abbrev pub memory_line : List ℕ
 memory_line = as_line (codes "error no memory")
+
+abbrev pub turns_line : List ℕ
+turns_line = as_line (codes "error turns")
 
 -- the word for why a line is bad
 abbrev pub why_text : Why → List ℕ
@@ -58,15 +61,15 @@ input_line (Whole trace) = []
 input_line (Bad bad) = bad_line bad
 input_line Long = long_line
 
--- an input that is a trace
-abbrev pub IsTrace : List ℕ → Type 0
-IsTrace input = (trace : Traced) × (ending_of Run input ≡ Whole trace)
+-- an input that is a trace of this form
+abbrev pub IsTrace : TraceForm → List ℕ → Type 0
+IsTrace form input = (trace : Traced) × (ending_of form input ≡ Whole trace)
 
 -- a line that says why there is no report
 abbrev pub IsErrorLine : List ℕ → Type 0
 IsErrorLine text =
     (bad : BadLine) × (refusal : Refusal)
-    × Contains (usage_line ∷ bad_line bad ∷ long_line ∷ read_line ∷ device_line ∷ memory_line ∷ region_line refusal ∷ []) text
+    × Contains (usage_line ∷ bad_line bad ∷ long_line ∷ read_line ∷ device_line ∷ memory_line ∷ region_line refusal ∷ turns_line ∷ []) text
 
 -- what was written, where it is told, has a front of these bytes more
 abbrev pub AppendsFront : Option (List ℕ) → Option (List ℕ) → List ℕ → Type 0

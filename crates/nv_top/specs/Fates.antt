@@ -1,10 +1,14 @@
--- Fates: what a recovery made of the writes that were left open.
-use Rattle.std.specs.Prelude.{ℕ, ◌==◌, ◌||◌, nat_lt, if◌then◌else◌, List, map}
+-- Fates: what a recovery made of the calls that were left open.
+use Rattle.std.specs.Prelude.{◌≡◌, ℕ, ◌==◌, ◌||◌, nat_lt, if◌then◌else◌, List, [], ◌++◌, map, IsPermutation}
 use Rattle.std.specs.List.{list_any}
+use Rattle.std.specs.List.Sorted.{IsNonDecreasingBy}
 use Rattle.nv_plain.specs.Files.{Files}
 use Rattle.nv_recover.specs.declared.recovering.Recovered as recover
 use Rattle.nv_trace.specs.declared.report.Fate.{Fate}
-use Rattle.nv_trace.specs.declared.report.Fate.TheVariants.{Kept, Lost}
+use Rattle.nv_trace.specs.declared.report.Fate.TheVariants.{Kept, Lost, Unanswered}
+use Rattle.nv_trace.specs.declared.trace_call.TraceCall.{TraceCall}
+use Rattle.nv_trace.specs.declared.trace_call.TraceCall.TheVariants.{Pread, Pwrite, Fsync}
+use Rattle.nv_trace.specs.declared.trace_call.TracedCall.{TracedCall}
 use Rattle.nv_runner.specs.declared.sorted.Open.{Open}
 use Rattle.nv_runner.specs.declared.sorted.SortedCalls.{SortedCalls}
 use Rattle.nv_runner.specs.Reports.{OpenCall, Report}
@@ -17,6 +21,21 @@ fate_of first groups number = if nat_lt number first || list_any (λ leader. lea
 -- a write that was left open, with its fate
 abbrev pub fated : (first : ℕ) → (groups : List ℕ) → Open → OpenCall
 fated first groups left = record { call = left.call.now; fate = fate_of first groups left.number }
+
+-- what became of a call that was begun and drew no number: nothing of a write is in the files, and the others have no answer
+abbrev pub begun_fate : TraceCall → Fate
+begun_fate (Pread fd at len) = Unanswered
+begun_fate (Pwrite fd at bytes) = Lost
+begun_fate (Fsync fd) = Unanswered
+
+abbrev pub begun_call : TracedCall → OpenCall
+begun_call call = record { call = call; fate = begun_fate call.call }
+
+-- The open calls that a report shows: the writes that drew numbers, and those calls that were begun and drew none, in the order of their lines.
+pub record AreShownOpen (first : ℕ) (groups : List ℕ) (left : List Open) (begun : List TracedCall) (shown : List OpenCall) : Type 0 where
+  pub all : IsPermutation (map (fated first groups) left ++ map begun_call begun) shown
+  pub by_line : IsNonDecreasingBy (λ o. o.call.line) (map (fated first groups) left) → IsNonDecreasingBy (λ o. o.call.line) shown
+  pub none : begun ≡ [] → shown ≡ map (fated first groups) left
 
 -- the report of a run after a recovery, which shows these files
 abbrev pub fated_report : SortedCalls → recover.Recovered → (names : List (List ℕ)) → Files → Report

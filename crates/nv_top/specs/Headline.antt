@@ -10,6 +10,7 @@ use Rattle.nv_open.specs.Refusals.{IsRefusedFor}
 use Rattle.nv_open.specs.declared.error.Refusal.{Refusal}
 use Rattle.nv_open.specs.declared.error.Refusal.TheVariants as refusals
 use Rattle.nv_trace.specs.Reading.{ending_of, Whole}
+use Rattle.nv_trace.specs.declared.trace.Form.{Form}
 use Rattle.nv_trace.specs.declared.trace.Form.TheVariants as forms
 use Rattle.nv_trace.specs.Traced.{Traced}
 use Rattle.nv_top.specs.Commands.{HasLooked, HasRecovered, HasRunOn, IsBasis, IsGivenBack, IsLookedAt, IsNotRun, IsNotShown, RestsNotRun}
@@ -18,10 +19,11 @@ use Rattle.nv_load.specs.Generated.{generated}
 use Rattle.nv_top.specs.Loads.{HasGenerated, load_options}
 use Rattle.nv_top.specs.declared.show.Show.TheVariants.{Report}
 use Rattle.nv_top.specs.Endings.{IsTrace}
+use Rattle.nv_top.specs.Scheduling.{HasScheduledOn, IsArmedAt, IsArmedAtSome, IsBackPowered}
 use Rattle.nv_top.specs.Stopping.{HasStoppedOn, IsPickedOnce, IsPoweredBack}
 use Rattle.nv_top.specs.Words.{command_of}
 use Rattle.nv_top.specs.declared.words.Command.{Command}
-use Rattle.nv_top.specs.declared.words.Command.TheVariants.{Run, Recover, Look, Gen}
+use Rattle.nv_top.specs.declared.words.Command.TheVariants.{Run, Sched, Recover, Look, Gen}
 use Rattle.nv_top.specs.declared.words.RunOptions.{RunOptions}
 
 -- a bench may stop a run, if it is to be stopped: only one whose devices can be armed and powered off does
@@ -32,6 +34,7 @@ may_stop images (Some k) = images
 -- a command, where a bench can follow it
 abbrev pub possible : (images : Bool) → Command → Option Command
 possible images (Run options) = if may_stop images options.stop then Some (Run options) else None
+possible images (Sched options) = if images then Some (Sched options) else None
 possible images Recover = Some Recover
 possible images (Look files) = Some (Look files)
 possible images (Gen load) = Some (Gen load)
@@ -40,14 +43,39 @@ possible images (Gen load) = Some (Gen load)
 abbrev pub command_over : (images : Bool) → List (List ℕ) → Option Command
 command_over images words = option_and_then (possible images) (command_of words)
 
+-- what a command reads its input for
+abbrev pub form_of : Command → Form
+form_of (Run options) = forms.Run
+form_of (Sched options) = forms.Sched
+form_of Recover = forms.Run
+form_of (Look files) = forms.Run
+form_of (Gen load) = forms.Run
+
+-- and the command that words are over such a bench
+abbrev pub form_by : Option Command → Form
+form_by None = forms.Run
+form_by (Some command) = form_of command
+
+abbrev pub form_over : (images : Bool) → List (List ℕ) → Form
+form_over images words = form_by (command_over images words)
+
 -- how a run leaves a bench: all that was lent is back; a stop armed it once more, unless the log wasn't opened, and then power went off with this pick alone
 abbrev pub IsLeftAfter : (stop : Option ℕ) → Pick → (old new : BenchState) → Type 0
 IsLeftAfter None pick old new = IsGivenBack old new
 IsLeftAfter (Some k) pick old new = (IsPoweredBack k old new ⊎ IsGivenBack old new) × IsPickedOnce pick old new
 
+-- a schedule armed it at some first cuts of the trace that it read, one after another; or there is no such trace, and it armed nothing
+abbrev pub IsArmedBySome : List ℕ → (old new : BenchState) → Type 0
+IsArmedBySome input old new = (new.arms ≡ old.arms) ⊎ ((trace : Traced) × (ending_of forms.Sched input ≡ Whole trace) × IsArmedAtSome trace.tokens old new)
+
+-- at all of them
+abbrev pub IsArmedByAll : List ℕ → (old new : BenchState) → Type 0
+IsArmedByAll input old new = (trace : Traced) × (ending_of forms.Sched input ≡ Whole trace) × IsArmedAt trace.tokens old new
+
 -- how a command leaves it
 abbrev pub IsLeftBy : Command → (old new : BenchState) → Type 0
 IsLeftBy (Run options) old new = IsLeftAfter options.stop options.image old new
+IsLeftBy (Sched options) old new = IsBackPowered old new × IsPickedOnce options.image old new
 IsLeftBy Recover old new = IsGivenBack old new
 IsLeftBy (Look files) old new = IsLookedAt files old new
 IsLeftBy (Gen load) old new = IsGivenBack old new
@@ -67,24 +95,38 @@ abbrev pub IsShownOf : (stop : Option ℕ) → RunOptions → (old new : BenchSt
 IsShownOf None options old new holding trace text = HasRunOn Report options holding new.told trace text
 IsShownOf (Some k) options old new holding trace text = HasStopped (Rose old.faults new.faults) options old.picked holding new trace text
 
+-- The text is that of a report of a trace whose schedule was followed on a bench that held this, and had lost power with those picks, and is that now.
+pub record HasFollowed (failed : Type 0) (options : RunOptions) (before : List Pick) (holding : Holding) (bench : BenchState) (trace : Traced) (text : List ℕ) : Type 0 where
+  pub basis : Basis
+  pub begun : IsBasis options holding trace.names basis
+  pub scheduled : HasScheduledOn failed options before basis trace bench text
+
 -- what the report of a command shows of a bench that held this, and of the input that it had
 abbrev pub IsShown : Command → (input : Option (List ℕ)) → (old new : BenchState) → Holding → (text : List ℕ) → Type 0
 IsShown (Run options) input old new holding text =
     IfSome input (λ input. (trace : Traced) × (ending_of forms.Run input ≡ Whole trace) × IsShownOf options.stop options old new holding trace text)
+IsShown (Sched options) input old new holding text =
+    IfSome input (λ input. (trace : Traced) × (ending_of forms.Sched input ≡ Whole trace) × HasFollowed (Rose old.faults new.faults) options old.picked holding new trace text)
 IsShown Recover input old new holding text = HasRecovered holding new.told text
 IsShown (Look files) input old new holding text = HasLooked files holding text
 IsShown (Gen load) input old new holding text = HasGenerated load holding new.told text
 
 -- what a command reads is a trace, or it reads nothing
 abbrev pub HasInput : Command → (input : Option (List ℕ)) → Type 0
-HasInput (Run options) input = (bytes : List ℕ) × (input ≡ Some bytes) × IsTrace bytes
+HasInput (Run options) input = (bytes : List ℕ) × (input ≡ Some bytes) × IsTrace forms.Run bytes
+HasInput (Sched options) input = (bytes : List ℕ) × (input ≡ Some bytes) × IsTrace forms.Sched bytes
 HasInput Recover input = Unit {0}
 HasInput (Look files) input = Unit {0}
 HasInput (Gen load) input = Unit {0}
 
+-- why the calls of a trace that is read for this aren't made on a bench that held that
+abbrev pub HasTraceRefusal : Form → RunOptions → (input : Option (List ℕ)) → Holding → Refusal → Type 0
+HasTraceRefusal form options input holding why = IfSome input (λ input. (trace : Traced) × (ending_of form input ≡ Whole trace) × IsNotRun options holding trace.names why)
+
 -- why a command is refused by the region of a bench that held this
 abbrev pub HasRefusal : Command → (input : Option (List ℕ)) → Holding → Refusal → Type 0
-HasRefusal (Run options) input holding why = IfSome input (λ input. (trace : Traced) × (ending_of forms.Run input ≡ Whole trace) × IsNotRun options holding trace.names why)
+HasRefusal (Run options) input holding why = HasTraceRefusal forms.Run options input holding why
+HasRefusal (Sched options) input holding why = HasTraceRefusal forms.Sched options input holding why
 HasRefusal Recover input holding why = IsRefusedFor holding.parts why
 HasRefusal (Look files) input holding why = IsNotShown files holding why
 HasRefusal (Gen load) input holding why = IsNotRun load_options holding (generated load).names why
@@ -110,10 +152,15 @@ IsRegionUnwritten old new why = ¬ (why ≡ refusals.TooManyFiles) → new.told 
 abbrev pub IsLeftNotRun : RunOptions → (was : Holding) → (wanted : List (List ℕ)) → (old new : BenchState) → Refusal → Type 0
 IsLeftNotRun options was wanted old new why = IsRegionUnwritten old new why × (why ≡ refusals.TooManyFiles → RestsNotRun options was wanted new.told)
 
--- why a command is refused by the region of a bench that held this, and what it leaves of it
+-- why the calls of a trace that is read for this aren't made on a bench that held that, and what is left of its region
+abbrev pub IsTraceRefused : Form → RunOptions → (input : Option (List ℕ)) → (old new : BenchState) → Holding → Refusal → Type 0
+IsTraceRefused form options input old new holding why =
+    IfSome input (λ input. (trace : Traced) × (ending_of form input ≡ Whole trace) × IsNotRun options holding trace.names why × IsLeftNotRun options holding trace.names old new why)
+
+-- why a command is refused by the region of a bench that held this, and what it leaves of it; a schedule is refused before power goes off
 abbrev pub IsCommandRefused : Command → (input : Option (List ℕ)) → (old new : BenchState) → Holding → Refusal → Type 0
-IsCommandRefused (Run options) input old new holding why =
-    IfSome input (λ input. (trace : Traced) × (ending_of forms.Run input ≡ Whole trace) × IsNotRun options holding trace.names why × IsLeftNotRun options holding trace.names old new why)
+IsCommandRefused (Run options) input old new holding why = IsTraceRefused forms.Run options input old new holding why
+IsCommandRefused (Sched options) input old new holding why = IsTraceRefused forms.Sched options input old new holding why × (new.picked ≡ old.picked)
 IsCommandRefused Recover input old new holding why = IsRefusedFor holding.parts why × IsRegionUnwritten old new why
 IsCommandRefused (Look files) input old new holding why = IsNotShown files holding why
 IsCommandRefused (Gen load) input old new holding why = IsNotRun load_options holding (generated load).names why × IsLeftNotRun load_options holding (generated load).names old new why

@@ -10,6 +10,7 @@ pub mod Fates
 pub mod Outcomes
 pub mod Stopping
 pub mod Stops
+pub mod Scheduling
 pub mod Commands
 pub mod Loads
 pub mod Headline

@@ -15,7 +15,7 @@ use Rattle.nv_trace.specs.Traced.{Traced}
 use Rattle.nv_top.specs.Commands.{IsBasis}
 use Rattle.nv_top.specs.Loads.{load_options}
 use Rattle.nv_top.specs.declared.words.Command.{Command}
-use Rattle.nv_top.specs.declared.words.Command.TheVariants.{Run, Recover, Look, Gen}
+use Rattle.nv_top.specs.declared.words.Command.TheVariants.{Run, Sched, Recover, Look, Gen}
 use Rattle.nv_top.specs.declared.words.RunOptions.{RunOptions}
 
 -- Calls of a trace were made from a basis: some of them have their place, in a legal history, and whatever a power failure leaves of what the bench tells recovers to the files after it and then some others,
@@ -38,6 +38,7 @@ LeavesRun options was trace told = StandForFiles was.parts → TellsOf (InEachIm
 -- What a command leaves of a bench that had an input, and held this: a recovery can be made again, and comes to the same; and of a look its frame says all.
 abbrev pub LeavesLife : Command → (input : Option (List ℕ)) → (was : Holding) → (told : Option Holding) → Type 0
 LeavesLife (Run options) input was told = IfSome input (λ input. (trace : Traced) → ending_of forms.Run input ≡ Whole trace → LeavesRun options was trace told)
+LeavesLife (Sched options) input was told = Unit {0}
 LeavesLife Recover input was told = HasHeader was.parts → TellsOf (StandsAsBefore was) told
 LeavesLife (Look files) input was told = Unit {0}
 LeavesLife (Gen load) input was told = LeavesRun load_options was (generated load) told

@@ -24,7 +24,7 @@ use Rattle.nv_trace.specs.declared.trace_call.TraceCall.TheVariants.{Pread, Pwri
 use Rattle.nv_trace.specs.Shape.{IsWellFormed}
 use Rattle.nv_trace.specs.Traced.{Traced}
 use Rattle.nv_top.specs.Commands.{HasRecovered, HasRunOn, IsBasis, IsLookedAt, recovery_of}
-use Rattle.nv_top.specs.Headline.{HasInput, HasStopped, IsLeftBy, IsShown, expected_faults}
+use Rattle.nv_top.specs.Headline.{HasFollowed, HasInput, HasStopped, IsLeftBy, IsShown, expected_faults}
 use Rattle.nv_top.specs.Runs.{next_behind}
 use Rattle.nv_top.specs.Stopping.{next_in}
 use Rattle.nv_top.specs.declared.show.Show.{Show}
@@ -39,11 +39,11 @@ pub record IsReady (bench : BenchState) : Type 0 where
   pub arms : bench.arms < 2 ^ 63
   pub settled : bench.settled ≤ bench.faults
 
--- A bench that tells is ready for a second command by what the clauses of the top call say of a first one with status 0: what is back, the counts, and what is shown. It may be armed once more.
+-- A bench that tells is ready for a second command by what the clauses of the top call say of a first one with status 0: what is back, the counts, and what is shown. It was armed less than 2^63 times.
 abbrev pub NextIsReady : Type 0
 NextIsReady =
     (command : Command) (input : Option (List ℕ)) (old new : BenchState) (holding : Holding) (text : List ℕ)
-    → IsReady old → old.told ≡ Some holding → old.arms + 1 < 2 ^ 63 → HasInput command input
+    → IsReady old → old.told ≡ Some holding → new.arms < 2 ^ 63 → HasInput command input
     → IsLeftBy command old new → new.faults ≡ expected_faults old new → IsShown command input old new holding text → IsReady new
 
 -- A run begins with the region that another one left: its sizes, its names and behind them the new ones, and the number behind the last that was drawn.
@@ -70,6 +70,12 @@ abbrev pub NextBeginsBehindStop : Type 0
 NextBeginsBehindStop =
     (options later : RunOptions) (old new : BenchState) (holding : Holding) (trace : Traced) (text : List ℕ) (run : HasStopped (Rose old.faults new.faults) options old.picked holding new trace text) (wanted : List (List ℕ)) (basis : Basis)
     → IsBasis later run.stopped.rests.now wanted basis → BeginsAt run.basis.sizes.page run.basis.sizes.entries (next_in run.stopped.parts run.basis.files) basis
+
+-- So does a run behind a schedule.
+abbrev pub NextBeginsBehindSchedule : Type 0
+NextBeginsBehindSchedule =
+    (options later : RunOptions) (old new : BenchState) (holding : Holding) (trace : Traced) (text : List ℕ) (run : HasFollowed (Rose old.faults new.faults) options old.picked holding new trace text) (wanted : List (List ℕ)) (basis : Basis)
+    → IsBasis later run.scheduled.rests.now wanted basis → BeginsAt run.basis.sizes.page run.basis.sizes.entries (next_in run.scheduled.power.parts run.basis.files) basis
 
 -- Behind a recovery it begins with the sizes that the header said, at the next number that the recovery shows.
 abbrev pub NextBeginsBehindRecovery : Type 0
@@ -106,6 +112,13 @@ abbrev pub NextFindsStopped : Type 0
 NextFindsStopped =
     (options : RunOptions) (old new : BenchState) (holding : Holding) (trace : Traced) (text : List ℕ) (run : HasStopped (Rose old.faults new.faults) options old.picked holding new trace text)
     → HasOwnNames run.stopped.rests.now → FindsFiles run.basis.names (files_shown run.basis trace run.stopped.report) run.stopped.rests.now
+
+-- So it does behind a schedule: it finds those that the bench stood for as power left it.
+abbrev pub NextFindsScheduled : Type 0
+NextFindsScheduled =
+    (options : RunOptions) (old new : BenchState) (holding : Holding) (trace : Traced) (text : List ℕ) (run : HasFollowed (Rose old.faults new.faults) options old.picked holding new trace text)
+    → HasOwnNames run.scheduled.rests.now
+    → FindsFiles run.basis.names (files_named run.scheduled.power.parts run.basis.names run.scheduled.power.stores) run.scheduled.rests.now
 
 -- Behind a recovery it finds the files that the recovery shows, which are those that the bench stood for before.
 abbrev pub NextFindsRecovered : Type 0

@@ -19,15 +19,17 @@ use Rattle.nv_recover.specs.Recovering.{HasFoundAll}
 use Rattle.nv_recover.specs.declared.recovering.Recovered as recover
 use Rattle.nv_trace.specs.Traced.{Traced}
 use Rattle.nv_trace.specs.declared.report.Fate.{Fate}
+use Rattle.nv_trace.specs.declared.trace_call.TracedCall.{TracedCall}
 use Rattle.nv_core.specs.state.Passes.{IsOneOf}
 use Rattle.nv_runner.specs.DrawnNumbers.{DrawnCall, DrewInARow}
 use Rattle.nv_runner.specs.Faithful.{Basis, IsFaithful, drawing_calls, entries_taken, files_shown}
-use Rattle.nv_top.specs.Fates.{fate_of, fated_report}
+use Rattle.nv_top.specs.Fates.{AreShownOpen, fate_of}
+use Rattle.nv_top.specs.Outcomes.{shown_report}
 use Rattle.nv_top.specs.Readings.{HavePlainNames}
 use Rattle.nv_runner.specs.Reports.{OpenCall, Report}
 use Rattle.nv_top.specs.Reports.{report_text}
 use Rattle.nv_top.specs.declared.ending.Stop.{Stop}
-use Rattle.nv_top.specs.declared.ending.Stop.TheVariants.{Usage, BadLine, InputLong, Read, Device, Region, NoMemory}
+use Rattle.nv_top.specs.declared.ending.Stop.TheVariants.{Usage, BadLine, InputLong, Read, Device, Region, NoMemory, Turns}
 use Rattle.nv_runner.specs.declared.sorted.SortedCalls.{SortedCalls}
 
 -- the bench is as it was, but for what it tells and its count of faults
@@ -67,6 +69,7 @@ StopSettles settled now Read = ⊥
 StopSettles settled now Device = Rose settled now
 StopSettles settled now (Region refusal) = now ≤ settled
 StopSettles settled now NoMemory = now ≤ settled
+StopSettles settled now Turns = now ≤ settled
 
 abbrev pub IsSettledStop : {T : Type 0} → (settled now : ℕ) → Result T Stop → Type 0
 IsSettledStop settled now (Ok _) = now ≡ settled
@@ -89,12 +92,18 @@ pub record RestsWith (page entries : ℕ) (names : List (List ℕ)) (next : ℕ)
   pub files_are : files_of disks ≡ files
   pub synced : AreQuietStores disks
 
+-- The text is that of the report of the sorted calls, with these files, and with what became of those that were left open.
+pub record ShowsOpen (sorted : SortedCalls) (begun : List TracedCall) (found : recover.Recovered) (names : List (List ℕ)) (files : Files) (text : List ℕ) : Type 0 where
+  pub open_calls : List OpenCall
+  pub are_open : AreShownOpen found.first found.groups sorted.open_calls.items begun open_calls
+  pub text_is : text ≡ report_text (shown_report sorted open_calls names files)
+
 -- The text is that of a report of what a recovery made of a bench that held this, and the bench rests with the files shown, and with the sizes that the header said; the log goes on where it was found to end.
-pub record ShowsRecovered (holding : Holding) (sorted : SortedCalls) (told : Option Holding) (text : List ℕ) : Type 0 where
+-- Beside the calls that were sorted out, these were begun and drew no number.
+pub record ShowsRecovered (holding : Holding) (sorted : SortedCalls) (begun : List TracedCall) (told : Option Holding) (text : List ℕ) : Type 0 where
   pub found : recover.Recovered
   pub log : HasFoundAll (row_words holding.parts) found
-  pub text_is : text ≡ report_text (fated_report sorted found (header_names holding.parts)
-      (files_named holding.parts (header_names holding.parts) holding.stores))
+  pub shown : ShowsOpen sorted begun found (header_names holding.parts) (files_named holding.parts (header_names holding.parts) holding.stores) text
   pub left : RestsWith (header_of (head_image holding.parts)).page (header_of (head_image holding.parts)).entries (header_names holding.parts) found.next
       (files_named holding.parts (header_names holding.parts) holding.stores) told
 

@@ -11,15 +11,15 @@ use Rattle.nv_recover.specs.declared.error.RecoverError.{RecoverError}
 use Rattle.nv_recover.specs.declared.error.RecoverError.TheVariants as recover_errors
 use Rattle.nv_open.specs.declared.error.OpenError.TheVariants as open_errors
 use Rattle.nv_trace.specs.Reading.{ending_of, Bad, Long}
-use Rattle.nv_trace.specs.declared.trace.Form.TheVariants.{Run}
+use Rattle.nv_trace.specs.declared.trace.Form.{Form}
 use Rattle.nv_trace.specs.declared.read_error.ReadError.{ReadError}
 use Rattle.nv_trace.specs.declared.read_error.ReadError.TheVariants as read_errors
 use Rattle.nv_top.specs.declared.words.WordsError.{WordsError}
 use Rattle.nv_top.specs.declared.words.WordsError.TheVariants as words_errors
 use Rattle.nv_top.specs.declared.ending.Stop.{Stop}
-use Rattle.nv_top.specs.declared.ending.Stop.TheVariants.{Usage, BadLine, InputLong, Read, Device, Region, NoMemory}
-use Rattle.nv_top.specs.declared.ending.TheConstants.{USAGE, BAD_INPUT, READ_FAULT, WRITE_FAULT, DEVICE_FAULT, NO_MEMORY, BAD_REGION}
-use Rattle.nv_top.specs.Endings.{usage_line, bad_line, long_line, read_line, device_line, memory_line, region_line}
+use Rattle.nv_top.specs.declared.ending.Stop.TheVariants.{Usage, BadLine, InputLong, Read, Device, Region, NoMemory, Turns}
+use Rattle.nv_top.specs.declared.ending.TheConstants.{USAGE, BAD_INPUT, READ_FAULT, WRITE_FAULT, DEVICE_FAULT, NO_MEMORY, BAD_REGION, TURNS_USED}
+use Rattle.nv_top.specs.Endings.{usage_line, bad_line, long_line, read_line, device_line, memory_line, region_line, turns_line}
 
 abbrev pub stop_status : Stop → ℕ
 stop_status Usage = USAGE
@@ -29,6 +29,7 @@ stop_status Read = READ_FAULT
 stop_status Device = DEVICE_FAULT
 stop_status (Region refusal) = BAD_REGION
 stop_status NoMemory = NO_MEMORY
+stop_status Turns = TURNS_USED
 
 abbrev pub stop_line : Stop → List ℕ
 stop_line Usage = usage_line
@@ -38,6 +39,7 @@ stop_line Read = read_line
 stop_line Device = device_line
 stop_line (Region refusal) = region_line refusal
 stop_line NoMemory = memory_line
+stop_line Turns = turns_line
 
 -- why words that are no command stop the program
 abbrev pub stop_of_words : WordsError → Stop
@@ -84,6 +86,7 @@ StopHasCause before now Read = ⊥
 StopHasCause before now Device = Rose before now
 StopHasCause before now (Region refusal) = now ≡ before
 StopHasCause before now NoMemory = now ≡ before
+StopHasCause before now Turns = ⊥
 
 abbrev pub CountHasCause : {T : Type 0} → (before now : ℕ) → Result T Stop → Type 0
 CountHasCause before now (Ok _) = now ≡ before
@@ -98,20 +101,31 @@ MayEndRun before now Read = ⊥
 MayEndRun before now Device = Rose before now
 MayEndRun before now (Region refusal) = ⊥
 MayEndRun before now NoMemory = before ≤ now
+MayEndRun before now Turns = ⊥
 
 abbrev pub RunHasCause : {T : Type 0} → (before now : ℕ) → Result T Stop → Type 0
 RunHasCause before now (Ok _) = before ≤ now
 RunHasCause before now (Err stop) = MayEndRun before now stop
 
--- what a stop says of the input: it ends at a bad line, or is too long
-abbrev pub IsCauseOf : Stop → List ℕ → Type 0
-IsCauseOf (BadLine bad) input = ending_of Run input ≡ Bad bad
-IsCauseOf InputLong input = ending_of Run input ≡ Long
-IsCauseOf Usage input = Unit {0}
-IsCauseOf Read input = Unit {0}
-IsCauseOf Device input = Unit {0}
-IsCauseOf (Region refusal) input = Unit {0}
-IsCauseOf NoMemory input = Unit {0}
+-- what a stop says of the input, which is read for this: it ends at a bad line, or is too long
+abbrev pub IsCauseOf : Form → Stop → List ℕ → Type 0
+IsCauseOf form (BadLine bad) input = ending_of form input ≡ Bad bad
+IsCauseOf form InputLong input = ending_of form input ≡ Long
+IsCauseOf form Usage input = Unit {0}
+IsCauseOf form Read input = Unit {0}
+IsCauseOf form Device input = Unit {0}
+IsCauseOf form (Region refusal) input = Unit {0}
+IsCauseOf form NoMemory input = Unit {0}
+IsCauseOf form Turns input = Unit {0}
+
+-- A stop that neither the words, the input, the region nor a device is the cause of: memory was wanting, or a token of a schedule has used its advances up.
+abbrev pub IsOwnStop : Stop → Type 0
+IsOwnStop stop = (stop ≡ NoMemory) ⊎ (stop ≡ Turns)
+
+-- a schedule was followed, to its end or up to a token that has used its advances up
+abbrev pub IsFollowed : {T : Type 0} → Result T Stop → Type 0
+IsFollowed (Ok _) = Unit {0}
+IsFollowed (Err stop) = stop ≡ Turns
 
 -- the stop comes before anything is opened
 abbrev pub ComesBeforeOpening : Stop → Type 0
@@ -122,6 +136,7 @@ ComesBeforeOpening Read = Unit {0}
 ComesBeforeOpening Device = ⊥
 ComesBeforeOpening (Region refusal) = ⊥
 ComesBeforeOpening NoMemory = ⊥
+ComesBeforeOpening Turns = ⊥
 
 -- the line of the stop takes memory
 abbrev pub TakesMemory : Stop → Type 0
@@ -132,6 +147,7 @@ TakesMemory Read = ⊥
 TakesMemory Device = ⊥
 TakesMemory (Region refusal) = Unit {0}
 TakesMemory NoMemory = ⊥
+TakesMemory Turns = ⊥
 
 -- a status in the end: the wanted one, or the sink failed, or its line took memory that was wanting
 abbrev pub SaidAs : ℕ → ℕ → Type 0 → Type 0

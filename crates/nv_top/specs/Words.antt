@@ -12,10 +12,10 @@ use Rattle.nv_pmem.specs.Limits.{IsEntryCount, IsPageSize}
 use Rattle.nv_pmem.specs.declared.picker.Pick.{Pick}
 use Rattle.nv_pmem.specs.declared.picker.Pick.TheVariants.{Old, New, Torn, Seed}
 use Rattle.nv_top.specs.declared.words.Command.{Command}
-use Rattle.nv_top.specs.declared.words.Command.TheVariants.{Run, Recover, Look, Gen}
+use Rattle.nv_top.specs.declared.words.Command.TheVariants.{Run, Sched, Recover, Look, Gen}
 use Rattle.nv_top.specs.declared.words.RunOptions.{RunOptions}
 
--- ---- the options of a run, as `clap` reads them
+-- ---- the options of a run and of a schedule, as `clap` reads them
 
 -- `--noworker`, which has no value
 abbrev pub noworker_rule : Rule
@@ -33,6 +33,16 @@ option_names = codes "page" ∷ codes "entries" ∷ codes "cache" ∷ codes "bat
 unfoldable pub run_app : App
 run_app =
     let app = fold (λ app name. with_rule app (option_rule name)) (with_rule (new_app (codes "run")) noworker_rule) option_names in
+    record { top = record app.top { disable_help_flag = true }; subs = app.subs }
+
+-- the options of a schedule
+abbrev pub sched_names : List (List ℕ)
+sched_names = codes "page" ∷ codes "entries" ∷ codes "cache" ∷ codes "batch" ∷ codes "pages" ∷ codes "image" ∷ []
+
+-- `sched` with these, each at most once, and no `--help`
+unfoldable pub sched_app : App
+sched_app =
+    let app = fold (λ app name. with_rule app (option_rule name)) (new_app (codes "sched")) sched_names in
     record { top = record app.top { disable_help_flag = true }; subs = app.subs }
 
 -- ---- their values
@@ -108,16 +118,22 @@ pub record AreInLimits (options : RunOptions) : Type 0 where
 abbrev pub is_dashes : List ℕ → Bool
 is_dashes word = bytes_eq word (codes "--")
 
--- a command, where no fault was found in its words
-abbrev pub unless_refused : Kinds → Option Command → Option Command
-unless_refused [] command = command
-unless_refused (first ∷ rest) command = None
+-- options, where no fault was found in their words
+abbrev pub unless_refused : Kinds → Option RunOptions → Option RunOptions
+unless_refused [] options = options
+unless_refused (first ∷ rest) options = None
 
--- the run that words ask for, where `clap` takes them and none is the word `--`
+-- the options behind a command's word, where `clap` takes them and none is the word `--`
+abbrev pub options_behind : App → List (List ℕ) → Option RunOptions
+options_behind app words = if list_any is_dashes words then None else unless_refused (fault_of app words) (options_in (matches_of app words))
+
+-- the run that words ask for
 abbrev pub run_in : List (List ℕ) → Option Command
-run_in words =
-    if list_any is_dashes words then None
-    else unless_refused (fault_of run_app words) (option_map Run (options_in (matches_of run_app words)))
+run_in words = option_map Run (options_behind run_app words)
+
+-- the schedule that they ask for
+abbrev pub sched_in : List (List ℕ) → Option Command
+sched_in words = option_map Sched (options_behind sched_app words)
 
 -- the look that words ask for: with files by `--files` alone, and without by no word
 abbrev pub look_in : List (List ℕ) → Option Command
@@ -133,12 +149,18 @@ load_in (seed ∷ calls ∷ threads ∷ []) =
     (number_in 0 largest_number seed)
 load_in words = None
 
--- the command that words are: `run` or `look` with its options, `gen` with its load, or `recover` alone
+-- the command that words are: `run`, `sched` or `look` with its options, `gen` with its load, or `recover` alone
 unfoldable pub command_of : List (List ℕ) → Option Command
 command_of [] = None
 command_of (first ∷ rest) =
     if bytes_eq first (codes "run") then run_in (first ∷ rest)
+    else if bytes_eq first (codes "sched") then sched_in (first ∷ rest)
     else if bytes_eq first (codes "recover") && length rest == 0 then Some Recover
     else if bytes_eq first (codes "look") then look_in rest
     else if bytes_eq first (codes "gen") then load_in rest
     else None
+
+-- words that begin as those of a schedule
+abbrev pub names_schedule : List (List ℕ) → Bool
+names_schedule [] = false
+names_schedule (first ∷ rest) = bytes_eq first (codes "sched")

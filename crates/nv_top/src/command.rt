@@ -1,5 +1,5 @@
 //! The command: what a program does, whole.
-ghost use Rattle.std.specs.Prelude.{◌≡◌, ◌≢◌, ◌≤◌, ◌<◌, ◌⊎◌, ◌+◌, ◌-◌, ◌^◌, ℕ, List, [], length, map, string_bytes, false, true, None, Some, IfSome, IfOk, IfErr, OnOk, Err};
+ghost use Rattle.std.specs.Prelude.{◌≡◌, ◌≢◌, ◌≤◌, ◌<◌, ◌⊎◌, ◌+◌, ◌-◌, ◌^◌, ℕ, List, [], ◌∷◌, length, map, string_bytes, false, true, None, Some, IfSome, IfOk, IfErr, OnOk, Err};
 ghost use Rattle.std.specs.List.Sorted.{IsStrictlyIncreasing};
 ghost use Rattle.nv_plain.specs.Faults.{Rose};
 ghost use Rattle.nv_bench.specs.Holding.{IsQuietHolding};
@@ -12,16 +12,17 @@ ghost use Rattle.nv_trace.specs.declared.trace.Form.TheVariants as forms;
 ghost use Rattle.nv_trace.specs.Shape.{IsWellFormed};
 ghost use Rattle.nv_trace.specs.Streams.{Appends};
 ghost use Rattle.nv_top.specs.Commands.{IsGivenBack, IsNotRun, RestsNotRun};
-ghost use Rattle.nv_top.specs.Endings.{IsErrorLine, AppendsFront, usage_line, read_line, device_line, memory_line, input_line, region_line, IsTrace};
-ghost use Rattle.nv_top.specs.Headline.{HasInput, HasRefusal, HasStopped, IsLeftBy, IsCommandRefused, IsUnhindered, IsShown, IsShownOf, command_over, expected_faults, possible};
+ghost use Rattle.nv_top.specs.Endings.{IsErrorLine, AppendsFront, usage_line, read_line, device_line, memory_line, input_line, region_line, turns_line, IsTrace};
+ghost use Rattle.nv_top.specs.Headline.{HasInput, HasRefusal, HasStopped, IsArmedByAll, IsArmedBySome, IsLeftBy, IsCommandRefused, IsUnhindered, IsShown, IsShownOf, command_over, expected_faults, form_over, possible};
 ghost use Rattle.nv_trace.specs.Traced.{lines_in};
 ghost use Rattle.nv_top.specs.Lives.{LeavesLife, LeavesRun};
 ghost use Rattle.nv_top.specs.Stopping.{IsPickedOnce, IsPoweredBack, IsSettledStop};
-ghost use Rattle.nv_top.specs.Stops.{ComesBeforeOpening, IsCauseOf};
+ghost use Rattle.nv_top.specs.Stops.{ComesBeforeOpening, IsCauseOf, IsFollowed, IsOwnStop};
 ghost use Rattle.nv_top.specs.Words.{AreInLimits};
 ghost use Rattle.nv_top.specs.declared.ending.Stop.TheVariants as stops;
-ghost use Rattle.nv_top.specs.declared.ending.TheConstants.{DONE, USAGE, BAD_INPUT, READ_FAULT, WRITE_FAULT, DEVICE_FAULT, NO_MEMORY, BAD_REGION};
+ghost use Rattle.nv_top.specs.declared.ending.TheConstants.{DONE, USAGE, BAD_INPUT, READ_FAULT, WRITE_FAULT, DEVICE_FAULT, NO_MEMORY, BAD_REGION, TURNS_USED};
 ghost use Rattle.nv_top.specs.declared.words.Command.{Command};
+ghost use Rattle.nv_top.specs.declared.words.RunOptions.{RunOptions};
 ghost use Rattle.nv_top.specs.declared.words.Command.TheVariants as commands;
 ghost use Rattle.nv_top.specs.declared.words.WordsError.TheVariants as words_errors;
 
@@ -32,6 +33,7 @@ use crate::looking::look;
 use crate::names::copy_names;
 use crate::recovery::recover;
 use crate::run::run;
+use crate::scheduling::schedule;
 use crate::show::Show;
 use crate::stopping::run_to_stop;
 use crate::words::{Command, RunOptions, WordsError, parse_command};
@@ -44,7 +46,7 @@ use std::alloc::Global;
 use std::sync::Wait;
 use std::thread::Threads;
 
-/// Follows a command over a bench: `run` reads a trace, makes its calls and writes the report, `recover` recovers the region and writes
+/// Follows a command over a bench: `run` reads a trace, makes its calls and writes the report, `sched` makes them step by step as the tokens of the trace say, and powers off then, `recover` recovers the region and writes
 /// what it found, `look` writes what the region holds and changes nothing, and `gen` makes calls of its own and writes what is counted of them. `words` are the words
 /// behind the program's name. The result is the program's status.
 pub fn nv_main<R: Threads + Wait + Sync, I: Source, O: Sink, B: Bench, G: Gate + Sync>(
@@ -61,21 +63,29 @@ pub fn nv_main<R: Threads + Wait + Sync, I: Source, O: Sink, B: Bench, G: Gate +
     requires quiet { IfSome (B.state bench.old).told IsQuietHolding }
     requires arms { (B.state bench.old).arms < 2 ^ 63 }
     requires settled { (B.state bench.old).settled ≤ (B.state bench.old).faults }
-    ensures statuses { result ≤ BAD_REGION }
+    ensures statuses { result ≤ TURNS_USED }
 
     // All that was lent is back.
     ensures back { (command : Command) → command_over B.can_lose_power (map string_bytes words.now) ≡ Some command
         → IsLeftBy command (B.state bench.old) (B.state bench.new) }
+
+    // A schedule armed it at its cuts, with their numbers: at the first ones of them, or, with status 0, at all. Where no trace was read it armed nothing.
+    ensures cuts { (options : _) → command_over B.can_lose_power (map string_bytes words.now) ≡ Some (commands.Sched options)
+        → IfSome (I.left src.old) (λ input. IsArmedBySome input (B.state bench.old) (B.state bench.new)) }
+    ensures all_cuts { (options : _) → command_over B.can_lose_power (map string_bytes words.now) ≡ Some (commands.Sched options) → result ≡ DONE
+        → IfSome (I.left src.old) (λ input. IsArmedByAll input (B.state bench.old) (B.state bench.new)) }
 
     // The words decide before anything is read or opened, and take memory to read.
     ensures usage { result ≡ USAGE → command_over B.can_lose_power (map string_bytes words.now) ≡ None }
     ensures command { command_over B.can_lose_power (map string_bytes words.now) ≡ None
         → ((result ≡ USAGE) ⊎ ((result ≡ NO_MEMORY) ⊎ (result ≡ WRITE_FAULT))) × (I.left src.new ≡ I.left src.old) × (B.state bench.new ≡ B.state bench.old) }
 
-    // The input of a run is a trace, or not; the other commands have none.
-    ensures bad_input { result ≡ BAD_INPUT → IfSome (I.left src.old) (λ input. ¬ (IsTrace input)) }
+    // The input of a run is a trace, or not, and that of a schedule a trace with tokens; the other commands have none.
+    ensures bad_input { result ≡ BAD_INPUT → IfSome (I.left src.old) (λ input. ¬ (IsTrace (form_over B.can_lose_power (map string_bytes words.now)) input)) }
     ensures good_input { (options : _) → command_over B.can_lose_power (map string_bytes words.now) ≡ Some (commands.Run options)
-        → result ≡ DONE → IfSome (I.left src.old) (λ input. IsTrace input × (I.left src.new ≡ Some [])) }
+        → result ≡ DONE → IfSome (I.left src.old) (λ input. IsTrace forms.Run input × (I.left src.new ≡ Some [])) }
+    ensures good_schedule { (options : _) → command_over B.can_lose_power (map string_bytes words.now) ≡ Some (commands.Sched options)
+        → (result ≡ DONE) ⊎ (result ≡ TURNS_USED) → IfSome (I.left src.old) (λ input. IsTrace forms.Sched input × (I.left src.new ≡ Some [])) }
     ensures unread { command_over B.can_lose_power (map string_bytes words.now) ≡ Some commands.Recover → I.left src.new ≡ I.left src.old }
     ensures unread_look { (files : _) → command_over B.can_lose_power (map string_bytes words.now) ≡ Some (commands.Look files)
         → I.left src.new ≡ I.left src.old }
@@ -93,13 +103,18 @@ pub fn nv_main<R: Threads + Wait + Sync, I: Source, O: Sink, B: Bench, G: Gate +
     ensures device_sound { result ≢ DEVICE_FAULT → result ≢ WRITE_FAULT
         → (B.state bench.new).faults ≤ expected_faults (B.state bench.old) (B.state bench.new) }
 
-    // With status 1, 2, 3, 5, 6 or 7 one line is written, and nothing else.
+    // With status 1, 2, 3, 5, 6, 7 or 8 one line is written, and nothing else.
     ensures usage_said { result ≡ USAGE → Appends (O.written out.old) (O.written out.new) usage_line }
     ensures input_said { result ≡ BAD_INPUT → IfSome (I.left src.old) (λ input.
-        Appends (O.written out.old) (O.written out.new) (input_line (ending_of forms.Run input))) }
+        Appends (O.written out.old) (O.written out.new) (input_line (ending_of (form_over B.can_lose_power (map string_bytes words.now)) input))) }
     ensures read_said { result ≡ READ_FAULT → Appends (O.written out.old) (O.written out.new) read_line }
     ensures device_said { result ≡ DEVICE_FAULT → Appends (O.written out.old) (O.written out.new) device_line }
     ensures memory_said { result ≡ NO_MEMORY → Appends (O.written out.old) (O.written out.new) memory_line }
+    ensures turns_said { result ≡ TURNS_USED → Appends (O.written out.old) (O.written out.new) turns_line }
+
+    // Only a schedule ends with status 8. Power went off then, with its pick.
+    ensures turns { result ≡ TURNS_USED → (options : RunOptions) × (command_over B.can_lose_power (map string_bytes words.now) ≡ Some (commands.Sched options))
+        × ((B.state bench.new).picked ≡ options.image ∷ (B.state bench.old).picked) }
 
     // With status 7 the line says why the region is refused. It is refused at entry, never after a stop's power failure. It is as it was then, or, where there would be too many files, at rest.
     ensures region { result ≡ BAD_REGION → (why : Refusal) × Appends (O.written out.old) (O.written out.new) (region_line why)
@@ -109,10 +124,10 @@ pub fn nv_main<R: Threads + Wait + Sync, I: Source, O: Sink, B: Bench, G: Gate +
     ensures unarmed { result ≡ BAD_REGION → IfSome (I.left src.old) (λ input. IfSome (B.state bench.old).told (λ holding.
         (B.state bench.new).arms ≡ (B.state bench.old).arms)) }
 
-    // Where nothing stands in its way a command is followed to its end, unless memory is wanting. Then no device has failed, but for a stop's own faults.
+    // Where nothing stands in its way a command is followed to its end, unless memory is wanting, or a token of a schedule has used its advances up. Then no device has failed, but for a stop's own faults.
     ensures complete { (command : Command) → command_over B.can_lose_power (map string_bytes words.now) ≡ Some command → IfSome (B.state bench.old).told (λ holding. IsUnhindered command (I.left src.old) holding (Rose (I.fault_count src.old) (I.fault_count src.new))
         (Rose (expected_faults (B.state bench.old) (B.state bench.new)) (B.state bench.new).faults)
-        → ¬ (Rose (O.fault_count out.old) (O.fault_count out.new)) → (result ≡ DONE) ⊎ (result ≡ NO_MEMORY)) }
+        → ¬ (Rose (O.fault_count out.old) (O.fault_count out.new)) → (result ≡ DONE) ⊎ ((result ≡ NO_MEMORY) ⊎ (result ≡ TURNS_USED))) }
     // With status 0 the region wasn't refused, where the input tells. So a command that nothing else stands in the way of ends with 7 exactly where it is, unless memory is wanting.
     ensures unrefused { result ≡ DONE → (command : Command) → command_over B.can_lose_power (map string_bytes words.now) ≡ Some command → HasInput command (I.left src.old)
         → IfSome (B.state bench.old).told (λ holding. (why : Refusal) → ¬ (HasRefusal command (I.left src.old) holding why)) }
@@ -162,10 +177,14 @@ fn report<R: Threads + Wait + Sync, I: Source, B: Bench, G: Gate + Sync>(
     requires settled { (B.state bench.old).settled ≤ (B.state bench.old).faults }
     ensures back { (command : Command) → command_over B.can_lose_power (map string_bytes words.now) ≡ Some command
         → IsLeftBy command (B.state bench.old) (B.state bench.new) }
+    ensures cuts { (options : _) → command_over B.can_lose_power (map string_bytes words.now) ≡ Some (commands.Sched options)
+        → IfSome (I.left src.old) (λ input. IsArmedBySome input (B.state bench.old) (B.state bench.new)) }
+    ensures all_cuts { (options : _) → command_over B.can_lose_power (map string_bytes words.now) ≡ Some (commands.Sched options)
+        → OnOk result (IfSome (I.left src.old) (λ input. IsArmedByAll input (B.state bench.old) (B.state bench.new))) }
     ensures usage { result ≡ Err stops.Usage → command_over B.can_lose_power (map string_bytes words.now) ≡ None }
     ensures command { command_over B.can_lose_power (map string_bytes words.now) ≡ None
         → ((result ≡ Err stops.Usage) ⊎ (result ≡ Err stops.NoMemory)) × (I.left src.new ≡ I.left src.old) × (B.state bench.new ≡ B.state bench.old) }
-    ensures bad_line { IfErr result (λ stop. IfSome (I.left src.old) (IsCauseOf stop)) }
+    ensures bad_line { IfErr result (λ stop. IfSome (I.left src.old) (IsCauseOf (form_over B.can_lose_power (map string_bytes words.now)) stop)) }
     ensures read_fault { result ≡ Err stops.Read → Rose (I.fault_count src.old) (I.fault_count src.new) }
     ensures read_sound { result ≢ Err stops.Read → I.fault_count src.new ≡ I.fault_count src.old }
     ensures device_fault { result ≡ Err stops.Device
@@ -173,7 +192,11 @@ fn report<R: Threads + Wait + Sync, I: Source, B: Bench, G: Gate + Sync>(
     ensures device_sound { result ≢ Err stops.Device
         → (B.state bench.new).faults ≤ expected_faults (B.state bench.old) (B.state bench.new) }
     ensures good_input { (options : _) → command_over B.can_lose_power (map string_bytes words.now) ≡ Some (commands.Run options)
-        → OnOk result (IfSome (I.left src.old) (λ input. IsTrace input × (I.left src.new ≡ Some []))) }
+        → OnOk result (IfSome (I.left src.old) (λ input. IsTrace forms.Run input × (I.left src.new ≡ Some []))) }
+    ensures good_schedule { (options : _) → command_over B.can_lose_power (map string_bytes words.now) ≡ Some (commands.Sched options)
+        → IsFollowed result → IfSome (I.left src.old) (λ input. IsTrace forms.Sched input × (I.left src.new ≡ Some [])) }
+    ensures turns { result ≡ Err stops.Turns → (options : RunOptions) × (command_over B.can_lose_power (map string_bytes words.now) ≡ Some (commands.Sched options))
+        × ((B.state bench.new).picked ≡ options.image ∷ (B.state bench.old).picked) }
     ensures unread { command_over B.can_lose_power (map string_bytes words.now) ≡ Some commands.Recover → I.left src.new ≡ I.left src.old }
     ensures unread_look { (files : _) → command_over B.can_lose_power (map string_bytes words.now) ≡ Some (commands.Look files)
         → I.left src.new ≡ I.left src.old }
@@ -187,7 +210,7 @@ fn report<R: Threads + Wait + Sync, I: Source, B: Bench, G: Gate + Sync>(
         IfSome (B.state bench.old).told (λ holding. (B.state bench.new).arms ≡ (B.state bench.old).arms)) }
     ensures complete { (command : Command) → command_over B.can_lose_power (map string_bytes words.now) ≡ Some command → IfSome (B.state bench.old).told (λ holding. IsUnhindered command (I.left src.old) holding (Rose (I.fault_count src.old) (I.fault_count src.new))
         (Rose (expected_faults (B.state bench.old) (B.state bench.new)) (B.state bench.new).faults)
-        → IfErr result (λ stop. stop ≡ stops.NoMemory)) }
+        → IfErr result IsOwnStop) }
     ensures counts { OnOk result ((B.state bench.new).faults ≡ expected_faults (B.state bench.old) (B.state bench.new)) }
     ensures never_falls { (B.state bench.old).faults ≤ (B.state bench.new).faults }
     ensures life { (command : Command) → command_over B.can_lose_power (map string_bytes words.now) ≡ Some command
@@ -201,6 +224,7 @@ fn report<R: Threads + Wait + Sync, I: Source, B: Bench, G: Gate + Sync>(
     let command = command_over::<B>(alloc, words)?;
     match command {
         Command::Run(options) => run_input(rt, alloc, gate, src, bench, options),
+        Command::Sched(options) => schedule_input(alloc, src, bench, options),
         Command::Recover => recover(alloc, bench),
         Command::Look { files } => look(alloc, bench, files),
         Command::Gen(load) => run_load(rt, alloc, gate, bench, load),
@@ -222,6 +246,7 @@ fn command_on(command: Command, images: bool) -> Option<Command>
 {
     match command {
         Command::Run(options) if options.stop.is_some() && !images => None,
+        Command::Sched(_) if !images => None,
         _ => Some(command),
     }
 }
@@ -244,21 +269,22 @@ fn run_input<R: Threads + Wait + Sync, I: Source, B: Bench, G: Gate + Sync>(
     requires stop { IfSome options.stop (λ k. (1 ≤ k) × (B.can_lose_power ≡ true)) }
     ensures back { IsLeftBy (commands.Run options) (B.state bench.old) (B.state bench.new) }
     ensures words { result ≢ Err stops.Usage }
-    ensures bad_line { IfErr result (λ stop. IfSome (I.left src.old) (IsCauseOf stop)) }
+    ensures turns { result ≢ Err stops.Turns }
+    ensures bad_line { IfErr result (λ stop. IfSome (I.left src.old) (IsCauseOf forms.Run stop)) }
     ensures read_fault { result ≡ Err stops.Read → Rose (I.fault_count src.old) (I.fault_count src.new) }
     ensures read_sound { result ≢ Err stops.Read → I.fault_count src.new ≡ I.fault_count src.old }
     ensures device_fault { result ≡ Err stops.Device
         → Rose (expected_faults (B.state bench.old) (B.state bench.new)) (B.state bench.new).faults }
     ensures device_sound { result ≢ Err stops.Device
         → (B.state bench.new).faults ≤ expected_faults (B.state bench.old) (B.state bench.new) }
-    ensures good_input { OnOk result (IfSome (I.left src.old) (λ input. IsTrace input × (I.left src.new ≡ Some []))) }
+    ensures good_input { OnOk result (IfSome (I.left src.old) (λ input. IsTrace forms.Run input × (I.left src.new ≡ Some []))) }
     ensures region { (why : _) → result ≡ Err (stops.Region why) → IfSome (B.state bench.old).told (λ holding.
         IsCommandRefused (commands.Run options) (I.left src.old) (B.state bench.old) (B.state bench.new) holding why) }
     ensures unarmed { (why : _) → result ≡ Err (stops.Region why) → IfSome (I.left src.old) (λ input.
         IfSome (B.state bench.old).told (λ holding. (B.state bench.new).arms ≡ (B.state bench.old).arms)) }
     ensures complete { IfSome (B.state bench.old).told (λ holding. IsUnhindered (commands.Run options) (I.left src.old) holding (Rose (I.fault_count src.old) (I.fault_count src.new))
         (Rose (expected_faults (B.state bench.old) (B.state bench.new)) (B.state bench.new).faults)
-        → IfErr result (λ stop. stop ≡ stops.NoMemory)) }
+        → IfErr result IsOwnStop) }
     ensures counts { OnOk result ((B.state bench.new).faults ≡ expected_faults (B.state bench.old) (B.state bench.new)) }
     ensures never_falls { (B.state bench.old).faults ≤ (B.state bench.new).faults }
     ensures life { IfSome (B.state bench.old).told (λ was. LeavesLife (commands.Run options) (I.left src.old) was (B.state bench.new).told) }
@@ -269,6 +295,50 @@ fn run_input<R: Threads + Wait + Sync, I: Source, B: Bench, G: Gate + Sync>(
     images_follow_calls();
     let trace = read_trace(alloc, Form::Run, src)?;
     run_trace(rt, alloc, gate, bench, options, &trace)
+}
+
+// The report of the schedule of the trace that the source gives.
+fn schedule_input<I: Source, B: Bench>(
+    alloc: Global,
+    src: &mut I,
+    bench: &mut B,
+    options: RunOptions,
+) -> Result<Vec<u8>, Stop>
+    requires closed { (B.state bench.old).is_open ≡ false }
+    requires home { (B.state bench.old).lent ≡ [] }
+    requires quiet { IfSome (B.state bench.old).told IsQuietHolding }
+    requires arms { (B.state bench.old).arms < 2 ^ 63 }
+    requires settled { (B.state bench.old).settled ≤ (B.state bench.old).faults }
+    requires limits { AreInLimits options }
+    requires images { B.can_lose_power ≡ true }
+    ensures back { IsLeftBy (commands.Sched options) (B.state bench.old) (B.state bench.new) }
+    ensures cuts { IfSome (I.left src.old) (λ input. IsArmedBySome input (B.state bench.old) (B.state bench.new)) }
+    ensures all_cuts { OnOk result (IfSome (I.left src.old) (λ input. IsArmedByAll input (B.state bench.old) (B.state bench.new))) }
+    ensures words { result ≢ Err stops.Usage }
+    ensures bad_line { IfErr result (λ stop. IfSome (I.left src.old) (IsCauseOf forms.Sched stop)) }
+    ensures read_fault { result ≡ Err stops.Read → Rose (I.fault_count src.old) (I.fault_count src.new) }
+    ensures read_sound { result ≢ Err stops.Read → I.fault_count src.new ≡ I.fault_count src.old }
+    ensures device_fault { result ≡ Err stops.Device
+        → Rose (expected_faults (B.state bench.old) (B.state bench.new)) (B.state bench.new).faults }
+    ensures device_sound { result ≢ Err stops.Device
+        → (B.state bench.new).faults ≤ expected_faults (B.state bench.old) (B.state bench.new) }
+    ensures good_input { IsFollowed result → IfSome (I.left src.old) (λ input. IsTrace forms.Sched input × (I.left src.new ≡ Some [])) }
+    ensures turns { result ≡ Err stops.Turns → (B.state bench.new).picked ≡ options.image ∷ (B.state bench.old).picked }
+    ensures report { IfOk result (λ text. IfSome (B.state bench.old).told (λ holding.
+        IsShown (commands.Sched options) (I.left src.old) (B.state bench.old) (B.state bench.new) holding text.items)) }
+    ensures region { (why : _) → result ≡ Err (stops.Region why) → IfSome (B.state bench.old).told (λ holding.
+        IsCommandRefused (commands.Sched options) (I.left src.old) (B.state bench.old) (B.state bench.new) holding why) }
+    ensures unarmed { (why : _) → result ≡ Err (stops.Region why) → IfSome (I.left src.old) (λ input.
+        IfSome (B.state bench.old).told (λ holding. (B.state bench.new).arms ≡ (B.state bench.old).arms)) }
+    ensures complete { IfSome (B.state bench.old).told (λ holding. IsUnhindered (commands.Sched options) (I.left src.old) holding (Rose (I.fault_count src.old) (I.fault_count src.new))
+        (Rose (expected_faults (B.state bench.old) (B.state bench.new)) (B.state bench.new).faults)
+        → IfErr result IsOwnStop) }
+    ensures counts { OnOk result ((B.state bench.new).faults ≡ expected_faults (B.state bench.old) (B.state bench.new)) }
+    ensures never_falls { (B.state bench.old).faults ≤ (B.state bench.new).faults }
+    ensures unopened { IfErr result (λ stop. ComesBeforeOpening stop → B.state bench.new ≡ B.state bench.old) }
+{
+    let trace = read_trace(alloc, Form::Sched, src)?;
+    schedule(alloc, bench, options, &trace)
 }
 
 // The report of a run of a trace, which may be stopped.
@@ -292,6 +362,7 @@ fn run_trace<R: Threads + Wait + Sync, T: Bench, G: Gate + Sync>(
     requires few { length trace.now.calls ≤ MOST_CALLS }
     ensures back { IsLeftBy (commands.Run options) (T.state bench.old) (T.state bench.new) }
     ensures cause { IsSettledStop (expected_faults (T.state bench.old) (T.state bench.new)) (T.state bench.new).faults result }
+    ensures turns { result ≢ Err stops.Turns }
     ensures never_falls { (T.state bench.old).faults ≤ (T.state bench.new).faults }
     ensures life { IfSome (T.state bench.old).told (λ was. LeavesRun options was trace.now (T.state bench.new).told) }
     ensures ran { IfOk result (λ text. IfSome (T.state bench.old).told (λ holding.
@@ -335,6 +406,7 @@ fn stop_run<R: Threads + Wait + Sync, T: Bench, G: Gate + Sync>(
     ensures back { IsPoweredBack k (T.state bench.old) (T.state bench.new) ⊎ IsGivenBack (T.state bench.old) (T.state bench.new) }
     ensures picked { IsPickedOnce options.image (T.state bench.old) (T.state bench.new) }
     ensures cause { IsSettledStop (expected_faults (T.state bench.old) (T.state bench.new)) (T.state bench.new).faults result }
+    ensures turns { result ≢ Err stops.Turns }
     ensures never_falls { (T.state bench.old).faults ≤ (T.state bench.new).faults }
     ensures life { IfSome (T.state bench.old).told (λ was. LeavesRun options was trace.now (T.state bench.new).told) }
     ensures ran { IfOk result (λ text. IfSome (T.state bench.old).told (λ holding.

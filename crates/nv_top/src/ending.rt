@@ -41,6 +41,9 @@ pub const NO_MEMORY: u8 = 6;
 /// The region is refused.
 pub const BAD_REGION: u8 = 7;
 
+/// A token of a schedule has used its advances up, and none of them came to its point.
+pub const TURNS_USED: u8 = 8;
+
 /// Why a program wrote no report.
 #[derive(Clone, Copy, Debug, PartialEq, Eq)]
 pub(crate) enum Stop {
@@ -51,6 +54,7 @@ pub(crate) enum Stop {
     Device,
     Region(Refusal),
     NoMemory,
+    Turns,
 }
 
 impl From<WordsError> for Stop {
@@ -186,6 +190,7 @@ pub(crate) fn say_stop<O: Sink>(alloc: Global, out: &mut O, stop: &Stop) -> u8
         Stop::Device => say(out, DEVICE_FAULT, b"error device\n"),
         Stop::Region(refusal) => say_refusal(alloc, out, refusal),
         Stop::NoMemory => say(out, NO_MEMORY, b"error no memory\n"),
+        Stop::Turns => say(out, TURNS_USED, b"error turns\n"),
     }
 }
 

@@ -1,17 +1,50 @@
-//! What became of the writes that were left open.
+//! What became of the calls that were left open.
 ghost use Rattle.std.specs.Prelude.{◌≡◌, map, IfOk};
-ghost use Rattle.nv_top.specs.Fates.{fate_of, fated};
+ghost use Rattle.nv_top.specs.Fates.{AreShownOpen, begun_fate, fate_of, fated};
 ghost use Rattle.nv_top.specs.Outcomes.{fated_call};
 
 use crate::outcome::Fated;
 use nv_plain::NoMemory;
 use nv_recover::Recovered;
 use nv_runner::Open;
-use nv_trace::Fate;
+use nv_trace::{Fate, TraceCall, TracedCall};
 use std::alloc::Global;
 
-/// The writes that were left open, with what a recovery made of each.
-pub(crate) fn fates<'a>(
+/// All calls that were left open, in the order of their lines: the writes that drew numbers, with what a recovery made of each, and those that were begun and drew none.
+pub(crate) fn open_fates<'a>(
+    alloc: Global,
+    left: &[Open<'a>],
+    begun: &[&'a TracedCall],
+    found: &Recovered,
+) -> Result<Vec<Fated<'a>>, NoMemory>
+    ensures { IfOk result (λ all. AreShownOpen found.now.first found.now.groups left.now (map (λ call. call.now) begun.now) (map fated_call all.items)) }
+{
+    let mut all = fates(alloc, left, found)?;
+    if begun.is_empty() {
+        return Ok(all);
+    }
+    for call in begun {
+        all.push(Fated {
+            call: *call,
+            fate: begun_fate(&call.call),
+        })?;
+    }
+    all.sort_by_key(|one| one.call.line)?;
+    Ok(all)
+}
+
+// What became of a call that was begun and drew no number: nothing of a write is in the files.
+fn begun_fate(call: &TraceCall) -> Fate
+    ensures { result ≡ begun_fate call.now }
+{
+    match call {
+        TraceCall::Pwrite { .. } => Fate::Lost,
+        TraceCall::Pread { .. } | TraceCall::Fsync { .. } => Fate::Unanswered,
+    }
+}
+
+// The writes that were left open and drew numbers, with what a recovery made of each.
+fn fates<'a>(
     alloc: Global,
     left: &[Open<'a>],
     found: &Recovered,

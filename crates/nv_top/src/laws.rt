@@ -1,6 +1,6 @@
 //! Laws of reports, and of commands one behind the other.
 ghost use Rattle.nv_top.specs.Headline.{ShownIsNotRefused};
-ghost use Rattle.nv_top.specs.NextCommands.{NextBeginsBehind, NextBeginsBehindRecovery, NextBeginsBehindStop, NextFindsLooked, NextFindsRecovered, NextFindsRun, NextFindsStopped, NextIsReady, RunsHaveOneHistory};
+ghost use Rattle.nv_top.specs.NextCommands.{NextBeginsBehind, NextBeginsBehindRecovery, NextBeginsBehindSchedule, NextBeginsBehindStop, NextFindsLooked, NextFindsRecovered, NextFindsRun, NextFindsScheduled, NextFindsStopped, NextIsReady, RunsHaveOneHistory};
 ghost use Rattle.nv_top.specs.Readings.{OneNumber, OneReading, OneRecoveryReading};
 
 use nv_header::a_header_has_one_answer;
@@ -16,19 +16,21 @@ pub fn report_has_one_reading()
 
 /// A second command may follow on the same bench, whatever the first one was: where that ended with status 0, and the bench tells,
 /// all that [`nv_main`](crate::nv_main) asks of a bench follows from its clauses `back`, `counts` and `report`, but that it was armed
-/// less than 2^63 - 1 times before. A run behind a run begins with the region that the first one left, at the number behind the last
-/// that its calls drew; one behind a run that was stopped with the sizes of that, at the number behind the log that power left; and one
+/// less than 2^63 times so far. A run behind a run begins with the region that the first one left, at the number behind the last
+/// that its calls drew; one behind a run that was stopped, or a schedule, with the sizes of that, at the number behind the log that power left; and one
 /// behind a recovery with the region's sizes, at the next number that the recovery shows.
 ///
-/// A command behind a run, stopped or not, or behind a recovery finds the files that this one showed, under their names: a recovery and
+/// A command behind a run, stopped or not, a schedule or a recovery finds the files that this one showed, under their names: a recovery and
 /// a look show them, and a run begins with them. So two runs, one behind the other, have one history.
 pub fn a_next_command_may_follow()
     ensures ready { NextIsReady }
     ensures begins { NextBeginsBehind }
     ensures begins_behind_stop { NextBeginsBehindStop }
+    ensures begins_behind_schedule { NextBeginsBehindSchedule }
     ensures begins_behind_recovery { NextBeginsBehindRecovery }
     ensures finds_run { NextFindsRun }
     ensures finds_stopped { NextFindsStopped }
+    ensures finds_scheduled { NextFindsScheduled }
     ensures finds_recovered { NextFindsRecovered }
     ensures finds_looked { NextFindsLooked }
     ensures one_history { RunsHaveOneHistory }

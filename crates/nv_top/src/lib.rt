@@ -15,6 +15,7 @@ mod program;
 mod recovery;
 mod region_text;
 mod run;
+mod scheduling;
 mod show;
 mod stopping;
 mod summary;
@@ -23,7 +24,8 @@ mod words;
 
 pub use command::nv_main;
 pub use ending::{
-    BAD_INPUT, BAD_REGION, DEVICE_FAULT, DONE, NO_MEMORY, READ_FAULT, USAGE, WRITE_FAULT, say,
+    BAD_INPUT, BAD_REGION, DEVICE_FAULT, DONE, NO_MEMORY, READ_FAULT, TURNS_USED, USAGE,
+    WRITE_FAULT, say,
 };
 pub use laws::{a_next_command_may_follow, a_refused_region_shows_nothing, report_has_one_reading};
 pub use nv_runner::{Gate, OpenGate, Point};

@@ -1,7 +1,7 @@
-//! What became of the writes that were left open.
+//! What became of the calls that were left open.
 use nv_trace::{Fate, TracedCall};
 
-/// A write of the trace that was left open, and what the recovery after it made of it.
+/// A call of the trace that was left open, and what the recovery after it made of it.
 #[derive(Drop)]
 pub(crate) struct Fated<'a> {
     pub(crate) call: &'a TracedCall,

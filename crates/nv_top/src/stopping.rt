@@ -1,5 +1,5 @@
 //! A run that power ends, and its recovery.
-ghost use Rattle.std.specs.Prelude.{◌≡◌, ◌⊎◌, ◌+◌, ◌-◌, ◌^◌, ◌<◌, ◌≤◌, [], List, true, false, length, map, sum_by, All, None, Some, Err, IfOk, IfSome, OnOk};
+ghost use Rattle.std.specs.Prelude.{◌≡◌, ◌≢◌, ◌⊎◌, ◌+◌, ◌-◌, ◌^◌, ◌<◌, ◌≤◌, [], List, true, false, length, map, sum_by, All, None, Some, Err, IfOk, IfSome, OnOk};
 ghost use Rattle.std.specs.List.Sorted.{IsStrictlyIncreasing};
 ghost use Rattle.nv_plain.specs.Faults.{Rose, saturated};
 ghost use Rattle.nv_plain.specs.Layouts.{version_1};
@@ -20,17 +20,15 @@ ghost use Rattle.nv_trace.specs.Shape.{IsWellFormed};
 ghost use Rattle.nv_trace.specs.Traced.{lines_in};
 ghost use Rattle.nv_runner.specs.Faithful.{Basis};
 ghost use Rattle.nv_runner.specs.declared.running.TheConstants.{MOST_CALLS};
-ghost use Rattle.nv_top.specs.Fates.{fated_report};
 ghost use Rattle.nv_top.specs.Lives.{HasLived};
-ghost use Rattle.nv_top.specs.Reports.{report_text};
 ghost use Rattle.nv_top.specs.Runs.{BeginsMount, basis_over};
-ghost use Rattle.nv_top.specs.Stopping.{HasStoppedOn, IsAway, IsBack, IsBackUnarmed, IsPickedOnce, IsPoweredBack, IsSettledStop, ShowsRecovered};
+ghost use Rattle.nv_top.specs.Stopping.{HasStoppedOn, IsAway, IsBack, IsBackUnarmed, IsPickedOnce, IsPoweredBack, IsSettledStop, ShowsOpen, ShowsRecovered};
 ghost use Rattle.nv_top.specs.Stops.{CountHasCause};
 ghost use Rattle.nv_top.specs.Words.{AreInLimits};
 ghost use Rattle.nv_top.specs.declared.ending.Stop.TheVariants as stops;
 
 use crate::ending::Stop;
-use crate::fates::fates;
+use crate::fates::open_fates;
 use crate::files::read_files;
 use crate::mounting::{Unmounted, mount_over};
 use crate::text::text_of;
@@ -47,7 +45,7 @@ use nv_runner::{
 };
 use nv_store::Backing;
 use nv_table::Pass;
-use nv_trace::Trace;
+use nv_trace::{Trace, TracedCall};
 use std::alloc::Global;
 use std::sync::Wait;
 use std::thread::Threads;
@@ -80,6 +78,7 @@ pub(crate) fn run_to_stop<R: Threads + Wait + Sync, T: Bench, G: Gate + Sync>(
     ensures back { IsPoweredBack k (T.state bench.old) (T.state bench.new) ⊎ IsBackUnarmed (T.state bench.old) (T.state bench.new) }
     ensures picked { IsPickedOnce options.image (T.state bench.old) (T.state bench.new) }
     ensures armed { OnOk result (IsPoweredBack k (T.state bench.old) (T.state bench.new)) }
+    ensures turns { result ≢ Err stops.Turns }
     ensures settled { (T.state bench.new).arms ≡ (T.state bench.old).arms + 1
         → IsSettledStop (T.state bench.new).settled (T.state bench.new).faults result }
     ensures cause { (T.state bench.new).arms ≡ (T.state bench.old).arms → CountHasCause (saturated ((T.state bench.old).faults
@@ -152,6 +151,7 @@ fn stop_mount<R: Threads + Wait + Sync, T: Bench, G: Gate + Sync>(
     requires few { length trace.now.calls ≤ MOST_CALLS }
     ensures back { IsPoweredBack k (T.state bench.old) (T.state bench.new) }
     ensures picked { IsPickedOnce plan.image (T.state bench.old) (T.state bench.new) }
+    ensures turns { result ≢ Err stops.Turns }
     ensures settled { IsSettledStop (T.state bench.new).settled (T.state bench.new).faults result }
     ensures never { (why : _) → result ≡ Err (stops.Region why) → (basis : Basis) → BeginsMount basis trace.now mount pass
         → basis.names ≡ (T.state bench.old).lent → (T.state bench.old).told ≡ None }
@@ -180,20 +180,21 @@ fn stop_mount<R: Threads + Wait + Sync, T: Bench, G: Gate + Sync>(
     bench.power(plan.image)?;
     // It is given up for want of memory alone: what its devices refuse is in its report.
     let sorted = ended.outcome?;
-    show_recovered(alloc, bench, sorted)
+    show_recovered(alloc, bench, sorted, &[])
 }
 
-// Recovers the region of a bench, shows what became of the calls of a run, and the files, and gives all back.
-fn show_recovered<T: Bench>(
+/// Recovers the region of a bench, shows what became of the calls of a run, and the files, and gives all back. Beside those that were sorted out some calls were begun, and drew no number.
+pub(crate) fn show_recovered<T: Bench>(
     alloc: Global,
     bench: &mut T,
     sorted: SortedCalls<'_>,
+    begun: &[&TracedCall],
 ) -> Result<Vec<u8>, Stop>
     requires closed { (T.state bench.old).is_open ≡ false }
     requires home { (T.state bench.old).lent ≡ [] }
     requires quiet { IfSome (T.state bench.old).told IsQuietHolding }
     ensures back { IsBack (T.state bench.old) (T.state bench.new) }
-    ensures shown { IfOk result (λ text. IfSome (T.state bench.old).told (λ holding. ShowsRecovered holding sorted.entry (T.state bench.new).told text.items)) }
+    ensures shown { IfOk result (λ text. IfSome (T.state bench.old).told (λ holding. ShowsRecovered holding sorted.entry (map (λ call. call.now) begun.now) (T.state bench.new).told text.items)) }
     ensures refused { (why : _) → result ≡ Err (stops.Region why) → IfSome (T.state bench.old).told (λ holding. IsRefusedFor holding.parts why) }
     ensures standing { IfSome (T.state bench.old).told (λ was. HasHeader was.parts → TellsOf (StandsAsBefore was) (T.state bench.new).told) }
     ensures cause { CountHasCause (T.state bench.old).faults (T.state bench.new).faults result }
@@ -203,7 +204,7 @@ fn show_recovered<T: Bench>(
     let (opened, found) = recover_region(alloc, bench)?;
     let Opened { region, stores } = opened;
     let mut stores = stores;
-    let report = show_fates(alloc, sorted, region.names(), &found, &mut stores);
+    let report = show_fates(alloc, sorted, begun, region.names(), &found, &mut stores);
     bench.give_back(region.into_parts(), stores);
     report
 }
@@ -212,19 +213,20 @@ fn show_recovered<T: Bench>(
 fn show_fates<B: Backing>(
     alloc: Global,
     sorted: SortedCalls<'_>,
+    begun: &[&TracedCall],
     names: &Names,
     found: &Recovered,
     stores: &mut Vec<B>,
 ) -> Result<Vec<u8>, Stop>
     requires { length stores.old.items ≡ length names.now }
     ensures text { IfOk result (λ text. (now : List Store) → AreNow (map B.history stores.old.items) now
-        → text.items ≡ report_text (fated_report sorted.entry found.now names.now (files_of now))) }
+        → ShowsOpen sorted.entry (map (λ call. call.now) begun.now) found.now names.now (files_of now) text.items) }
     ensures histories { map B.history stores.new.items ≡ map B.history stores.old.items }
     ensures never { (why : _) → ¬ (result ≡ Err (stops.Region why)) }
     ensures cause { CountHasCause (sum_by B.fault_count stores.old.items) (sum_by B.fault_count stores.new.items) result }
 {
     let files = read_files(alloc, stores)?;
-    let fated = fates(alloc, &sorted.open_calls, found)?;
+    let fated = open_fates(alloc, &sorted.open_calls, begun, found)?;
     let shown = show_refusals(alloc, sorted.refused)?;
     let text = text_of(
         alloc,

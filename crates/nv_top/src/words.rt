@@ -1,8 +1,8 @@
 //! The words behind a program's name.
-ghost use Rattle.std.specs.Prelude.{◌≡◌, ◌≢◌, ◌&&◌, false, nat_le, [], ◌∷◌, Some, None, Err, IfOk, codes, map, string_bytes, option_map, if◌then◌else◌};
+ghost use Rattle.std.specs.Prelude.{◌≡◌, ◌≢◌, ◌&&◌, true, false, nat_le, [], ◌∷◌, Some, None, Err, IfOk, codes, map, string_bytes, option_map, if◌then◌else◌};
 ghost use Rattle.std.specs.List.{list_any};
-ghost use Rattle.clap.specs.Words.{app_of, fault_of, first_of, found_of, rows_of, matches_of as rows_in, rule_of, with_rule};
-ghost use Rattle.nv_top.specs.Words.{command_of, image_in, is_dashes, look_in, load_in, noworker_rule, number_in, number_or, option_rule, options_in, page_of_words, run_app, run_in, stop_in, worker_in};
+ghost use Rattle.clap.specs.Words.{app_of, fault_of, first_of, found_of, is_simple_and_free, rows_of, matches_of as rows_in, rule_of, with_rule};
+ghost use Rattle.nv_top.specs.Words.{command_of, image_in, is_dashes, look_in, load_in, noworker_rule, number_in, number_or, option_rule, options_behind, options_in, page_of_words, run_app, run_in, sched_app, sched_in, stop_in, worker_in};
 ghost use Rattle.nv_top.specs.declared.words.WordsError.TheVariants.{Usage, NoMemory as NoRoom};
 
 use clap::error::ErrorKind;
@@ -19,6 +19,8 @@ const LARGEST: u64 = 4_294_967_295;
 pub enum Command {
     /// A run of a trace.
     Run(RunOptions),
+    /// A schedule of a trace. Its words say neither `worker` nor `stop`.
+    Sched(RunOptions),
     /// A recovery.
     Recover,
     /// A look at the region, and at the files that a recovery would leave.
@@ -63,7 +65,7 @@ impl From<AllocError> for WordsError {
     }
 }
 
-/// The command that words are: `recover` alone, `run` or `look` with its options, or `gen` with its load.
+/// The command that words are: `recover` alone, `run`, `sched` or `look` with its options, or `gen` with its load.
 #[tactic(auto, unfolding(crate::specs::Words::command_of))]
 pub(crate) fn parse_command(alloc: Global, words: &[String]) -> Result<Command, WordsError>
     ensures command { IfOk result (λ command. command_of (map string_bytes words.now) ≡ Some command) }
@@ -71,6 +73,7 @@ pub(crate) fn parse_command(alloc: Global, words: &[String]) -> Result<Command, 
 {
     match words {
         [first, ..] if first.as_str() == "run" => parse_run(alloc, words),
+        [first, ..] if first.as_str() == "sched" => parse_sched(alloc, words),
         [only] if only.as_str() == "recover" => Ok(Command::Recover),
         [first, options @ ..] if first.as_str() == "look" => parse_look(options),
         [first, load @ ..] if first.as_str() == "gen" => parse_load(load),
@@ -78,20 +81,39 @@ pub(crate) fn parse_command(alloc: Global, words: &[String]) -> Result<Command, 
     }
 }
 
-// The run that these words ask for, of which the first is `run`. `clap` takes what stands behind `--` for no option, so that word is
-// refused before.
+// The run that these words ask for, of which the first is `run`.
+#[tactic(auto, using(crate::proofs::WordLemmas::run_is_free))]
 fn parse_run(alloc: Global, words: &[String]) -> Result<Command, WordsError>
     ensures command { IfOk result (λ command. run_in (map string_bytes words.now) ≡ Some command) }
     ensures usage { result ≡ Err Usage → run_in (map string_bytes words.now) ≡ None }
 {
+    let parser = run_parser(alloc)?;
+    let options = parse_options(parser, words)?;
+    Ok(Command::Run(options))
+}
+
+// The schedule that these words ask for, of which the first is `sched`.
+#[tactic(auto, using(crate::proofs::WordLemmas::sched_is_free))]
+fn parse_sched(alloc: Global, words: &[String]) -> Result<Command, WordsError>
+    ensures command { IfOk result (λ command. sched_in (map string_bytes words.now) ≡ Some command) }
+    ensures usage { result ≡ Err Usage → sched_in (map string_bytes words.now) ≡ None }
+{
+    let parser = sched_parser(alloc)?;
+    let options = parse_options(parser, words)?;
+    Ok(Command::Sched(options))
+}
+
+// The options behind a command's word. `clap` takes what stands behind `--` for no option, so that word is refused before.
+fn parse_options<'a>(parser: Parser<'a>, words: &'a [String]) -> Result<RunOptions, WordsError>
+    requires { is_simple_and_free (app_of parser) ≡ true }
+    ensures options { IfOk result (λ options. options_behind (app_of parser.entry) (map string_bytes words.now) ≡ Some options) }
+    ensures usage { result ≡ Err Usage → options_behind (app_of parser.entry) (map string_bytes words.now) ≡ None }
+{
     if has_dashes(words) {
         return Err(WordsError::Usage);
     }
-    let matches = parse_words(alloc, words)?;
-    match options_of(&matches) {
-        Some(options) => Ok(Command::Run(options)),
-        None => Err(WordsError::Usage),
-    }
+    let matches = parse_words(parser, words)?;
+    options_of(&matches).ok_or(WordsError::Usage)
 }
 
 // The look that these words ask for: `--files` alone, or no word.
@@ -139,14 +161,14 @@ fn has_dashes(words: &[String]) -> bool
     words.iter().any(|word| word.as_str() == "--")
 }
 
-// What `clap` makes of the words of a run.
-#[tactic(auto, using(crate::proofs::WordLemmas::run_is_simple, crate::proofs::WordLemmas::run_is_free))]
-fn parse_words<'a>(alloc: Global, words: &'a [String]) -> Result<ArgMatches<'a>, WordsError>
-    ensures taken { IfOk result (λ matches. (rows_of (found_of matches) ≡ rows_in run_app (map string_bytes words.now))
-        × (fault_of run_app (map string_bytes words.now) ≡ [])) }
-    ensures refused { result ≡ Err Usage → fault_of run_app (map string_bytes words.now) ≢ [] }
+// What `clap` makes of words.
+#[tactic(auto, using(crate::proofs::WordLemmas::free_is_simple))]
+fn parse_words<'a>(parser: Parser<'a>, words: &'a [String]) -> Result<ArgMatches<'a>, WordsError>
+    requires { is_simple_and_free (app_of parser) ≡ true }
+    ensures taken { IfOk result (λ matches. (rows_of (found_of matches) ≡ rows_in (app_of parser.entry) (map string_bytes words.now))
+        × (fault_of (app_of parser.entry) (map string_bytes words.now) ≡ [])) }
+    ensures refused { result ≡ Err Usage → fault_of (app_of parser.entry) (map string_bytes words.now) ≢ [] }
 {
-    let parser = run_parser(alloc)?;
     match parser.try_get_matches_from(words) {
         Ok(matches) => Ok(matches),
         Err(error) if error.kind() == ErrorKind::OutOfMemory => Err(WordsError::NoMemory),
@@ -165,6 +187,20 @@ fn run_parser<'a>(alloc: Global) -> Result<Parser<'a>, AllocError>
     let parser = with_option(alloc, parser, "batch")?;
     let parser = with_option(alloc, parser, "pages")?;
     let parser = with_option(alloc, parser, "stop")?;
+    let parser = with_option(alloc, parser, "image")?;
+    Ok(parser.disable_help_flag(true))
+}
+
+// Those of a schedule.
+fn sched_parser<'a>(alloc: Global) -> Result<Parser<'a>, AllocError>
+    ensures { IfOk result (λ parser. app_of parser ≡ sched_app) }
+{
+    let parser = Parser::new(alloc, "sched");
+    let parser = with_option(alloc, parser, "page")?;
+    let parser = with_option(alloc, parser, "entries")?;
+    let parser = with_option(alloc, parser, "cache")?;
+    let parser = with_option(alloc, parser, "batch")?;
+    let parser = with_option(alloc, parser, "pages")?;
     let parser = with_option(alloc, parser, "image")?;
     Ok(parser.disable_help_flag(true))
 }

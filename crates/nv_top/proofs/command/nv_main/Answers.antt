@@ -1,4 +1,4 @@
-use Rattle.std.proofs.Common.{◌≡◌, ℕ, List, inl, inr}
+use Rattle.std.proofs.Common.{◌≡◌, ℕ, List, Err, inl, inr, ap}
 use Rattle.nv_trace.specs.Streams.{Appends}
 use Rattle.nv_top.specs.Endings.{AppendsFront}
 use Rattle.nv_top.specs.declared.ending.TheConstants.{DONE, WRITE_FAULT}
@@ -7,8 +7,8 @@ use Rattle.nv_open.specs.declared.error.Refusal.{Refusal}
 use Rattle.nv_top.specs.Headline.{HasRefusal, IsShown}
 use Rattle.nv_top.specs.Stops.{TakesMemory}
 use Rattle.nv_top.proofs.CommandLemmas.{if_told, told_at}
-use Rattle.nv_top.proofs.StopLemmas.{said_before}
-use Rattle.nv_top.proofs.CompleteLemmas.{said_memory}
+use Rattle.nv_top.proofs.StopLemmas.{never_done, said_before, said_turns}
+use Rattle.nv_top.proofs.CompleteLemmas.{said_own}
 use Rattle.nv_top.proofs.command.nv_main.Goals as goal
 
 pub returns-in-Ok-clause-write_said : goal.returns-in-Ok-clause-write_said
@@ -48,4 +48,17 @@ pub returns-in-Err-clause-complete : goal.returns-in-Err-clause-complete
 returns-in-Err-clause-complete g c command over =
     let old = g.B.Bench.state c.args.bench.now in
     if_told old.told (λ holding. _) (λ holding told free sink.
-    inr (said_memory c.say_stop.result c.in-Err.stop c.say_stop.ensures.status (told_at old.told _ holding told (c.in-Err.ensures.complete command over) free) (λ fault. sink (c.say_stop.ensures.fault fault))))
+    inr (said_own c.say_stop.result c.in-Err.stop c.say_stop.ensures.status (told_at old.told _ holding told (c.in-Err.ensures.complete command over) free) (λ fault. sink (c.say_stop.ensures.fault fault))))
+
+pub returns-in-Err-clause-turns : goal.returns-in-Err-clause-turns
+returns-in-Err-clause-turns g c is =
+    c.in-Err.ensures.turns (ap Err (said_turns c.say_stop.result c.in-Err.stop (TakesMemory c.in-Err.stop) c.say_stop.ensures.status is))
+
+pub returns-in-Ok-clause-good_schedule : goal.returns-in-Ok-clause-good_schedule
+returns-in-Ok-clause-good_schedule g c options over is = c.in-Ok.ensures.good_schedule options over tt
+
+pub returns-in-Err-clause-good_schedule : goal.returns-in-Err-clause-good_schedule
+returns-in-Err-clause-good_schedule g c options over is = elim is [
+  | inl done ↦ absurd (never_done c.say_stop.result c.in-Err.stop (TakesMemory c.in-Err.stop) c.say_stop.ensures.status done)
+  | inr turns ↦ c.in-Err.ensures.good_schedule options over (said_turns c.say_stop.result c.in-Err.stop (TakesMemory c.in-Err.stop) c.say_stop.ensures.status turns)
+]

@@ -2,11 +2,12 @@ use Rattle.std.proofs.Common.{◌∙◌, Err, Some, map, sym, subst, ap}
 use Rattle.std.specs.Prelude.{IfSome, string_bytes}
 use Rattle.nv_top.specs.Headline.{IsCommandRefused}
 use Rattle.nv_top.specs.declared.words.Command.{Command}
-use Rattle.nv_top.proofs.HeadlineLemmas.{load_limits, load_refused, recovery_refused, run_limits, same_some, stop_possible}
+use Rattle.nv_top.proofs.HeadlineLemmas.{load_limits, load_refused, recovery_refused, run_limits, same_some, schedule_limits, stop_possible}
 use Rattle.std.proofs.Common.{◌≡◌, ◌≤◌, arith}
 use Rattle.nv_bench.specs.Benches.{BenchState}
 use Rattle.nv_top.specs.declared.words.Command.TheVariants.{Recover, Look, Gen}
 use Rattle.nv_top.specs.Lives.{LeavesLife}
+use Rattle.nv_top.specs.Stops.{IsOwnStop}
 use Rattle.nv_top.proofs.CommandLemmas.{if_told}
 use Rattle.nv_top.proofs.LifeLemmas.{life_unread}
 use Rattle.nv_plain.specs.Faults.{Rose}
@@ -112,7 +113,7 @@ returns-in-Run-clause-complete g c command over =
     let new = g.B.Bench.state c.run_input.new.bench in
     let left = g.I.Source.left c.args.src.now in
     let With : Command → Type 0 = λ command. IfSome old.told (λ holding. IsUnhindered command left holding (Rose (g.I.Source.fault_count c.args.src.now) (g.I.Source.fault_count c.run_input.new.src)) (Rose (expected_faults old new) new.faults)
-    → IfErr c.run_input.result (λ stop. stop ≡ stops.NoMemory)) in
+    → IfErr c.run_input.result IsOwnStop) in
     subst With (same_some (sym (c.in_ok-command.ensures.command ∙ ap Some c.in-Run.is) ∙ over)) c.run_input.ensures.complete
 
 pub returns-in-Recover-clause-complete : goal.returns-in-Recover-clause-complete
@@ -122,7 +123,7 @@ returns-in-Recover-clause-complete g c command over =
     let left = g.I.Source.left c.args.src.now in
     let Read = Rose (g.I.Source.fault_count c.args.src.now) (g.I.Source.fault_count c.args.src.now) in
     let Failed = Rose (expected_faults old new) new.faults in
-    let With : Command → Type 0 = λ command. IfSome old.told (λ holding. IsUnhindered command left holding Read Failed → IfErr c.recover.result (λ stop. stop ≡ stops.NoMemory)) in
+    let With : Command → Type 0 = λ command. IfSome old.told (λ holding. IsUnhindered command left holding Read Failed → IfErr c.recover.result IsOwnStop) in
     let same : new.settled ≡ old.settled = ap (λ (state : BenchState). state.settled) c.recover.ensures.back in
     let low : new.settled ≤ old.faults = (let before = c.requires.settled in omega (arith, same, before)) in
     subst With (same_some (sym (c.in_ok-command.ensures.command ∙ ap Some c.in-Recover.is) ∙ over))
@@ -143,7 +144,7 @@ returns-in-Look-clause-complete g c command over =
     let left = g.I.Source.left c.args.src.now in
     let Read = Rose (g.I.Source.fault_count c.args.src.now) (g.I.Source.fault_count c.args.src.now) in
     let Failed = Rose (expected_faults old new) new.faults in
-    let With : Command → Type 0 = λ command. IfSome old.told (λ holding. IsUnhindered command left holding Read Failed → IfErr c.look.result (λ stop. stop ≡ stops.NoMemory)) in
+    let With : Command → Type 0 = λ command. IfSome old.told (λ holding. IsUnhindered command left holding Read Failed → IfErr c.look.result IsOwnStop) in
     let same : new.settled ≡ old.settled = look_settled c.in-Look.files old new c.look.ensures.left in
     let low : new.settled ≤ old.faults = (let before = c.requires.settled in omega (arith, same, before)) in
     subst With (same_some (sym (c.in_ok-command.ensures.command ∙ ap Some c.in-Look.is) ∙ over))
@@ -178,7 +179,7 @@ returns-in-Gen-clause-complete g c command over =
     let left = g.I.Source.left c.args.src.now in
     let Read = Rose (g.I.Source.fault_count c.args.src.now) (g.I.Source.fault_count c.args.src.now) in
     let Failed = Rose (expected_faults old new) new.faults in
-    let With : Command → Type 0 = λ command. IfSome old.told (λ holding. IsUnhindered command left holding Read Failed → IfErr c.run_load.result (λ stop. stop ≡ stops.NoMemory)) in
+    let With : Command → Type 0 = λ command. IfSome old.told (λ holding. IsUnhindered command left holding Read Failed → IfErr c.run_load.result IsOwnStop) in
     let same : new.settled ≡ old.settled = ap (λ (state : BenchState). state.settled) c.run_load.ensures.back in
     let low : new.settled ≤ old.faults = (let before = c.requires.settled in omega (arith, same, before)) in
     subst With (same_some (sym (c.in_ok-command.ensures.command ∙ ap Some c.in-Gen.is) ∙ over))
@@ -200,3 +201,36 @@ returns-in-Look-clause-never_falls g c = count_grows (g.B.Bench.state c.args.ben
 
 pub returns-in-Gen-clause-never_falls : goal.returns-in-Gen-clause-never_falls
 returns-in-Gen-clause-never_falls g c = count_grows (g.B.Bench.state c.args.bench.now).faults (g.B.Bench.state c.run_load.new.bench).faults c.run_load.result c.run_load.ensures.cause
+
+pub schedule_input-requires-clause-limits : goal.schedule_input-requires-clause-limits
+schedule_input-requires-clause-limits g c κs within =
+    (schedule_limits g.B.Bench.can_lose_power (map string_bytes c.args.words.now) c.in-Sched.options (c.in_ok-command.ensures.command ∙ ap Some c.in-Sched.is)).0
+
+pub schedule_input-requires-clause-images : goal.schedule_input-requires-clause-images
+schedule_input-requires-clause-images g c κs within =
+    (schedule_limits g.B.Bench.can_lose_power (map string_bytes c.args.words.now) c.in-Sched.options (c.in_ok-command.ensures.command ∙ ap Some c.in-Sched.is)).1
+
+pub returns-in-Sched-clause-region : goal.returns-in-Sched-clause-region
+returns-in-Sched-clause-region g c why is command over =
+    let old = g.B.Bench.state c.args.bench.now in
+    let new = g.B.Bench.state c.schedule_input.new.bench in
+    let left = g.I.Source.left c.args.src.now in
+    let With : Command → Type 0 = λ command. IfSome old.told (λ holding. IsCommandRefused command left old new holding why) in
+    subst With (same_some (sym (c.in_ok-command.ensures.command ∙ ap Some c.in-Sched.is) ∙ over)) (c.schedule_input.ensures.region why is)
+
+pub returns-in-Sched-clause-life : goal.returns-in-Sched-clause-life
+returns-in-Sched-clause-life g c command over =
+    let old = g.B.Bench.state c.args.bench.now in
+    let new = g.B.Bench.state c.schedule_input.new.bench in
+    let left = g.I.Source.left c.args.src.now in
+    let With : Command → Type 0 = λ command. IfSome old.told (λ was. LeavesLife command left was new.told) in
+    subst With (same_some (sym (c.in_ok-command.ensures.command ∙ ap Some c.in-Sched.is) ∙ over)) (if_told old.told (λ was. _) (λ was told. tt))
+
+pub returns-in-Sched-clause-complete : goal.returns-in-Sched-clause-complete
+returns-in-Sched-clause-complete g c command over =
+    let old = g.B.Bench.state c.args.bench.now in
+    let new = g.B.Bench.state c.schedule_input.new.bench in
+    let left = g.I.Source.left c.args.src.now in
+    let With : Command → Type 0 = λ command. IfSome old.told (λ holding. IsUnhindered command left holding (Rose (g.I.Source.fault_count c.args.src.now) (g.I.Source.fault_count c.schedule_input.new.src)) (Rose (expected_faults old new) new.faults)
+    → IfErr c.schedule_input.result IsOwnStop) in
+    subst With (same_some (sym (c.in_ok-command.ensures.command ∙ ap Some c.in-Sched.is) ∙ over)) c.schedule_input.ensures.complete

@@ -2,7 +2,8 @@ use Rattle.std.specs.Prelude.{IfSome}
 use Rattle.std.proofs.lemmas.Result.{IfOk-weaker}
 use Rattle.nv_top.specs.Headline.{IsShown, IsShownOf}
 use Rattle.nv_top.specs.declared.words.Command.TheVariants.{Run}
-use Rattle.nv_top.proofs.HeadlineLemmas.{both_told, refused_from, shown_from, unarmed_from}
+use Rattle.nv_top.proofs.HeadlineLemmas.{both_told, refused_from, shown_from, where_read}
+use Rattle.nv_trace.specs.declared.trace.Form.TheVariants as forms
 use Rattle.std.proofs.Common.{◌≡◌, ◌∙◌, Err, ap, refl}
 use Rattle.nv_top.specs.declared.ending.Stop.TheVariants as stops
 use Rattle.nv_top.specs.Headline.{expected_faults}
@@ -17,7 +18,7 @@ returns-clause-region g c why is =
     let old = g.B.Bench.state c.args.bench.now in
     let new = g.B.Bench.state c.run_trace.new.bench in
     let trace = c.in_ok-trace.trace in
-    refused_from c.args.options (g.I.Source.left c.args.src.now) old new trace why c.in_ok-trace.ensures.whole
+    refused_from forms.Run c.args.options (g.I.Source.left c.args.src.now) old new trace why c.in_ok-trace.ensures.whole
     (both_told c.args.options old new trace.names why (c.run_trace.ensures.refused why is) (c.run_trace.ensures.unwritten why is) (λ same. c.run_trace.ensures.rests (is ∙ ap (λ why. Err (stops.Region why)) same)))
 
 pub returns-clause-report : goal.returns-clause-report
@@ -36,7 +37,7 @@ pub returns-clause-unarmed : goal.returns-clause-unarmed
 returns-clause-unarmed g c why is =
     let old = g.B.Bench.state c.args.bench.now in
     let new = g.B.Bench.state c.run_trace.new.bench in
-    unarmed_from (g.I.Source.left c.args.src.now) old new c.in_ok-trace.trace c.in_ok-trace.ensures.whole (c.run_trace.ensures.unarmed why is)
+    where_read forms.Run (g.I.Source.left c.args.src.now) c.in_ok-trace.trace (IfSome old.told (λ holding. new.arms ≡ old.arms)) c.in_ok-trace.ensures.whole (c.run_trace.ensures.unarmed why is)
 
 pub returns-in_err-trace-clause-life : goal.returns-in_err-trace-clause-life
 returns-in_err-trace-clause-life g c =
@@ -58,8 +59,8 @@ returns-clause-complete g c =
     let old = g.B.Bench.state c.args.bench.now in
     let new = g.B.Bench.state c.run_trace.new.bench in
     let left = g.I.Source.left c.args.src.now in
-    settled_done c.args.options left old new (Rose (g.I.Source.fault_count c.args.src.now) _) (expected_faults old new) new.faults c.run_trace.result c.run_trace.ensures.cause
-    (λ why is. refused_from c.args.options left old new c.in_ok-trace.trace why c.in_ok-trace.ensures.whole
+    settled_done (Run c.args.options) left old new (Rose (g.I.Source.fault_count c.args.src.now) _) (expected_faults old new) new.faults c.run_trace.result c.run_trace.ensures.cause
+    (λ why is. refused_from forms.Run c.args.options left old new c.in_ok-trace.trace why c.in_ok-trace.ensures.whole
     (both_told c.args.options old new c.in_ok-trace.trace.names why (c.run_trace.ensures.refused why is) (c.run_trace.ensures.unwritten why is) (λ same. c.run_trace.ensures.rests (is ∙ ap (λ why. Err (stops.Region why)) same))))
 
 pub returns-clause-counts : goal.returns-clause-counts

@@ -1,5 +1,5 @@
-use Rattle.nv_top.specs.Endings.{usage_line, long_line, read_line, device_line, memory_line}
-use Rattle.nv_top.proofs.EndingLemmas.{usage_is_error, long_is_error, read_is_error, device_is_error, memory_is_error}
+use Rattle.nv_top.specs.Endings.{usage_line, long_line, read_line, device_line, memory_line, turns_line}
+use Rattle.nv_top.proofs.EndingLemmas.{usage_is_error, long_is_error, read_is_error, device_is_error, memory_is_error, turns_is_error}
 use Rattle.nv_top.proofs.ending.say_stop.Goals as goal
 
 pub returns-in-Usage-clause-front : goal.returns-in-Usage-clause-front
@@ -28,3 +28,9 @@ returns-in-NoMemory-clause-front g c failed = (memory_line, memory_is_error, c.s
 
 pub returns-in-NoMemory-clause-said : goal.returns-in-NoMemory-clause-said
 returns-in-NoMemory-clause-said g c sound memory = rw c.in-NoMemory.is ((c.say-in-NoMemory.ensures.said sound).1)
+
+pub returns-in-Turns-clause-front : goal.returns-in-Turns-clause-front
+returns-in-Turns-clause-front g c failed = (turns_line, turns_is_error, c.say-in-Turns.ensures.front failed)
+
+pub returns-in-Turns-clause-said : goal.returns-in-Turns-clause-said
+returns-in-Turns-clause-said g c sound memory = rw c.in-Turns.is ((c.say-in-Turns.ensures.said sound).1)

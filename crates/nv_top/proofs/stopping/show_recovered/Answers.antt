@@ -6,9 +6,7 @@ use Rattle.nv_store.specs.Store.{Store}
 use Rattle.nv_recover.specs.Standing.{files_of}
 use Rattle.nv_recover.specs.Telling.{AllTell}
 use Rattle.nv_open.specs.Held.{HoldFiles, IsRecovered, files_named}
-use Rattle.nv_top.specs.Fates.{fated_report}
-use Rattle.nv_top.specs.Reports.{report_text}
-use Rattle.nv_top.specs.Stopping.{ShowsRecovered}
+use Rattle.nv_top.specs.Stopping.{ShowsOpen, ShowsRecovered}
 use Rattle.nv_top.proofs.StoppingLemmas.{at_some, if_some, shows}
 use Rattle.std.proofs.Common.{◌∙◌, ◌++◌, ◌<◌, All, length}
 use Rattle.std.proofs.lemmas.List.{length-map}
@@ -30,6 +28,7 @@ returns-clause-shown g c =
     let history = g.T.Part.Lines.history in
     let held = g.T.Store.Backing.history in
     let sorted = c.args.sorted in
+    let begun = map (λ call. call.now) c.args.begun.now in
     let found = c.in_ok-opened.found in
     let region = c.in_ok-opened.opened.region in
     let backing = c.in_ok-opened.opened.stores.items in
@@ -40,13 +39,13 @@ returns-clause-shown g c =
     let parts_now = c.into_parts.result.items in
     let same_parts : parts_now ≡ region.parts.items = ap (λ (parts : _). parts.items) c.into_parts.ensures.parts in
     IfOk-weaker c.show_fates-report.result
-    (λ text. (now : List Store) → AreNow (map held backing) now → text.items ≡ report_text (fated_report sorted found c.names.result.now (files_of now)))
-    (λ text. IfSome old.told (λ holding. ShowsRecovered holding sorted new_told text.items))
+    (λ text. (now : List Store) → AreNow (map held backing) now → ShowsOpen sorted begun found c.names.result.now (files_of now) text.items)
+    (λ text. IfSome old.told (λ holding. ShowsRecovered holding sorted begun new_told text.items))
     (λ text text_of.
-    if_some old.told (λ holding. ShowsRecovered holding sorted new_told text.items)
+    if_some old.told (λ holding. ShowsRecovered holding sorted begun new_told text.items)
     (λ holding told_is.
     let Told : List _ → Type 0 = λ parts. AllTell (map history parts) in
-    shows old lent new_told holding sorted text.items found region.geometry.page region.geometry.entries region.next region.names c.names.result.now (map history parts_now) (map held backing)
+    shows old lent new_told holding sorted begun text.items found region.geometry.page region.geometry.entries region.next region.names c.names.result.now (map history parts_now) (map held backing)
     told_is (at_some old.told IsQuietHolding holding told_is c.requires.quiet) c.requires.home opened.lent (sym c.names.ensures) text_of
     (at_some old.told (λ holding. IsRecovered holding.parts region.geometry.page region.geometry.entries region.names region.next found) holding told_is opened.recovered)
     (at_some old.told (λ holding. HoldFiles (map held backing) (files_named holding.parts region.names holding.stores)) holding told_is opened.files)

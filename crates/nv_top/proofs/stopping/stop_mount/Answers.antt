@@ -13,9 +13,9 @@ use Rattle.nv_runner.specs.EndedRuns.{HasOutcome}
 use Rattle.nv_runner.specs.Faithful.{Basis}
 use Rattle.nv_top.specs.Runs.{BeginsMount}
 use Rattle.nv_top.specs.Stopping.{HasStoppedOn, IsAway, ShowsRecovered}
-use Rattle.nv_top.proofs.StoppingLemmas.{HasRunToClose, at_some, count_grows, failed_same, given_home, has_stopped, home_with, if_some, left_behind, none_unless, quiet_after, rose_home}
+use Rattle.nv_top.proofs.StoppingLemmas.{HasRunToClose, at_some, closed_over, count_grows, failed_same, given_home, has_stopped, home_with, if_some, left_behind, none_unless, quiet_after, rose_home}
 use Rattle.nv_top.proofs.UnrefusedLemmas.{never_refused}
-use Rattle.std.specs.Prelude.{All, List}
+use Rattle.std.specs.Prelude.{All, List, []}
 use Rattle.nv_bench.specs.Holding.{named_stores}
 use Rattle.nv_bench.specs.Laws.{AreWholeStores}
 use Rattle.nv_core.specs.content.Content.{Opens}
@@ -69,7 +69,7 @@ returns-clause-ran g c =
     rose_home start.faults (failed_before pass) sums last.faults no_less (subst (λ count. Rose count sums) (failed_same pass zero out.run_out.mount out.run_out.spare) (by.stopped seen)) in
     let many : length held ≡ mount.board.opened.sizes.files = length-map came.stores.items g.T.Store.Backing.history ∙ ran.2.many_stores in
     IfOk-weaker c.show_recovered.result
-    (λ text. IfSome off.told (λ holding. ShowsRecovered holding sorted last.told text.items))
+    (λ text. IfSome off.told (λ holding. ShowsRecovered holding sorted [] last.told text.items))
     (λ text. (basis : Basis) → BeginsMount basis trace mount pass → basis.names ≡ start.lent
     → IfSome start.told (λ left. IsAway basis.names left → HasStoppedOn failed c.args.plan.worker c.args.plan.image start.picked basis trace last text.items))
     (λ text shown basis begins named.
@@ -86,14 +86,14 @@ returns-clause-ran g c =
     } in
     let allowed : AreFileNames version_1 basis.names = subst (λ names. AreFileNames version_1 names) (sym named) c.requires.names in
     let behind =
-    left_behind basis trace mount pass zero c.args.plan sorted _ _ parts held sums came.placed came.tail run c.power_leaves_an_image.ensures many allowed c.args.plan.image left home.told off.told
+    left_behind basis trace mount pass zero _ _ parts held sums came.placed came.tail (closed_over basis trace mount pass zero c.args.plan sorted _ _ parts held sums came.placed came.tail run) c.power_leaves_an_image.ensures many allowed c.args.plan.image left home.told off.told
     (λ now disks now_are disks_are. given_home c.args.k start (state c.arm.new.self) home.told left parts held c.give_back.ensures.told c.arm.ensures told_is now disks now_are disks_are
     ∙ ap (λ names. Some (home_with left names now disks)) (sym named))
     (ap (λ (s : BenchState). s.told) c.in_ok-power.ensures.off) (λ holding is. g.met.T.Bench.whole c.give_back.new.self holding is) away in
     has_stopped basis trace mount pass zero c.args.plan sorted _ _ parts held sums came.placed came.tail run
     c.runs_are_told.ensures c.history_of_threads_is_legal.ensures.legal c.history_of_threads_is_legal.ensures.files c.open_calls_are_the_faults.ensures.kept
     c.runs_are_faithful.ensures.faithful c.runs_are_faithful.ensures.numbers c.images_stand_for_files.ensures.files failed saw allowed last text.items behind.after
-    (at_some off.told (λ holding. ShowsRecovered holding sorted last.told text.items) behind.after behind.off_is shown)
+    (at_some off.told (λ holding. ShowsRecovered holding sorted [] last.told text.items) behind.after behind.off_is shown)
     (ap (λ (s : BenchState). s.left) c.show_recovered.ensures.back ∙ ap (λ (s : BenchState). s.left) c.in_ok-power.ensures.off
     ∙ ap (option_map (λ (holding : Holding). (powered c.args.plan.image holding).parts)) behind.given_is ∙ ap (λ (holding : Holding). Some holding.parts) (sym behind.after_is))
     start.picked
@@ -132,7 +132,7 @@ returns-clause-never g c why is basis begins named =
       out = out;
       closed = by;
     } in
-    never_refused basis trace mount pass zero c.args.plan sorted _ _ parts held sums came.placed came.tail run c.power_leaves_an_image.ensures c.images_stand_for_files.ensures.good
+    never_refused basis trace mount pass zero _ _ parts held sums came.placed came.tail (closed_over basis trace mount pass zero c.args.plan sorted _ _ parts held sums came.placed came.tail run) c.power_leaves_an_image.ensures c.images_stand_for_files.ensures.good
     c.a_header_has_one_answer.ensures.read c.rows_have_states.ensures.each (omega (arith, ran.2.many_parts, length-map came.parts.items g.T.Part.Lines.history)) many c.args.plan.image left home.told off.told
     (λ now disks now_are disks_are. given_home c.args.k start (state c.arm.new.self) home.told left parts held c.give_back.ensures.told c.arm.ensures told_is now disks now_are disks_are
     ∙ ap (λ names. Some (home_with left names now disks)) (sym named))

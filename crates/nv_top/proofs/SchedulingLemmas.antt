@@ -1,0 +1,188 @@
+-- A schedule that was followed, after power went off and the region was recovered: what its report shows.
+use Rattle.std.proofs.Common.{◌≡◌, ℕ, ◌+◌, ◌-◌, ◌^◌, ◌<◌, ◌≤◌, Bool, true, false, arith, max, length, List, [], ◌∷◌, ◌++◌, Option, Some, Result, Ok, Err, map, refl, sym, ap, subst, ◌∙◌}
+use Rattle.std.specs.Prelude.{IfSome, None, OnOk}
+use Rattle.std.specs.Result.{IsErrAnd}
+use Rattle.std.specs.List.Sorted.{IsStrictlyIncreasing}
+use Rattle.std.proofs.lemmas.List.{append-nil}
+use Rattle.nv_plain.specs.Files.{Files}
+use Rattle.nv_plain.specs.Images.{Image, header_of}
+use Rattle.nv_plain.specs.Layouts.{version_1}
+use Rattle.nv_pmem.specs.Rows.{row_words}
+use Rattle.nv_pmem.specs.Steps as lines
+use Rattle.nv_pmem.specs.declared.picker.Pick.{Pick}
+use Rattle.nv_store.specs.Steps as backing
+use Rattle.nv_bench.specs.Benches.{BenchState, armed_with}
+use Rattle.nv_bench.specs.Holding.{Holding}
+use Rattle.nv_open.specs.Held.{files_named, header_names}
+use Rattle.nv_open.specs.Lending.{stores_named}
+use Rattle.nv_open.specs.Refusals.{head_image}
+use Rattle.nv_recover.specs.Standing.{ReadableStandsForRecovered, files_of}
+use Rattle.nv_core.specs.state.Values.{Value}
+use Rattle.nv_table.specs.state.Opened.{Opened, mount_of}
+use Rattle.nv_table.specs.state.States.{PassState}
+use Rattle.nv_core.specs.steps.Opening.{IsMount}
+use Rattle.nv_header.specs.FileNames.{AreFileNames}
+use Rattle.nv_mount.specs.Mounts.{MountState}
+use Rattle.nv_mount.specs.RisenCounts.{SawStop}
+use Rattle.nv_mount.specs.WholeWrites.{LeavesWholeWrites}
+use Rattle.nv_trace.specs.Forms.{has_rounds}
+use Rattle.nv_trace.specs.Shape.{IsWellFormed}
+use Rattle.nv_trace.specs.Traced.{Traced, lines_in}
+use Rattle.nv_trace.specs.declared.token.Token.{Token}
+use Rattle.nv_trace.specs.declared.token.Token.TheVariants.{Advance}
+use Rattle.nv_trace.specs.declared.trace_call.TracedCall.{TracedCall}
+use Rattle.nv_runner.specs.Faithful.{Basis}
+use Rattle.nv_runner.specs.OpenRuns.{LeftOpenAreKept}
+use Rattle.nv_runner.specs.Told.{DescriptorsSayFiles}
+use Rattle.nv_schedule.specs.Begun.{SchedulesBegin}
+use Rattle.nv_schedule.specs.FaithfulSchedules.{SchedulesAreFaithful}
+use Rattle.nv_schedule.specs.SortedOut.{SchedulesAreLegal, SchedulesAreTold}
+use Rattle.nv_schedule.specs.Cuts.{CutTells, armed_by, cuts_of}
+use Rattle.nv_schedule.specs.Scheduled.{HasScheduled, HasTold}
+use Rattle.nv_schedule.specs.declared.schedule_error.ScheduleError.{ScheduleError}
+use Rattle.nv_schedule.specs.declared.schedule_error.ScheduleError.TheVariants.{Fault, NoMemory, TurnsUsed}
+use Rattle.nv_schedule.specs.declared.scheduled.ScheduledCalls.{ScheduledCalls}
+use Rattle.nv_top.specs.Outcomes.{shown_report}
+use Rattle.nv_top.specs.Reports.{report_text}
+use Rattle.nv_top.specs.Scheduling.{HasScheduledOn, IsArmedAt, IsArmedAtSome, ShowsOutcome}
+use Rattle.nv_top.specs.Stopping.{IsSettledStop, RestsWith, ShowsOpen, StopSettles, next_in}
+use Rattle.nv_top.specs.declared.ending.Stop.{Stop}
+use Rattle.nv_top.specs.declared.ending.Stop.TheVariants as stops
+use Rattle.nv_top.specs.declared.words.RunOptions.{RunOptions}
+use Rattle.nv_top.proofs.FollowedLemmas.{is_faithful, schedule_more}
+use Rattle.nv_top.proofs.NameLemmas.{names_plain}
+use Rattle.nv_top.proofs.StoppingLemmas.{HasClosedOver, each_allowed, names_read, still_opened}
+
+module _ (basis : Basis) (trace : Traced) (mount : MountState) (pass zero : PassState) (part_values store_values : List Value)
+    (parts : List lines.PartHistory) (held : List backing.StoreHistory) (faults placed tail : ℕ)
+    (over : HasClosedOver basis trace mount pass zero part_values store_values parts held faults placed tail)
+    (options : RunOptions) (lent armed : BenchState) (outcome : Result ScheduledCalls ScheduleError) (scheduled : HasScheduled mount trace.tokens trace.calls options.batch pass zero lent armed outcome)
+    (failed : Type 0) (saw : SawStop zero.view → failed) (allowed : AreFileNames version_1 basis.names)
+    (formed : IsWellFormed trace) (few : length trace.calls < 2 ^ 60) (rise : IsStrictlyIncreasing (lines_in trace)) (no_rounds : has_rounds trace.form ≡ false) (is_mount : IsMount (mount_of mount.board.opened))
+    (begin_so : SchedulesBegin) (told_so : SchedulesAreTold) (legal_so : SchedulesAreLegal) (faithful_so : SchedulesAreFaithful) (files_so : DescriptorsSayFiles) (kept_so : LeftOpenAreKept)
+    (stand_so : ReadableStandsForRecovered) (before : List Pick) (bench : BenchState) (text : List ℕ) (after_power : Holding) (shows_so : ShowsOutcome after_power outcome bench.told text)
+    (power_left : bench.left ≡ Some after_power.parts) (picked : bench.picked ≡ options.image ∷ before)
+    (left : LeavesWholeWrites zero.view basis.files basis.names (row_words after_power.parts) (files_of (stores_named basis.names after_power.stores))) where
+  abbrev image : Image
+  image = row_words after_power.parts
+
+  abbrev bytes : Files
+  bytes = files_of (stores_named basis.names after_power.stores)
+
+  abbrev begun : List TracedCall
+  begun = map (λ call. call.now) shows_so.calls.unanswered.items
+
+  names_so : header_names after_power.parts ≡ basis.names
+  names_so = names_read after_power.parts ∙ left.header.names_are
+
+  same_opened : zero.view.opened ≡ mount.board.opened
+  same_opened = still_opened basis trace mount pass zero part_values store_values parts held faults placed tail over
+
+  pub has_scheduled : HasScheduledOn failed options before basis trace bench text
+  has_scheduled =
+      let found = shows_so.shown.found in
+      let shown = shows_so.shown.shown in
+      let followed : HasScheduled mount trace.tokens trace.calls options.batch pass zero lent armed (Ok shows_so.calls) =
+      subst (λ outcome. HasScheduled mount trace.tokens trace.calls options.batch pass zero lent armed outcome) shows_so.is_ok scheduled in
+      let header = header_of (head_image after_power.parts) in
+      let files : List (List ℕ) → Files = λ names. files_named after_power.parts names after_power.stores in
+      let page_so : header.page ≡ basis.sizes.page = left.header.page_is ∙ ap (λ (o : Opened). o.sizes.page) same_opened ∙ sym over.begins.is_mount.page in
+      let entries_so : header.entries ≡ basis.sizes.entries = left.header.entries_is ∙ ap (λ (o : Opened). o.sizes.entries) same_opened ∙ sym over.begins.is_mount.entries in
+      record {
+        mount = mount;
+        start = pass;
+        begins = over.begins;
+        last = zero;
+        lent = lent;
+        armed = armed;
+        calls = shows_so.calls;
+        followed = followed;
+        sorted = shows_so.sorted;
+        sorted_out = shows_so.sorted_out;
+        report = shown_report shows_so.sorted shown.open_calls basis.names (files basis.names);
+        faithful = schedule_more (SawStop zero.view) failed basis trace (shown_report shows_so.sorted shown.open_calls basis.names (files basis.names)) saw
+            (is_faithful basis trace mount pass zero part_values store_values parts held faults placed tail over options.batch followed.told.0 shows_so.calls shows_so.sorted followed.told.1 followed.told.2 shows_so.sorted_out
+            formed few rise no_rounds is_mount begin_so told_so legal_so faithful_so files_so kept_so stand_so after_power left found shows_so.shown.log shown.open_calls shown.are_open);
+        plain = names_plain version_1.name_limit basis.names (files basis.names).contents (each_allowed basis.names allowed);
+        text_is = shown.text_is ∙ ap (λ names. report_text (shown_report shows_so.sorted shown.open_calls names (files names))) names_so;
+        picked = picked;
+        power = after_power;
+        power_left = power_left;
+        whole = left;
+        stands = stand_so version_1 version_1.header_lines image bytes left.header.readable;
+        found = found;
+        log = shows_so.shown.log;
+        shown = subst (λ names. ShowsOpen shows_so.sorted begun found names (files names) text) names_so shows_so.shown.shown;
+        rests = subst (λ page. RestsWith page basis.sizes.entries basis.names (next_in after_power.parts basis.files) (files basis.names) bench.told) page_so
+            (subst (λ entries. RestsWith header.page entries basis.names (next_in after_power.parts basis.files) (files basis.names) bench.told) entries_so
+            (subst (λ next. RestsWith header.page header.entries basis.names next (files basis.names) bench.told) (shows_so.shown.log.next basis.files)
+            (subst (λ names. RestsWith header.page header.entries names found.next (files names) bench.told) names_so shows_so.shown.left)));
+      }
+
+-- ---- what a bench was armed at
+
+module _ (mount : MountState) (tokens : List Token) (calls : List TracedCall) (batch : ℕ) (zero : PassState) (old armed : BenchState) where
+  -- whatever is answered, some first tokens were reached
+  pub armed_at_some : (outcome : Result ScheduledCalls ScheduleError) → HasTold mount tokens calls batch zero old armed outcome → IsArmedAtSome tokens old armed
+  armed_at_some (Ok told) is = (tokens, [], sym (append-nil tokens), (ap (λ (s : BenchState). s.arms) is.3, ap (λ (s : BenchState). s.armed) is.3))
+  armed_at_some (Err TurnsUsed) is =
+      (is.1.ran.before, Advance is.1.ran.turn is.1.ran.reach ∷ is.1.ran.after, is.1.ran.tokens_are, (ap (λ (s : BenchState). s.arms) is.2, ap (λ (s : BenchState). s.armed) is.2))
+  armed_at_some (Err Fault) is = ([], tokens, refl, (ap (λ (s : BenchState). s.arms) is.2, ap (λ (s : BenchState). s.armed) is.2))
+  armed_at_some (Err NoMemory) is = (is.reached, is.later, is.tokens_are, (ap (λ (s : BenchState). s.arms) is.cut, ap (λ (s : BenchState). s.armed) is.cut))
+
+  pub armed_at_all : (outcome : Result ScheduledCalls ScheduleError) → HasTold mount tokens calls batch zero old armed outcome → (calls : ScheduledCalls) → outcome ≡ Ok calls → IsArmedAt tokens old armed
+  armed_at_all (Ok told) is calls ok = (ap (λ (s : BenchState). s.arms) is.3, ap (λ (s : BenchState). s.armed) is.3)
+  armed_at_all (Err error) is calls ok = cc
+
+-- what is done of a bench that isn't armed again
+pub still_some : (tokens : List Token) (old mid new : BenchState) → IsArmedAtSome tokens old mid → new.arms ≡ mid.arms → new.armed ≡ mid.armed → IsArmedAtSome tokens old new
+still_some tokens old mid new is arms armed = (is.0, is.1, is.2, (arms ∙ is.3.0, armed ∙ is.3.1))
+
+pub still_all : (tokens : List Token) (old mid new : BenchState) → IsArmedAt tokens old mid → new.arms ≡ mid.arms → new.armed ≡ mid.armed → IsArmedAt tokens old new
+still_all tokens old mid new is arms armed = (arms ∙ is.0, armed ∙ is.1)
+
+-- one that was armed no more
+pub armed_none : (tokens : List Token) (old new : BenchState) → new.arms ≡ old.arms → new.armed ≡ old.armed → IsArmedAtSome tokens old new
+armed_none tokens old new arms armed = ([], tokens, refl, (arms, armed))
+
+same_arms : (numbers : List ℕ) (one other : BenchState) → one.arms ≡ other.arms → (armed_by numbers one).arms ≡ (armed_by numbers other).arms
+same_arms [] one other same = same
+same_arms (number ∷ later) one other same = same_arms later (armed_with number one) (armed_with number other) (ap (λ arms. arms + 1) same)
+
+same_armed : (numbers : List ℕ) (one other : BenchState) → one.armed ≡ other.armed → (armed_by numbers one).armed ≡ (armed_by numbers other).armed
+same_armed [] one other same = same
+same_armed (number ∷ later) one other same = same_armed later (armed_with number one) (armed_with number other) refl
+
+-- one that was lent since
+pub from_lent : (tokens : List Token) (old lent new : BenchState) → lent.arms ≡ old.arms → lent.armed ≡ old.armed → IsArmedAtSome tokens lent new → IsArmedAtSome tokens old new
+from_lent tokens old lent new arms armed is =
+    (is.0, is.1, is.2, (is.3.0 ∙ same_arms (cuts_of is.0) lent old arms, is.3.1 ∙ same_armed (cuts_of is.0) lent old armed))
+
+pub all_from_lent : (tokens : List Token) (old lent new : BenchState) → lent.arms ≡ old.arms → lent.armed ≡ old.armed → IsArmedAt tokens lent new → IsArmedAt tokens old new
+all_from_lent tokens old lent new arms armed is = (is.0 ∙ same_arms (cuts_of tokens) lent old arms, is.1 ∙ same_armed (cuts_of tokens) lent old armed)
+
+pub IfSome-weaker : {X : Type 0} (found : Option X) (P Q : X → Type 0) → ((x : X) → P x → Q x) → IfSome found P → IfSome found Q
+IfSome-weaker None P Q on holds = tt
+IfSome-weaker (Some x) P Q on holds = on x holds
+
+-- what holds anyway holds where a value is answered
+pub on_any : {T E P : Type 0} (result : Result T E) → P → OnOk result P
+on_any (Ok value) holds = holds
+on_any (Err error) holds = tt
+
+-- Behind a cut the count of faults may stand anywhere; where none was reached it is no higher than it was before.
+pub failed_cut : (cut : Bool) (start armed home : BenchState) (before : ℕ) → CutTells cut start armed → (cut ≡ false → home.faults ≤ before) → home.settled ≡ armed.settled → home.faults ≤ 2 ^ 64 - 1
+    → home.faults ≤ max before home.settled
+failed_cut false start armed home before tells low kept most = let least = low refl in omega (arith, least)
+failed_cut true start armed home before tells low kept most = omega (arith, most, kept, tells)
+
+-- what a schedule has come to is that of the trace whose tokens and calls were handed over
+pub of_trace : (mount : MountState) (trace : Traced) (batch : ℕ) (pass zero : PassState) (lent armed : BenchState) (outcome : Result ScheduledCalls ScheduleError) (tokens : List Token) (calls : List TracedCall)
+    → tokens ≡ trace.tokens → calls ≡ trace.calls → HasScheduled mount tokens calls batch pass zero lent armed outcome → HasScheduled mount trace.tokens trace.calls batch pass zero lent armed outcome
+of_trace mount trace batch pass zero lent armed outcome tokens calls same_tokens same_calls is =
+    subst (λ tokens. HasScheduled mount tokens trace.calls batch pass zero lent armed outcome) same_tokens (subst (λ calls. HasScheduled mount tokens calls batch pass zero lent armed outcome) same_calls is)
+
+-- where power can't go off for want of memory
+pub settled_memory : {T : Type 0} (result : Result T Stop) (settled now : ℕ) → IsErrAnd result (λ stop. stop ≡ stops.NoMemory) → now ≤ settled → IsSettledStop settled now result
+settled_memory (Ok value) settled now is low = absurd is
+settled_memory (Err stop) settled now is low = subst (StopSettles settled now) (sym is) low

@@ -1,0 +1,177 @@
+use Rattle.std.proofs.Common.{◌≡◌, ◌+◌, ◌<◌, ◌∙◌, sum_by, [], ℕ, List, All, Err, None, Some, length, map, refl, sym, ap, subst, arith}
+use Rattle.std.specs.Prelude.{IfSome}
+use Rattle.std.proofs.lemmas.Result.{IfOk-weaker, on_ok_weaker}
+use Rattle.nv_plain.specs.Faults.{Rose, saturated}
+use Rattle.nv_pmem.specs.Part.{Part}
+use Rattle.nv_pmem.specs.RowStates.{AreNow}
+use Rattle.nv_pmem.specs.declared.picker.Pick.{Pick}
+use Rattle.nv_store.specs.Store.{Store}
+use Rattle.nv_bench.specs.Benches.{BenchState}
+use Rattle.nv_bench.specs.Holding.{Holding, IsQuietHolding}
+use Rattle.nv_open.specs.Adding.{all_names}
+use Rattle.nv_open.specs.Lending.{without_stores}
+use Rattle.nv_open.specs.declared.error.OpenError.TheVariants.{Refused}
+use Rattle.nv_open.proofs.Homes.{all_away}
+use Rattle.nv_recover.specs.Standing.{files_of}
+use Rattle.nv_trace.specs.Said.{said_place}
+use Rattle.nv_top.specs.Commands.{IsBasis, IsNotRun, RestsNotRun}
+use Rattle.nv_top.specs.Headline.{HasFollowed, IsLeftNotRun}
+use Rattle.nv_top.specs.Runs.{basis_over}
+use Rattle.nv_top.specs.Scheduling.{HasScheduledOn}
+use Rattle.nv_top.specs.Stopping.{IsAway}
+use Rattle.nv_top.specs.Stops.{stop_of_opening}
+use Rattle.nv_top.specs.declared.ending.Stop.TheVariants.{Region}
+use Rattle.nv_top.proofs.CommandLemmas.{if_told, mid_told, told_at}
+use Rattle.nv_top.proofs.HeadlineLemmas.{home_distinct, quiet_left}
+use Rattle.nv_top.proofs.NameLemmas.{wanted_known}
+use Rattle.nv_top.proofs.RowLemmas.{present}
+use Rattle.nv_top.proofs.SchedulingLemmas.{all_from_lent, armed_none, from_lent}
+use Rattle.nv_top.proofs.StopLemmas.{err_has, opening_refused}
+use Rattle.nv_top.proofs.scheduling.schedule.Goals as goal
+
+-- a bench that tells isn't one that doesn't
+not_both : {holding : Holding} → Some holding ≡ None → ⊥
+not_both is = cc
+
+pub schedule_region-requires-clause-quiet : goal.schedule_region-requires-clause-quiet
+schedule_region-requires-clause-quiet g c κs within =
+    let old = g.T.Bench.state c.args.bench.now in
+    let With : BenchState → Type 0 = λ bench. IfSome bench.told IsQuietHolding in
+    subst With (sym c.in_ok-opened.ensures.lent) (quiet_left c.images_follow_calls.ensures.blank c.in_ok-opened.opened.region.names old.told c.requires.quiet)
+
+pub schedule_region-requires-clause-known : goal.schedule_region-requires-clause-known
+schedule_region-requires-clause-known g c κs within =
+    let known = c.in_ok-opened.ensures.known in
+    let Known : List (List ℕ) → Type 0 = λ names. All (λ name. said_place name names < length names) c.args.trace.now.names in
+    let wanted = c.in_ok-wanted.ensures ∙ c.names.ensures in
+    subst Known (sym (known.1 ∙ ap (all_names known.0) wanted)) (wanted_known known.0 c.args.trace.now.names)
+
+pub returns-clause-followed : goal.returns-clause-followed
+returns-clause-followed g c =
+    let history = g.T.Part.Lines.history in
+    let held = g.T.Store.Backing.history in
+    let old = g.T.Bench.state c.args.bench.now in
+    let mid = g.T.Bench.state c.open.new.bench in
+    let new = g.T.Bench.state c.schedule_region.new.bench in
+    let trace = c.args.trace.now in
+    let options = c.args.options in
+    let made = c.in_ok-opened.ensures in
+    let region = c.in_ok-opened.opened.region in
+    let backing = c.in_ok-opened.opened.stores.items in
+    let lent = saturated (mid.faults + (sum_by g.T.Part.Lines.fault_count region.parts.items + sum_by g.T.Store.Backing.fault_count backing)) in
+    IfOk-weaker c.schedule_region.result
+    (λ text. (parts : List Part) (now : List Store) → AreNow (map history region.parts.items) parts → AreNow (map held backing) now
+    → IfSome mid.told (λ left. IsAway region.names left → HasScheduledOn (Rose lent new.faults) options mid.picked (basis_over region options.pages (files_of now)) trace new text.items))
+    (λ text. IfSome old.told (λ holding. HasFollowed (Rose old.faults new.faults) options old.picked holding new trace text.items))
+    (λ text ran.
+    if_told old.told (λ holding. HasFollowed (Rose old.faults new.faults) options old.picked holding new trace text.items) (λ holding told.
+    let opened = told_at old.told _ holding told made.opened in
+    let parts = present (map history region.parts.items) (told_at old.told _ holding told made.tell) in
+    let basis = basis_over region options.pages (files_of opened.files.held) in
+    let left : Holding = record { parts = []; stores = without_stores region.names holding.stores } in
+    let Over : ℕ → List Pick → Type 0 = λ count before. HasScheduledOn (Rose count new.faults) options before basis trace new text.items in
+    let same : lent ≡ old.faults = omega (arith, made.counts) in
+    let With : List (List ℕ) → Type 0 = λ wanted. IsBasis options holding wanted basis in
+    record {
+      basis = basis;
+      begun = subst With (c.in_ok-wanted.ensures ∙ c.names.ensures) (record {
+        geometry = _;
+        page_is = refl;
+        entries_are = refl;
+        known = opened.known;
+        begun = opened.begun;
+        pages_are = refl;
+        names_are = opened.names_are;
+        files_are = opened.files.files_are;
+      });
+      scheduled = subst (λ before. Over old.faults before) (ap (λ (state : BenchState). state.picked) made.lent) (subst (λ count. Over count mid.picked) same
+          (told_at mid.told (λ left. IsAway region.names left → Over lent mid.picked) left (mid_told old mid region.names holding made.lent c.requires.home told)
+          (ran parts.states opened.files.held parts.are opened.files.are)
+          (all_away region.names holding.stores (home_distinct old holding (g.met.T.Bench.named c.args.bench.now) told c.requires.home))));
+    }))
+    c.schedule_region.ensures.scheduled
+
+pub returns-clause-refused : goal.returns-clause-refused
+returns-clause-refused g c why is =
+    let old = g.T.Bench.state c.args.bench.now in
+    let mid = g.T.Bench.state c.open.new.bench in
+    let new = g.T.Bench.state c.schedule_region.new.bench in
+    let made = c.in_ok-opened.ensures in
+    let region = c.in_ok-opened.opened.region in
+    let names = c.args.trace.now.names in
+    if_told old.told (λ holding. IsNotRun c.args.options holding names why × IsLeftNotRun c.args.options holding names old new why × (new.picked ≡ old.picked)) (λ holding told.
+    let opened = told_at old.told _ holding told made.opened in
+    let parts = present (map g.T.Part.Lines.history region.parts.items) (told_at old.told _ holding told made.tell) in
+    let some = mid_told old mid region.names holding made.lent c.requires.home told in
+    let none = c.schedule_region.ensures.never why is parts.states opened.files.held parts.are opened.files.are in
+    absurd (not_both (sym some ∙ none)))
+
+pub returns-clause-unarmed : goal.returns-clause-unarmed
+returns-clause-unarmed g c why is =
+    let old = g.T.Bench.state c.args.bench.now in
+    let mid = g.T.Bench.state c.open.new.bench in
+    let new = g.T.Bench.state c.schedule_region.new.bench in
+    let made = c.in_ok-opened.ensures in
+    let region = c.in_ok-opened.opened.region in
+    if_told old.told (λ holding. new.arms ≡ old.arms) (λ holding told.
+    let opened = told_at old.told _ holding told made.opened in
+    let parts = present (map g.T.Part.Lines.history region.parts.items) (told_at old.told _ holding told made.tell) in
+    let some = mid_told old mid region.names holding made.lent c.requires.home told in
+    absurd (not_both (sym some ∙ c.schedule_region.ensures.never why is parts.states opened.files.held parts.are opened.files.are)))
+
+pub returns-in_err-opened-clause-unarmed : goal.returns-in_err-opened-clause-unarmed
+returns-in_err-opened-clause-unarmed g c why is =
+    let old = g.T.Bench.state c.args.bench.now in
+    if_told old.told (λ holding. (g.T.Bench.state c.open.new.bench).arms ≡ old.arms) (λ holding told. ap (λ (state : BenchState). state.arms) c.in_err-opened.ensures.back)
+
+pub returns-in_err-opened-clause-refused : goal.returns-in_err-opened-clause-refused
+returns-in_err-opened-clause-refused g c why is =
+    let old = g.T.Bench.state c.args.bench.now in
+    let new = g.T.Bench.state c.open.new.bench in
+    let error = c.in_err-opened.field-0.0 in
+    let options = c.args.options in
+    let names = c.args.trace.now.names in
+    let stop : Region why ≡ stop_of_opening error = err_has c.from_residual-in_err-opened.result (λ stop. stop ≡ stop_of_opening error) (Region why) is c.from_residual-in_err-opened.ensures.1 in
+    let error_is = opening_refused error why (sym stop) in
+    if_told old.told (λ holding. IsNotRun options holding names why × IsLeftNotRun options holding names old new why × (new.picked ≡ old.picked)) (λ holding told.
+    let NotRun : List (List ℕ) → Type 0 = λ wanted. IsNotRun options holding wanted why in
+    let Rests : List (List ℕ) → Type 0 = λ wanted. RestsNotRun options holding wanted new.told in (
+      subst NotRun (c.in_ok-wanted.ensures ∙ c.names.ensures) (record {
+        geometry = _;
+        page_is = refl;
+        entries_are = refl;
+        not_opened = told_at old.told _ holding told (c.in_err-opened.ensures.refused why (ap Err error_is));
+      }),
+      (
+        λ other. c.in_err-opened.ensures.unwritten why (ap Err error_is) other,
+        λ same. subst Rests (c.in_ok-wanted.ensures ∙ c.names.ensures) (record {
+          geometry = _;
+          page_is = refl;
+          entries_are = refl;
+          rests = told_at old.told _ holding told (c.in_err-opened.ensures.rests (ap Err (error_is ∙ ap Refused same)));
+        }),
+      ),
+      ap (λ (state : BenchState). state.picked) c.in_err-opened.ensures.back,
+    ))
+
+pub returns-in_err-wanted-clause-cuts : goal.returns-in_err-wanted-clause-cuts
+returns-in_err-wanted-clause-cuts g c = armed_none c.args.trace.now.tokens (g.T.Bench.state c.args.bench.now) (g.T.Bench.state c.args.bench.now) refl refl
+
+pub returns-in_err-opened-clause-cuts : goal.returns-in_err-opened-clause-cuts
+returns-in_err-opened-clause-cuts g c =
+    armed_none c.args.trace.now.tokens (g.T.Bench.state c.args.bench.now) (g.T.Bench.state c.open.new.bench)
+    (ap (λ (s : BenchState). s.arms) c.in_err-opened.ensures.back) (ap (λ (s : BenchState). s.armed) c.in_err-opened.ensures.back)
+
+pub returns-clause-cuts : goal.returns-clause-cuts
+returns-clause-cuts g c =
+    from_lent c.args.trace.now.tokens (g.T.Bench.state c.args.bench.now) (g.T.Bench.state c.open.new.bench) (g.T.Bench.state c.schedule_region.new.bench)
+    (ap (λ (s : BenchState). s.arms) c.in_ok-opened.ensures.lent) (ap (λ (s : BenchState). s.armed) c.in_ok-opened.ensures.lent) c.schedule_region.ensures.cuts
+
+pub returns-clause-all_cuts : goal.returns-clause-all_cuts
+returns-clause-all_cuts g c =
+    let tokens = c.args.trace.now.tokens in
+    let old = g.T.Bench.state c.args.bench.now in
+    let lent = g.T.Bench.state c.open.new.bench in
+    let new = g.T.Bench.state c.schedule_region.new.bench in
+    on_ok_weaker c.schedule_region.result
+    (all_from_lent tokens old lent new (ap (λ (s : BenchState). s.arms) c.in_ok-opened.ensures.lent) (ap (λ (s : BenchState). s.armed) c.in_ok-opened.ensures.lent)) c.schedule_region.ensures.all_cuts

@@ -1,0 +1,56 @@
+use Rattle.std.proofs.Common.{◌≡◌, ◌+◌, ◌≤◌, ℕ, List, IfSome, map, subst, sum_by, sym, ap, arith}
+use Rattle.std.proofs.lemmas.Result.{IfOk-weaker}
+use Rattle.nv_plain.specs.Faults.{Rose, saturated}
+use Rattle.nv_pmem.specs.Part.{Part}
+use Rattle.nv_pmem.specs.RowStates.{AreNow}
+use Rattle.nv_store.specs.Store.{Store}
+use Rattle.nv_bench.specs.Benches.{BenchState}
+use Rattle.nv_recover.specs.Standing.{files_of}
+use Rattle.nv_mount.specs.RisenCounts.{failed_before}
+use Rattle.nv_runner.specs.Faithful.{Basis}
+use Rattle.nv_top.specs.Runs.{BeginsMount, basis_over}
+use Rattle.nv_top.specs.Scheduling.{HasScheduledOn}
+use Rattle.nv_top.specs.Stopping.{IsAway}
+use Rattle.nv_top.proofs.SchedulingLemmas.{armed_none}
+use Rattle.nv_top.proofs.StoppingLemmas.{stop_grows}
+use Rattle.nv_top.proofs.scheduling.schedule_region.Goals as goal
+
+pub returns-in-Ok-clause-scheduled : goal.returns-in-Ok-clause-scheduled
+returns-in-Ok-clause-scheduled g c =
+    let history = g.T.Part.Lines.history in
+    let held = g.T.Store.Backing.history in
+    let region = c.args.opened.region in
+    let stores = c.args.opened.stores.items in
+    let trace = c.args.trace.now in
+    let options = c.args.options in
+    let start = g.T.Bench.state c.args.bench.now in
+    let last = g.T.Bench.state c.schedule_mount.new.bench in
+    let before = sum_by g.T.Part.Lines.fault_count region.parts.items + sum_by g.T.Store.Backing.fault_count stores in
+    let mounted = failed_before c.in-Ok.pass in
+    IfOk-weaker c.schedule_mount.result
+    (λ text. (basis : Basis) → BeginsMount basis trace c.in-Ok.mount c.in-Ok.pass → basis.names ≡ start.lent
+    → IfSome start.told (λ left. IsAway basis.names left → HasScheduledOn (Rose (saturated (start.faults + mounted)) last.faults) options start.picked basis trace last text.items))
+    (λ text. (parts : List Part) (now : List Store) → AreNow (map history region.parts.items) parts → AreNow (map held stores) now
+    → IfSome start.told (λ left. IsAway region.names left → HasScheduledOn (Rose (saturated (start.faults + before)) last.faults) options start.picked (basis_over region options.pages (files_of now)) trace last text.items))
+    (λ text ran parts now parts_are now_are.
+    let basis = basis_over region options.pages (files_of now) in
+    let Counted : ℕ → Type 0 = λ count. IfSome start.told (λ left. IsAway region.names left → HasScheduledOn (Rose (saturated (start.faults + count)) last.faults) options start.picked basis trace last text.items) in
+    subst Counted c.in-Ok.ensures.counts (ran basis (c.in-Ok.ensures.begins parts now parts_are now_are) (sym c.requires.lent)))
+    c.schedule_mount.ensures.scheduled
+
+pub returns-in-Ok-clause-never : goal.returns-in-Ok-clause-never
+returns-in-Ok-clause-never g c why is parts now parts_are now_are =
+    c.schedule_mount.ensures.never why is (basis_over c.args.opened.region c.args.options.pages (files_of now)) (c.in-Ok.ensures.begins parts now parts_are now_are) (sym c.requires.lent)
+
+pub returns-in-Err-clause-never_falls : goal.returns-in-Err-clause-never_falls
+returns-in-Err-clause-never_falls g c =
+    let region = c.args.opened.region in
+    let failed = c.in-Err.field-0 in
+    let before = sum_by g.T.Part.Lines.fault_count region.parts.items + sum_by g.T.Store.Backing.fault_count c.args.opened.stores.items in
+    let now = sum_by g.T.Part.Lines.fault_count failed.parts.items + sum_by g.T.Store.Backing.fault_count failed.stores.items in
+    omega (arith, stop_grows before now failed.stop c.in-Err.ensures.cause, ap (λ (s : BenchState). s.faults) c.give_back.ensures.taken, c.requires.before)
+
+pub returns-in-Err-clause-cuts : goal.returns-in-Err-clause-cuts
+returns-in-Err-clause-cuts g c =
+    armed_none c.args.trace.now.tokens (g.T.Bench.state c.args.bench.now) (g.T.Bench.state c.give_back.new.self)
+    (ap (λ (s : BenchState). s.arms) c.give_back.ensures.taken) (ap (λ (s : BenchState). s.armed) c.give_back.ensures.taken)

@@ -1,0 +1,31 @@
+use Rattle.std.proofs.Common.{List, map, subst}
+use Rattle.std.specs.Prelude.{IfSome}
+use Rattle.std.proofs.lemmas.Result.{IfOk-weaker}
+use Rattle.nv_top.specs.Scheduling.{ShowsOutcome}
+use Rattle.nv_top.specs.Stopping.{ShowsRecovered}
+use Rattle.nv_top.proofs.SchedulingLemmas.{on_any}
+use Rattle.nv_top.proofs.StoppingLemmas.{at_some, if_some}
+use Rattle.nv_top.proofs.scheduling.show_outcome.Goals as goal
+
+pub returns-in_ok-sorted-in-Ok-clause-shown : goal.returns-in_ok-sorted-in-Ok-clause-shown
+returns-in_ok-sorted-in-Ok-clause-shown g c =
+    let old = g.T.Bench.state c.args.bench.now in
+    let last = g.T.Bench.state c.show_recovered.new.bench in
+    let calls = c.in-Ok.calls in
+    let begun = map (λ call. call.now) c.deref.result.now in
+    IfOk-weaker c.show_recovered.result
+    (λ text. IfSome old.told (λ holding. ShowsRecovered holding c.in_ok-sorted-in-Ok.sorted begun last.told text.items))
+    (λ text. IfSome old.told (λ holding. ShowsOutcome holding c.args.outcome last.told text.items))
+    (λ text shown.
+    if_some old.told (λ holding. ShowsOutcome holding c.args.outcome last.told text.items) (λ holding told. record {
+      calls = calls;
+      is_ok = c.in-Ok.is;
+      sorted = c.in_ok-sorted-in-Ok.sorted;
+      sorted_out = c.in_ok-sorted-in-Ok.ensures;
+      shown = subst (λ items. ShowsRecovered holding c.in_ok-sorted-in-Ok.sorted (map (λ call. call.now) items) last.told text.items) c.deref.ensures.value
+          (at_some old.told (λ holding. ShowsRecovered holding c.in_ok-sorted-in-Ok.sorted begun last.told text.items) holding told shown);
+    }))
+    c.show_recovered.ensures.shown
+
+pub returns-in_ok-sorted-in-Ok-clause-followed : goal.returns-in_ok-sorted-in-Ok-clause-followed
+returns-in_ok-sorted-in-Ok-clause-followed g c = on_any c.show_recovered.result (c.in-Ok.calls, c.in-Ok.is)

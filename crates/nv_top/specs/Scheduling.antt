@@ -1,0 +1,91 @@
+-- Scheduling: a schedule that is followed over a bench, and what it leaves.
+use Rattle.std.specs.Prelude.{◌≡◌, ℕ, false, List, [], ◌∷◌, ◌++◌, map, Option, Some, Result, Ok}
+use Rattle.nv_plain.specs.Recovered.{recovered}
+use Rattle.nv_pmem.specs.Rows.{row_words}
+use Rattle.nv_pmem.specs.declared.picker.Pick.{Pick}
+use Rattle.nv_bench.specs.Benches.{BenchState}
+use Rattle.nv_bench.specs.Holding.{Holding}
+use Rattle.nv_open.specs.Held.{files_named}
+use Rattle.nv_open.specs.Lending.{stores_named}
+use Rattle.nv_recover.specs.Standing.{files_of}
+use Rattle.nv_recover.specs.Recovering.{HasFoundAll}
+use Rattle.nv_recover.specs.declared.recovering.Recovered as recover
+use Rattle.nv_table.specs.state.States.{PassState}
+use Rattle.nv_mount.specs.Mounts.{MountState}
+use Rattle.nv_mount.specs.WholeWrites.{LeavesWholeWrites}
+use Rattle.nv_trace.specs.Traced.{Traced}
+use Rattle.nv_trace.specs.declared.token.Token.{Token}
+use Rattle.nv_runner.specs.Faithful.{Basis}
+use Rattle.nv_runner.specs.Lists.{made_calls}
+use Rattle.nv_runner.specs.Reports.{Report}
+use Rattle.nv_runner.specs.Sorted.{AreSortedOut}
+use Rattle.nv_runner.specs.declared.sorted.SortedCalls.{SortedCalls}
+use Rattle.nv_schedule.specs.Cuts.{armed_by, cuts_of}
+use Rattle.nv_schedule.specs.FaithfulSchedules.{IsFaithfulSchedule}
+use Rattle.nv_schedule.specs.Scheduled.{HasScheduled}
+use Rattle.nv_schedule.specs.declared.schedule_error.ScheduleError.{ScheduleError}
+use Rattle.nv_schedule.specs.declared.scheduled.ScheduledCalls.{ScheduledCalls}
+use Rattle.nv_top.specs.Readings.{HavePlainNames}
+use Rattle.nv_top.specs.Reports.{report_text}
+use Rattle.nv_top.specs.Runs.{BeginsMount}
+use Rattle.nv_top.specs.Stopping.{RestsWith, ShowsOpen, ShowsRecovered, next_in}
+use Rattle.nv_top.specs.declared.words.RunOptions.{RunOptions}
+
+-- All that was lent came back to a bench that may have been armed meanwhile, and have lost power since: it is as it was, but for what it tells, its counts, and what power left, with which picks.
+abbrev pub IsBackPowered : (old new : BenchState) → Type 0
+IsBackPowered old new =
+    new ≡ record old {
+      told = new.told;
+      is_open = false;
+      lent = [];
+      faults = new.faults;
+      arms = new.arms;
+      armed = new.armed;
+      settled = new.settled;
+      left = new.left;
+      picked = new.picked;
+    }
+
+-- a bench was armed at each of the cuts among these tokens, one after another, with its number
+abbrev pub IsArmedAt : List Token → (old new : BenchState) → Type 0
+IsArmedAt tokens old new = (new.arms ≡ (armed_by (cuts_of tokens) old).arms) × (new.armed ≡ (armed_by (cuts_of tokens) old).armed)
+
+-- some first ones of these tokens were reached
+abbrev pub IsArmedAtSome : List Token → (old new : BenchState) → Type 0
+IsArmedAtSome tokens old new = (reached : List Token) × (later : List Token) × (tokens ≡ reached ++ later) × IsArmedAt reached old new
+
+-- A schedule was followed to its end; the text is that of a report of what a recovery made of a bench that held this.
+pub record ShowsOutcome (holding : Holding) (outcome : Result ScheduledCalls ScheduleError) (told : Option Holding) (text : List ℕ) : Type 0 where
+  pub calls : ScheduledCalls
+  pub is_ok : outcome ≡ Ok calls
+  pub sorted : SortedCalls
+  pub sorted_out : AreSortedOut (made_calls calls.answered.items) sorted
+  pub shown : ShowsRecovered holding sorted (map (λ call. call.now) calls.unanswered.items) told text
+
+-- The text is that of a report of a trace whose schedule was followed over a mount of this basis, on a bench that was lent meanwhile, and armed at its cuts. The calls that it lists are those that were
+-- begun. Power went off once more than with those picks, with that of the options, and left the bench with an image that recovers to the files after the history of all callers and then the kept ones of
+-- their writes in flight, each whole. These are the files shown, with which the bench rests, and the fates are by the log of that image. The report is faithful to the trace; devices failed only where this says so.
+pub record HasScheduledOn (failed : Type 0) (options : RunOptions) (before : List Pick) (basis : Basis) (trace : Traced) (bench : BenchState) (text : List ℕ) : Type 0 where
+  pub mount : MountState
+  pub start : PassState
+  pub begins : BeginsMount basis trace mount start
+  pub last : PassState
+  pub lent : BenchState
+  pub armed : BenchState
+  pub calls : ScheduledCalls
+  pub followed : HasScheduled mount trace.tokens trace.calls options.batch start last lent armed (Ok calls)
+  pub sorted : SortedCalls
+  pub sorted_out : AreSortedOut (made_calls calls.answered.items) sorted
+  pub report : Report
+  pub faithful : IsFaithfulSchedule failed basis trace report
+  pub plain : HavePlainNames report.files
+  pub text_is : text ≡ report_text report
+  pub picked : bench.picked ≡ options.image ∷ before
+  pub power : Holding
+  pub power_left : bench.left ≡ Some power.parts
+  pub whole : LeavesWholeWrites last.view basis.files basis.names (row_words power.parts) (files_of (stores_named basis.names power.stores))
+  pub stands : files_named power.parts basis.names power.stores ≡ (recovered (row_words power.parts) (files_of (stores_named basis.names power.stores))).files
+  pub found : recover.Recovered
+  pub log : HasFoundAll (row_words power.parts) found
+  pub shown : ShowsOpen sorted (map (λ call. call.now) calls.unanswered.items) found basis.names (files_named power.parts basis.names power.stores) text
+  pub rests : RestsWith basis.sizes.page basis.sizes.entries basis.names (next_in power.parts basis.files) (files_named power.parts basis.names power.stores) bench.told

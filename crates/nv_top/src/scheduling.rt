@@ -1,0 +1,265 @@
+//! A schedule of a trace, the loss of power behind it, and the recovery.
+ghost use Rattle.std.specs.Prelude.{◌≡◌, ◌+◌, ◌^◌, ◌<◌, ◌≤◌, max, [], ◌∷◌, List, None, true, false, length, map, sum_by, All, Ok, Err, IfOk, IfSome, OnOk};
+ghost use Rattle.std.specs.List.Sorted.{IsStrictlyIncreasing};
+ghost use Rattle.nv_plain.specs.Faults.{Rose, saturated};
+ghost use Rattle.nv_plain.specs.Layouts.{version_1};
+ghost use Rattle.nv_pmem.specs.Moments.{Tells};
+ghost use Rattle.nv_pmem.specs.Part.{Part};
+ghost use Rattle.nv_pmem.specs.RowStates.{AreNow};
+ghost use Rattle.nv_store.specs.Store.{IsQuietStore, Store};
+ghost use Rattle.nv_bench.specs.Holding.{IsQuietHolding};
+ghost use Rattle.nv_header.specs.FileNames.{AreFileNames};
+ghost use Rattle.nv_recover.specs.Standing.{files_of};
+ghost use Rattle.nv_open.specs.Refusals.{IsRefusedFor};
+ghost use Rattle.nv_table.specs.state.States.{IsOf};
+ghost use Rattle.nv_table.specs.state.Views.{first_view};
+ghost use Rattle.nv_mount.specs.RisenCounts.{failed_before};
+ghost use Rattle.nv_trace.specs.Forms.{has_rounds};
+ghost use Rattle.nv_trace.specs.Said.{said_place};
+ghost use Rattle.nv_trace.specs.Shape.{IsWellFormed};
+ghost use Rattle.nv_trace.specs.Traced.{lines_in};
+ghost use Rattle.nv_runner.specs.Faithful.{Basis};
+ghost use Rattle.nv_runner.specs.declared.running.TheConstants.{MOST_CALLS};
+ghost use Rattle.nv_schedule.specs.declared.scheduled.ScheduledCalls.{ScheduledCalls as AnyCalls};
+ghost use Rattle.nv_top.specs.Commands.{IsNotRun};
+ghost use Rattle.nv_top.specs.Headline.{HasFollowed, IsLeftNotRun, expected_faults};
+ghost use Rattle.nv_top.specs.Runs.{BeginsMount, basis_over};
+ghost use Rattle.nv_top.specs.Scheduling.{HasScheduledOn, IsArmedAt, IsArmedAtSome, IsBackPowered, ShowsOutcome};
+ghost use Rattle.nv_top.specs.Stopping.{IsAway, IsBack, IsPickedOnce, IsSettledStop};
+ghost use Rattle.nv_top.specs.Words.{AreInLimits};
+ghost use Rattle.nv_top.specs.declared.ending.Stop.TheVariants as stops;
+
+use crate::ending::Stop;
+use crate::mounting::{Unmounted, mount_over};
+use crate::names::copy_names;
+use crate::recovery::recover;
+use crate::stopping::show_recovered;
+use crate::words::RunOptions;
+use nv_bench::{Bench, power_leaves_an_image};
+use nv_header::a_header_has_one_answer;
+use nv_mount::Mount;
+use nv_open::{Opened, open};
+use nv_pmem::{Geometry, images_follow_calls, rows_have_states};
+use nv_recover::images_stand_for_files;
+use nv_runner::{history_of_threads_is_legal, open_calls_are_the_faults, sort_out};
+use nv_schedule::{
+    ScheduleError, Scheduled, ScheduledCalls, run_schedule, schedules_are_faithful,
+    schedules_are_told, schedules_begin_in_order,
+};
+use nv_table::Pass;
+use nv_trace::Trace;
+use std::alloc::Global;
+
+/// Follows the schedule of a trace over a bench: opens its region, of these sizes where it is blank, with the files of the trace, lets callers follow the tokens over a mount of them, gives all back, powers
+/// off, recovers, and shows what became of the calls that were begun, and the files.
+pub(crate) fn schedule<T: Bench>(
+    alloc: Global,
+    bench: &mut T,
+    options: RunOptions,
+    trace: &Trace,
+) -> Result<Vec<u8>, Stop>
+    requires closed { (T.state bench.old).is_open ≡ false }
+    requires home { (T.state bench.old).lent ≡ [] }
+    requires quiet { IfSome (T.state bench.old).told IsQuietHolding }
+    requires arms { (T.state bench.old).arms < 2 ^ 63 }
+    requires settled { (T.state bench.old).settled ≤ (T.state bench.old).faults }
+    requires images { T.can_lose_power ≡ true }
+    requires limits { AreInLimits options }
+    requires well_formed { IsWellFormed trace.now }
+    requires lines { IsStrictlyIncreasing (lines_in trace.now) }
+    requires few { length trace.now.calls ≤ MOST_CALLS }
+    requires no_rounds { has_rounds trace.now.form ≡ false }
+    ensures back { IsBackPowered (T.state bench.old) (T.state bench.new) }
+    ensures cuts { IsArmedAtSome trace.now.tokens (T.state bench.old) (T.state bench.new) }
+    ensures all_cuts { OnOk result (IsArmedAt trace.now.tokens (T.state bench.old) (T.state bench.new)) }
+    ensures picked { IsPickedOnce options.image (T.state bench.old) (T.state bench.new) }
+    ensures cause { IsSettledStop (expected_faults (T.state bench.old) (T.state bench.new)) (T.state bench.new).faults result }
+    ensures turns { result ≡ Err stops.Turns → (T.state bench.new).picked ≡ options.image ∷ (T.state bench.old).picked }
+    ensures never_falls { (T.state bench.old).faults ≤ (T.state bench.new).faults }
+    ensures followed { IfOk result (λ text. IfSome (T.state bench.old).told (λ holding.
+        HasFollowed (Rose (T.state bench.old).faults (T.state bench.new).faults) options (T.state bench.old).picked holding (T.state bench.new) trace.now text.items)) }
+    ensures refused { (why : _) → result ≡ Err (stops.Region why) → IfSome (T.state bench.old).told (λ holding. IsNotRun options holding trace.now.names why
+        × IsLeftNotRun options holding trace.now.names (T.state bench.old) (T.state bench.new) why × ((T.state bench.new).picked ≡ (T.state bench.old).picked)) }
+    ensures unarmed { (why : _) → result ≡ Err (stops.Region why) → IfSome (T.state bench.old).told (λ holding. (T.state bench.new).arms ≡ (T.state bench.old).arms) }
+{
+    images_follow_calls();
+    let geometry = Geometry {
+        page: options.page,
+        entries: options.entries,
+    };
+    let before = bench.faults();
+    let wanted = copy_names(alloc, trace.names())?;
+    let opened = open(alloc, bench, geometry, &wanted)?;
+    schedule_region(alloc, bench, opened, options, trace, before)
+}
+
+// Follows the schedule of a trace over a region whose log is empty, with a store for each of its names, that are lent by a bench. Before that its devices had failed so often.
+fn schedule_region<T: Bench>(
+    alloc: Global,
+    bench: &mut T,
+    opened: Opened<T::Part, T::Store>,
+    options: RunOptions,
+    trace: &Trace,
+    before: u64,
+) -> Result<Vec<u8>, Stop>
+    requires images { T.can_lose_power ≡ true }
+    requires limits { AreInLimits options }
+    requires arms { (T.state bench.old).arms < 2 ^ 63 }
+    requires open { (T.state bench.old).is_open ≡ true }
+    requires lent { (T.state bench.old).lent ≡ opened.region.names }
+    requires quiet { IfSome (T.state bench.old).told IsQuietHolding }
+    requires stores { length opened.stores.items ≡ length opened.region.names }
+    requires synced { All (λ store. Tells (T.Store.history store) IsQuietStore) opened.stores.items }
+    requires well_formed { IsWellFormed trace.now }
+    requires lines { IsStrictlyIncreasing (lines_in trace.now) }
+    requires few { length trace.now.calls ≤ MOST_CALLS }
+    requires no_rounds { has_rounds trace.now.form ≡ false }
+    requires known { All (λ name. said_place name opened.region.names < length opened.region.names) trace.now.names }
+    requires before { before ≡ saturated ((T.state bench.old).faults
+        + (sum_by T.Part.fault_count opened.region.parts.items + sum_by T.Store.fault_count opened.stores.items)) }
+    requires settled { (T.state bench.old).settled ≤ before }
+    ensures back { IsBackPowered (T.state bench.old) (T.state bench.new) }
+    ensures cuts { IsArmedAtSome trace.now.tokens (T.state bench.old) (T.state bench.new) }
+    ensures all_cuts { OnOk result (IsArmedAt trace.now.tokens (T.state bench.old) (T.state bench.new)) }
+    ensures picked { IsPickedOnce options.image (T.state bench.old) (T.state bench.new) }
+    ensures cause { IsSettledStop (max before (T.state bench.new).settled) (T.state bench.new).faults result }
+    ensures never_falls { before ≤ (T.state bench.new).faults }
+    ensures never { (why : _) → result ≡ Err (stops.Region why) → (parts : List Part) (now : List Store)
+        → AreNow (map T.Part.history opened.region.parts.items) parts → AreNow (map T.Store.history opened.stores.items) now
+        → (T.state bench.old).told ≡ None }
+    ensures turns { result ≡ Err stops.Turns → (T.state bench.new).picked ≡ options.image ∷ (T.state bench.old).picked }
+    ensures scheduled { IfOk result (λ text. (parts : List Part) (now : List Store)
+        → AreNow (map T.Part.history opened.region.parts.items) parts → AreNow (map T.Store.history opened.stores.items) now
+        → IfSome (T.state bench.old).told (λ left. IsAway opened.region.names left
+        → HasScheduledOn (Rose (saturated ((T.state bench.old).faults
+        + (sum_by T.Part.fault_count opened.region.parts.items + sum_by T.Store.fault_count opened.stores.items))) (T.state bench.new).faults)
+        options (T.state bench.old).picked (basis_over opened.region options.pages (files_of now)) trace.now (T.state bench.new) text.items)) }
+{
+    let Opened { region, stores } = opened;
+    match mount_over(alloc, region, stores, options, trace) {
+        Ok((mount, pass)) => schedule_mount(alloc, bench, mount, pass, options, trace, before),
+        Err(
+            Unmounted {
+                parts,
+                stores,
+                stop,
+            },
+        ) => {
+            bench.give_back(parts, stores);
+            Err(stop)
+        }
+    }
+}
+
+// Follows the schedule of a trace over a mount whose parts and stores are lent by a bench; gives all back, powers off, recovers, and shows what became of the calls that were begun, and the files. A device
+// that fails meanwhile ends it before power goes off.
+fn schedule_mount<T: Bench>(
+    alloc: Global,
+    bench: &mut T,
+    mount: Mount<T::Part, T::Store>,
+    pass: Pass<T::Part, T::Store>,
+    options: RunOptions,
+    trace: &Trace,
+    before: u64,
+) -> Result<Vec<u8>, Stop>
+    requires images { T.can_lose_power ≡ true }
+    requires arms { (T.state bench.old).arms < 2 ^ 63 }
+    requires open { (T.state bench.old).is_open ≡ true }
+    requires quiet { IfSome (T.state bench.old).told IsQuietHolding }
+    requires board { IsOf mount.board pass }
+    requires new { pass.view ≡ first_view mount.board.opened }
+    requires bare { pass.now ≡ [] }
+    requires names { AreFileNames version_1 (T.state bench.old).lent }
+    requires lent { length (T.state bench.old).lent ≡ mount.board.opened.sizes.files }
+    requires well_formed { IsWellFormed trace.now }
+    requires lines { IsStrictlyIncreasing (lines_in trace.now) }
+    requires few { length trace.now.calls ≤ MOST_CALLS }
+    requires no_rounds { has_rounds trace.now.form ≡ false }
+    requires before { before ≡ saturated ((T.state bench.old).faults + failed_before pass) }
+    requires settled { (T.state bench.old).settled ≤ before }
+    ensures back { IsBackPowered (T.state bench.old) (T.state bench.new) }
+    ensures cuts { IsArmedAtSome trace.now.tokens (T.state bench.old) (T.state bench.new) }
+    ensures all_cuts { OnOk result (IsArmedAt trace.now.tokens (T.state bench.old) (T.state bench.new)) }
+    ensures picked { IsPickedOnce options.image (T.state bench.old) (T.state bench.new) }
+    ensures cause { IsSettledStop (max before (T.state bench.new).settled) (T.state bench.new).faults result }
+    ensures never_falls { before ≤ (T.state bench.new).faults }
+    ensures never { (why : _) → result ≡ Err (stops.Region why) → (basis : Basis) → BeginsMount basis trace.now mount pass
+        → basis.names ≡ (T.state bench.old).lent → (T.state bench.old).told ≡ None }
+    ensures turns { result ≡ Err stops.Turns → (T.state bench.new).picked ≡ options.image ∷ (T.state bench.old).picked }
+    ensures scheduled { IfOk result (λ text. (basis : Basis) → BeginsMount basis trace.now mount pass → basis.names ≡ (T.state bench.old).lent
+        → IfSome (T.state bench.old).told (λ left. IsAway basis.names left
+        → HasScheduledOn (Rose (saturated ((T.state bench.old).faults + failed_before pass)) (T.state bench.new).faults)
+        options (T.state bench.old).picked basis trace.now (T.state bench.new) text.items)) }
+{
+    images_stand_for_files();
+    a_header_has_one_answer();
+    power_leaves_an_image();
+    rows_have_states();
+    history_of_threads_is_legal();
+    open_calls_are_the_faults();
+    schedules_begin_in_order();
+    schedules_are_told();
+    schedules_are_faithful();
+    pass.sees_a_run();
+    let Scheduled {
+        closed,
+        outcome,
+        cut,
+    } = run_schedule(
+        alloc,
+        bench,
+        mount,
+        pass,
+        trace.calls(),
+        trace.tokens(),
+        options.batch,
+    );
+    bench.give_back(closed.parts, closed.stores);
+    if has_failed(bench, cut, before) {
+        return Err(Stop::Device);
+    }
+    bench.power(options.image)?;
+    show_outcome(alloc, bench, outcome)
+}
+
+// Whether a device has failed before any cut.
+fn has_failed<T: Bench>(bench: &T, cut: bool, before: u64) -> bool
+    ensures failed { result ≡ true → (cut ≡ false) × (before < (T.state bench.now).faults) }
+    ensures sound { result ≡ false → cut ≡ false → (T.state bench.now).faults ≤ before }
+{
+    !cut && bench.faults() > before
+}
+
+// Recovers the region of a bench over which a schedule was followed, and shows what became of the calls that were begun, and the files, where the schedule was followed to its end.
+fn show_outcome<T: Bench>(
+    alloc: Global,
+    bench: &mut T,
+    outcome: Result<ScheduledCalls<'_>, ScheduleError>,
+) -> Result<Vec<u8>, Stop>
+    requires closed { (T.state bench.old).is_open ≡ false }
+    requires home { (T.state bench.old).lent ≡ [] }
+    requires quiet { IfSome (T.state bench.old).told IsQuietHolding }
+    ensures back { IsBack (T.state bench.old) (T.state bench.new) }
+    ensures refused { (why : _) → result ≡ Err (stops.Region why) → IfSome (T.state bench.old).told (λ holding. IsRefusedFor holding.parts why) }
+    ensures followed { OnOk result ((calls : AnyCalls) × (outcome.entry ≡ Ok calls)) }
+    ensures shown { IfOk result (λ text. IfSome (T.state bench.old).told (λ holding. ShowsOutcome holding outcome.entry (T.state bench.new).told text.items)) }
+    ensures cause { IsSettledStop (T.state bench.old).faults (T.state bench.new).faults result }
+    ensures never_falls { (T.state bench.old).faults ≤ (T.state bench.new).faults }
+{
+    match outcome {
+        Ok(calls) => {
+            let ScheduledCalls {
+                answered,
+                unanswered,
+            } = calls;
+            let sorted = sort_out(alloc, answered)?;
+            show_recovered(alloc, bench, sorted, &unanswered)
+        }
+        Err(ScheduleError::TurnsUsed) => {
+            recover(alloc, bench)?;
+            Err(Stop::Turns)
+        }
+        // A fault has raised the count, where that doesn't stand at its end, and so has ended the command before.
+        Err(ScheduleError::NoMemory | ScheduleError::Fault) => Err(Stop::NoMemory),
+    }
+}
