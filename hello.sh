@@ -1,5 +1,6 @@
 #!/usr/bin/env bash
-# Builds nv_sim without its proofs, and runs a trace through it: examples/hello.trace, or the one that is named, with further options.
+# Builds nv_sim without its proofs, and runs a trace through it: examples/hello.trace, or the one that is named, with further options. One that
+# has `steps` lines is scheduled by them.
 # With --proved before them it proves nv_sim and all below it first, which takes long, and leaves the program in crates/nv_sim/out.
 set -eu
 how=try
@@ -12,4 +13,8 @@ cd "$(dirname "$0")/crates/nv_sim"
 if [ $how = try ]; then
     echo "hello.sh: built without proof, and not kept (./hello.sh --proved proves it first)" >&2
 fi
-exec rt "$how" -- run --noworker "${@:2}" < "$trace"
+words=(run --noworker)
+if grep -q '^steps ' "$trace"; then
+    words=(sched)
+fi
+exec rt "$how" -- "${words[@]}" "${@:2}" < "$trace"

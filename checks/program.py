@@ -26,6 +26,9 @@ SIXTEEN_PAGES = b"file a\nfd 0 a rw\n0 pfill 0 0 1024 2\n0 pfill 0 0 1025 3\n0 p
 LENGTHS = b"0 0 pwrite 0 0 1024 = 1024\nrefused 0 pwrite 0 0 1025: too long\nrefused 0 pwrite 0 63 970: too long\n"
 SEVENTEEN = b"file a\nfd 0 a rw\n" + b"0 pfill 0 0 1 255\n" * 17
 FULL = b"".join(b"%d 0 pwrite 0 0 1 = 1\n" % k for k in range(16)) + b"refused 0 pwrite 0 0 1: again 16 0\nfile a 1 ff\nend 16 1 0\n"
+RACE = b"file a\nfd 0 a rw\n0 pfill 0 0 128 0\n0 pwrite 0 0 aa\n1 pwrite 0 64 bb\nsteps 0:done 0:seize\nsteps 1:done 0:pledge cut:11 0\n"
+RACED = b"0 0 pwrite 0 0 128 = 128\n1 1 pwrite 0 64 1 = 1\nopen 0 pwrite 0 0 1: %s\nfile a 128 %sbb" + b"00" * 63 + b"\nend 2 0 1\n"
+STUCK = b"file a\nfd 0 a rw\n0 pwrite 0 0 01\n1 pwrite 0 0 02\nsteps 0:place 1:done\n"
 STOPPED = b"refused 0 pread 0 0 16: stopped\nopen 0 pwrite 0 0 5: %s\nfile a %s\nend 0 1 1\n"
 
 
@@ -45,6 +48,13 @@ TABLE = [
     ("stopped, the write lost", RUN + [b"--stop", b"12"], HELLO, (STOPPED % (b"lost", b"0 -"), 0)),
     ("stopped, the write kept", RUN + [b"--stop=12", b"--image", b"0"], HELLO, (STOPPED % (b"kept", b"5 68656c6c6f"), 0)),
     ("a stop that never comes", RUN + [b"--image=torn", b"--stop", b"4294967295"], HELLO, (REPORT, 0)),
+    ("a schedule, the write lost", [b"sched"], RACE, (RACED % (b"lost", b"00" * 64), 0)),
+    ("a schedule, the write kept", [b"sched", b"--image", b"new"], RACE, (RACED % (b"kept", b"aa" + b"00" * 63), 0)),
+    ("a schedule that comes to no end", [b"sched"], STUCK, (b"error turns\n", 8)),
+    ("a schedule without a worker", [b"sched", b"--noworker"], RACE, USAGE),
+    ("a schedule that stops", [b"sched", b"--stop", b"3"], RACE, USAGE),
+    ("steps of a run", [b"run"], RACE, line(6, b"form")),
+    ("rounds of a schedule", [b"sched"], IN_ROUNDS, line(4, b"form")),
     ("all sizes", RUN + [b"--page=128", b"--entries", b"2", b"--pages=1", b"--cache", b"+4", b"--batch=004"], HELLO, (REPORT, 0)),
     ("the end of a file", RUN, AT_THE_END, (ENDED + b"file a 4096 " + b"00" * 4095 + b"01\nend 1 2 0\n", 0)),
     ("sixteen pages", [b"run"], SIXTEEN_PAGES, (LENGTHS + b"file a 1024 " + b"02" * 1024 + b"\nend 1 2 0\n", 0)),

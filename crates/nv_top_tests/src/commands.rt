@@ -1,7 +1,8 @@
 //! Tests of commands.
-ghost use Rattle.std.specs.Prelude.{◌≡◌, ◌+◌, ◌≤◌, [], false, IfOk, IfSome, OnOk};
+ghost use Rattle.std.specs.Prelude.{◌≡◌, ◌+◌, ◌≤◌, [], false, map, string_bytes, IfOk, IfSome, OnOk};
 ghost use Rattle.nv_bench.specs.Holding.{IsQuietHolding};
 ghost use Rattle.nv_bench.specs.MemBench.{mem_state};
+ghost use Rattle.nv_top.specs.Words.{names_schedule};
 
 use nv_bench::{Bench, MemBench, power_leaves_an_image};
 use nv_plain::NoMemory;
@@ -9,6 +10,7 @@ use nv_pmem::{Pick, images_follow_calls};
 use nv_top::{OpenGate, nv_main};
 use nv_trace::{MemSink, MemSource};
 use std::alloc::Global;
+use std::process::Abort;
 use std::sync::Wait;
 use std::test::Fail;
 use std::thread::Threads;
@@ -36,11 +38,47 @@ pub(crate) fn strings(alloc: Global, words: &[&str]) -> Result<Vec<String>, Fail
 }
 
 // The status and the output of a command over a bench, the trace read in pieces of 16 bytes, its reads and writes of these
-// numbers failing.
+// numbers failing. Schedules have their own way, since they may arm a bench more than once.
 pub(crate) fn call<R>(
     rt: &R,
     bench: &mut MemBench,
     words: &[&str],
+    trace: &str,
+    reads: &[u64],
+    writes: &[u64],
+) -> Result<(u8, Vec<u8>), Fail>
+where
+    R: AllocGlobal + Abort + Threads + Wait + Sync,
+    requires closed { (mem_state bench.old).is_open ≡ false }
+    requires home { (mem_state bench.old).lent ≡ [] }
+    requires quiet { IfSome (mem_state bench.old).told IsQuietHolding }
+    requires arms { (mem_state bench.old).arms ≤ 10 }
+    requires settled { (mem_state bench.old).settled ≤ (mem_state bench.old).faults }
+    ensures closed { (mem_state bench.new).is_open ≡ false }
+    ensures home { (mem_state bench.new).lent ≡ [] }
+    ensures arms { (mem_state bench.new).arms ≤ (mem_state bench.old).arms + 1 }
+{
+    let words = strings(rt.alloc(), words)?;
+    let schedules = is_schedule(&words);
+    assert!(rt; !schedules);
+    call_any(rt, bench, &words, trace, reads, writes)
+}
+
+// Whether words are those of a schedule.
+fn is_schedule(words: &[String]) -> bool
+    ensures { result ≡ names_schedule (map string_bytes words.now) }
+{
+    match words {
+        [first, ..] => first.as_str() == "sched",
+        [] => false,
+    }
+}
+
+// The same of any command.
+pub(crate) fn call_any<R>(
+    rt: &R,
+    bench: &mut MemBench,
+    words: &[String],
     trace: &str,
     reads: &[u64],
     writes: &[u64],
@@ -54,13 +92,12 @@ where
     requires settled { (mem_state bench.old).settled ≤ (mem_state bench.old).faults }
     ensures closed { (mem_state bench.new).is_open ≡ false }
     ensures home { (mem_state bench.new).lent ≡ [] }
-    ensures arms { (mem_state bench.new).arms ≤ (mem_state bench.old).arms + 1 }
+    ensures arms { names_schedule (map string_bytes words.now) ≡ false → (mem_state bench.new).arms ≤ (mem_state bench.old).arms + 1 }
 {
     let alloc = rt.alloc();
-    let words = strings(alloc, words)?;
     let mut source = MemSource::new(alloc, trace.as_bytes(), reads)?.with_pieces(16);
     let mut sink = MemSink::new(alloc, 100_000, writes)?;
-    let status = nv_main(rt, alloc, &words, &mut source, &mut sink, bench, &OpenGate);
+    let status = nv_main(rt, alloc, words, &mut source, &mut sink, bench, &OpenGate);
     Ok((status, sink.bytes().to_vec(alloc)?))
 }
 

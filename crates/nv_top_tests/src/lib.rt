@@ -12,6 +12,8 @@ mod loads;
 #[cfg(test)]
 mod regions;
 #[cfg(test)]
+mod schedules;
+#[cfg(test)]
 mod stops;
 #[cfg(test)]
 mod threads;

@@ -9,6 +9,7 @@ use nv_plain::NoMemory;
 use nv_pmem::Pick;
 use nv_top::{BAD_REGION, DEVICE_FAULT, DONE};
 use std::alloc::Global;
+use std::process::Abort;
 use std::sync::Wait;
 use std::test::Fail;
 use std::thread::Threads;
@@ -220,7 +221,7 @@ fn says<R>(
     behind: &str,
 ) -> Result<bool, Fail>
 where
-    R: AllocGlobal + Threads + Wait + Sync,
+    R: AllocGlobal + Abort + Threads + Wait + Sync,
     requires closed { (mem_state bench).is_open ≡ false }
     requires home { (mem_state bench).lent ≡ [] }
     requires quiet { IfSome (mem_state bench).told IsQuietHolding }
