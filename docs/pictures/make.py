@@ -90,7 +90,7 @@ def parts():
     for x, w, name in ((278, 178, "the file's store"), (464, 112, "the entry's part"), (584, 182, "the page's buffer, or none")):
         p.cell(x, 232, w, 26, name, VIOLET, size=11)
     p.text(34, 285, "A pass that takes a word's lock holds what the cell keeps, until it gives it back; nobody else", size=12)
-    p.text(34, 301, "reaches it meanwhile. Each step is one atomic change of one word.", size=12)
+    p.text(34, 301, "reaches it meanwhile. Each step is one atomic operation on one word.", size=12)
 
     p.box(20, 360, 370, 120)
     p.text(34, 381, "the log: persistent memory, or DIR/region", bold=True)
@@ -137,7 +137,7 @@ def write():
     left, step = 24, 63
     at = lambda i: left + i * step
     p.text(24, 30, "a write of one or more pages, step by step", bold=True)
-    p.text(776, 30, "each step changes one word, in one atomic operation", size=12, anchor="end", fill=QUIET)
+    p.text(776, 30, "each step is one atomic operation on one word", size=12, anchor="end", fill=QUIET)
     for i, (word, act, fill) in enumerate(columns):
         p.cell(at(i), 46, step - 5, 42, word, fill, size=11)
         p.text(at(i) + (step - 5) / 2, 103, act, size=11, anchor="middle", fill=QUIET)
