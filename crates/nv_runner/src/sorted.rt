@@ -1,5 +1,5 @@
 //! The answers of a run: calls in their places, those that were refused, and those that were left open.
-ghost use Rattle.std.specs.Prelude.{◌≡◌, ◌++◌, [], ◌∷◌, map, IfOk, OnOk};
+ghost use Rattle.std.specs.Prelude.{◌≡◌, ◌++◌, [], ◌∷◌, map, IfOk, IsPermutation, OnOk};
 ghost use Rattle.nv_runner.specs.Histories.{placed_calls};
 ghost use Rattle.nv_runner.specs.Lists.{made_call, made_calls};
 ghost use Rattle.nv_runner.specs.Sorted.{AreSortedOut, opened_call, opened_calls, placed_call, refused_call, refused_calls};
@@ -60,22 +60,43 @@ fn put_one<'a>(
     Ok(())
 }
 
-// Each to its own, in the order in which they are given.
-fn part_calls<'a>(
-    alloc: Global,
-    answered: Vec<AnsweredCall<'a>>,
-) -> Result<SortedCalls<'a>, NoMemory>
-    ensures placed { IfOk result (λ sorted. map placed_call sorted.placed.items ≡ placed_calls (made_calls answered.entry.items)) }
-    ensures refused { IfOk result (λ sorted. map refused_call sorted.refused.items ≡ refused_calls (made_calls answered.entry.items)) }
-    ensures open_calls { IfOk result (λ sorted. map opened_call sorted.open_calls.items ≡ opened_calls (made_calls answered.entry.items)) }
+// No calls, with room for so many.
+fn room_for<'a>(alloc: Global, count: usize) -> Result<Vec<Placed<'a>>, NoMemory>
+    ensures { IfOk result (λ placed. placed.items ≡ []) }
 {
     let mut placed = Vec::new(alloc);
+    placed.reserve_exact(count)?;
+    Ok(placed)
+}
+
+/// The room of so many calls is given back at a time.
+const GIVEN_BACK: usize = 16_384;
+
+// Gives back the room of calls that were taken out, each time that many more were: so the list shrinks as fast as those that its calls go to grow.
+fn give_room_back(answered: &mut Vec<AnsweredCall<'_>>)
+    ensures { answered.new.items ≡ answered.old.items }
+{
+    if answered.len() % GIVEN_BACK == 0 {
+        answered.shrink_to_fit();
+    }
+}
+
+// Each to its own, the last one first.
+fn part_calls<'a>(
+    alloc: Global,
+    mut answered: Vec<AnsweredCall<'a>>,
+) -> Result<SortedCalls<'a>, NoMemory>
+    ensures placed { IfOk result (λ sorted. IsPermutation (placed_calls (made_calls answered.entry.items)) (map placed_call sorted.placed.items)) }
+    ensures refused { IfOk result (λ sorted. IsPermutation (refused_calls (made_calls answered.entry.items)) (map refused_call sorted.refused.items)) }
+    ensures open_calls { IfOk result (λ sorted. IsPermutation (opened_calls (made_calls answered.entry.items)) (map opened_call sorted.open_calls.items)) }
+{
+    // Most calls have a place: room that is taken once needs no second list while it grows.
+    let mut placed = room_for(alloc, answered.len())?;
     let mut refused = Vec::new(alloc);
     let mut open_calls = Vec::new(alloc);
-    // Most calls have a place: room that is taken once needs no second list while it grows.
-    placed.reserve_exact(answered.len())?;
-    for call in answered {
+    while let Some(call) = answered.pop() {
         put_one(call, &mut placed, &mut refused, &mut open_calls)?;
+        give_room_back(&mut answered);
     }
     Ok(SortedCalls {
         placed,
@@ -96,9 +117,10 @@ pub fn sort_out<'a>(
         mut refused,
         mut open_calls,
     } = part_calls(alloc, answered)?;
-    placed.sort_by_key(|one| one.place)?;
-    refused.sort_by_key(|one| one.call.line)?;
-    open_calls.sort_by_key(|one| one.call.line)?;
+    // In place, since a stable sort would take room for half of them once more.
+    placed.sort_unstable_by_key(|one| one.place);
+    refused.sort_unstable_by_key(|one| one.call.line);
+    open_calls.sort_unstable_by_key(|one| one.call.line);
     Ok(SortedCalls {
         placed,
         refused,
