@@ -23,7 +23,8 @@ use Rattle.nv_trace.specs.declared.trace.Descriptor.{Descriptor}
 use Rattle.nv_trace.specs.declared.trace_call.TraceCall.{TraceCall}
 use Rattle.nv_trace.specs.declared.trace_call.TracedCall.{TracedCall}
 use Rattle.nv_trace.specs.Traced.{lines_in}
-use Rattle.nv_runner.specs.Faithful.{Basis, IsAllowedRefusal, IsFaithful, IsLeftOpen, WasRefused, after_open, barred, descriptors_in, drawing_calls, entries_of, entries_taken, file_call, files_shown, history_of, listed_calls, named, is_later, open_calls_of}
+use Rattle.nv_runner.specs.Entries.{entries_of_calls, entries_taken}
+use Rattle.nv_runner.specs.Faithful.{Basis, IsAllowedRefusal, IsFaithful, IsLeftOpen, WasRefused, after_open, barred, descriptors_in, drawing_calls, file_call, files_shown, history_of, listed_calls, named, is_later, open_calls_of}
 use Rattle.nv_runner.specs.Histories.{ComesBefore, KeepOrder, PlacedCall}
 use Rattle.nv_runner.specs.Reports.{OpenCall, Report, ShownRefusal}
 use Rattle.nv_runner.proofs.HistoryMembers.{contained, of_each, of_one, one_either, one_left, one_mapped, one_moved, one_right}
@@ -54,10 +55,10 @@ few_pages at len few = by_test (len == 0) refl where
       let last = (div-lt_iff_lt-mul {k = 64} {x = at + len - 1} {y = at / 64 + 3} (omega arith)).1 (omega (arith, whole, rest, few)) in
       omega (arith, last)
 
-taken_few : (threads : ℕ) (call : TracedCall) → HasShape threads call → entries_taken basis.sizes call.call ≤ 3
-taken_few threads call (inl read) = let same = ap (λ (c : TraceCall). entries_taken basis.sizes c) read.is in omega (arith, same)
+taken_few : (threads : ℕ) (call : TracedCall) → HasShape threads call → entries_taken basis.sizes.page call.call ≤ 3
+taken_few threads call (inl read) = let same = ap (λ (c : TraceCall). entries_taken basis.sizes.page c) read.is in omega (arith, same)
 taken_few threads call (inr fills) =
-    let same = ap (λ (c : TraceCall). entries_taken basis.sizes c) fills.fills.is in
+    let same = ap (λ (c : TraceCall). entries_taken basis.sizes.page c) fills.fills.is in
     let long = ap (λ n. pages_touched (96 * fills.block) n 64) (length-replicate 96 fills.fills.byte) in
     let few = few_pages (96 * fills.block) 96 (omega arith) in
     omega (arith, same, long, few)
@@ -84,12 +85,12 @@ free load call (inr fills) =
 
 -- ---- entries
 
-entries_few : (threads : ℕ) (calls : List TracedCall) → ((call : TracedCall) → IsOneOf calls call → HasShape threads call) → entries_of basis.sizes calls ≤ 3 * length calls
+entries_few : (threads : ℕ) (calls : List TracedCall) → ((call : TracedCall) → IsOneOf calls call → HasShape threads call) → entries_of_calls basis.sizes.page calls ≤ 3 * length calls
 entries_few threads [] shaped = omega arith
 entries_few threads (call ∷ calls) shaped =
     let one = taken_few threads call (shaped call (inl refl)) in
     let more = entries_few threads calls (λ other there. shaped other (inr there)) in
-    let both = sum_by-cons (λ (t : TracedCall). entries_taken basis.sizes t.call) call calls in
+    let both = sum_by-cons (λ (t : TracedCall). entries_taken basis.sizes.page t.call) call calls in
     omega (arith, one, more, both)
 
 kept_fewer : {X : Type 0} (count : X → ℕ) (x : X) (kept xs : List X) (is : Bool) → sum_by count kept ≤ sum_by count xs → sum_by count (if is then x ∷ kept else kept) ≤ sum_by count (x ∷ xs)
@@ -215,7 +216,7 @@ module _ (load : Load) (report : Report) (limits : IsLoad load) (faithful : IsFa
   none_open [] all = refl
   none_open (one ∷ rest) all = absurd (All-head (IsLeftOpen ⊥ fresh_basis (opened load)) one.call (map (λ (o : OpenCall). o.call) rest) all).failed_so
 
-  drew_few : entries_of basis.sizes (drawing_calls report) ≤ 3 * (64 + 800000)
+  drew_few : entries_of_calls basis.sizes.page (drawing_calls report) ≤ 3 * (64 + 800000)
   drew_few =
       let placed = map (λ (p : PlacedCall). p.call) report.history in
       let refused = map (λ (r : ShownRefusal). r.call) report.refused in
@@ -237,7 +238,7 @@ module _ (load : Load) (report : Report) (limits : IsLoad load) (faithful : IsFa
   not_refused call TooLong shape was = was
   not_refused call Stopped shape was = was
   not_refused call (Spent found) shape was =
-      let few = fewer (λ (t : TracedCall). entries_taken basis.sizes t.call) (λ other. not (is_later call other)) (drawing_calls report) in
+      let few = fewer (λ (t : TracedCall). entries_taken basis.sizes.page t.call) (λ other. not (is_later call other)) (drawing_calls report) in
       let one = taken_few load.threads call shape in
       absurd (omega (arith, was.spent, was.drawn, few, drew_few, one))
   not_refused call (Again head tail) shape was = absurd (differ was.0) where

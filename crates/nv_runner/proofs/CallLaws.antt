@@ -23,9 +23,10 @@ use Rattle.nv_calls.proofs.reads.AloneLaws.{early_other, other_of}
 use Rattle.nv_trace.specs.declared.trace_call.TraceCall.TheVariants.{Pread}
 use Rattle.nv_calls.specs.histories.Heeds.{HasSeenStop}
 use Rattle.nv_trace.specs.declared.trace_call.TraceCall.{TraceCall}
+use Rattle.nv_runner.specs.Entries.{entries_taken}
 use Rattle.nv_runner.specs.declared.answer.Answer.{Answer}
 use Rattle.nv_runner.specs.Calls.{IsAdmitted, IsAnswered, IsRefused, OpensAs, Tells, says_stop}
-use Rattle.nv_runner.specs.Runs.{GoesOn, entries_drawn, entries_taken}
+use Rattle.nv_runner.specs.Runs.{GoesOn, entries_drawn}
 use Rattle.nv_runner.proofs.TryLaws.{answer_on}
 
 -- a read that is refused by what it asks for made no step, whatever its list
@@ -88,7 +89,7 @@ ok_answered fds worker call start now (Ok answer) opened later told stays stop o
 ok_answered fds worker call start now (Err error) opened later told stays stop opens on admitted = tt
 
 -- what draws nothing, whatever its answer
-pub ok_on : (worker : Option ℕ) (sizes : Sizes) (call : TraceCall) (start now : PassState) (result : Result Answer NoMemory) → entries_taken sizes call ≡ 0 → OnOk result (GoesOn None 0 start now)
+pub ok_on : (worker : Option ℕ) (sizes : Sizes) (call : TraceCall) (start now : PassState) (result : Result Answer NoMemory) → entries_taken sizes.page call ≡ 0 → OnOk result (GoesOn None 0 start now)
     → IfOk result (λ answer. GoesOn worker (entries_drawn sizes call answer) start now)
 ok_on worker sizes call start now (Ok answer) none on = answer_on worker sizes call answer start now none on
 ok_on worker sizes call start now (Err error) none on = tt

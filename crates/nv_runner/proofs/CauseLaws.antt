@@ -1,9 +1,8 @@
 -- Causes: what a report shows of why the calls of a run were refused.
-use Rattle.std.proofs.Common.{◌≡◌, ℕ, ◌+◌, ◌*◌, ◌^◌, ◌<◌, ◌≤◌, List, [], ◌∷◌, ◌++◌, cond, length, map, true, false, inl, inr, refl, sym, ap, ap₂, subst, ◌∙◌, arith}
-use Rattle.std.specs.Prelude.{Bool, nat_lt, min, Option, Some, None, option_map, is_some, MatchOption, ⊤, filter, IsPermutation}
+use Rattle.std.proofs.Common.{◌≡◌, ℕ, ◌+◌, ◌*◌, ◌^◌, ◌<◌, ◌≤◌, List, [], ◌∷◌, ◌++◌, cond, length, map, true, false, inl, inr, refl, sym, ap, subst, ◌∙◌, arith}
+use Rattle.std.specs.Prelude.{Bool, nat_lt, min, Option, Some, None, option_map, is_some, MatchOption, ⊤, IsPermutation}
 use Rattle.std.specs.List.{slice_get}
 use Rattle.std.proofs.lemmas.List.{length-map}
-use Rattle.std.proofs.lemmas.List.Sums.{sum_by-cons}
 use Rattle.std.proofs.lemmas.Option.{none-some, slice_get-get_or, slice_get-map}
 use Rattle.nv_plain.specs.Layouts.{version_1}
 use Rattle.nv_plain.specs.Modes.{can_read, can_write}
@@ -27,19 +26,18 @@ use Rattle.nv_trace.specs.declared.trace.Descriptor.{Descriptor}
 use Rattle.nv_trace.specs.declared.trace_call.TraceCall.{TraceCall}
 use Rattle.nv_trace.specs.declared.trace_call.TraceCall.TheVariants.{Pread, Pwrite, Fsync}
 use Rattle.nv_trace.specs.declared.trace_call.TracedCall.{TracedCall}
+use Rattle.nv_runner.specs.Entries.{entries_of_calls, entries_taken}
 use Rattle.nv_runner.specs.declared.plan.Plan.{Plan}
 use Rattle.nv_runner.specs.EndedRuns.{batch_of}
-use Rattle.nv_runner.specs.Faithful.{Basis, RunSizes, IsAllowedRefusal, WasRefused, barred, barred_by, descriptor_at, descriptors_in, entries_of, entries_taken, not_later, placed_in}
+use Rattle.nv_runner.specs.Faithful.{Basis, RunSizes, IsAllowedRefusal, WasRefused, barred, barred_by, descriptor_at, descriptors_in, not_later, placed_in}
 use Rattle.nv_runner.specs.FaithfulRuns.{IsMountOf, as_fd, shown_refusal}
 use Rattle.nv_runner.specs.Histories.{PlacedCall}
 use Rattle.nv_runner.specs.Lists.{MadeCall}
 use Rattle.nv_runner.specs.Refusals.{HasCause, IsCause, early_of_call, unless_file, word_seen}
-use Rattle.nv_runner.specs.RunRefusals.{drawing_calls, entries_of_calls}
-use Rattle.nv_runner.specs.Runs.{entries_if, has_drawn}
-use Rattle.nv_runner.specs.Runs as of_core
+use Rattle.nv_runner.specs.RunRefusals.{calls_that_drew}
 use Rattle.nv_runner.specs.Sorted.{OpenedCall, RefusedCall, opened_made, placed_made, refused_made}
-use Rattle.nv_runner.proofs.DrawnSums.{drew, drew_all, drew_before}
-use Rattle.nv_runner.proofs.HistorySums.{added, added_moved}
+use Rattle.nv_runner.proofs.DrawnSums.{drew, drew_all, drew_before, drew_total}
+use Rattle.nv_runner.proofs.HistorySums.{added_moved}
 
 -- ---- what bars a call
 
@@ -94,57 +92,43 @@ module _ (basis : Basis) (trace : Traced) (opened : Opened) (fds : List Fd) (is 
   bar_is (Fsync fd) within = ap (λ (o : Option Fd). shown_bar (unless_file (option_map (λ (f : Fd). f.file) o))) (fd_there fd within)
 
   -- entries are counted alike
-  pub taken_is : (call : TraceCall) → of_core.entries_taken opened.sizes call ≡ entries_taken basis.sizes call
-  taken_is (Pread fd at len) = refl
-  taken_is (Pwrite fd at bytes) = ap (λ page. pages_touched at (length bytes) page) (sym is.page)
-  taken_is (Fsync fd) = refl
+  pub taken_is : (call : TraceCall) → entries_taken opened.sizes.page call ≡ entries_taken basis.sizes.page call
+  taken_is call = ap (λ page. entries_taken page call) (sym is.page)
 
-  pub entries_alike : (calls : List TracedCall) → entries_of_calls opened.sizes calls ≡ entries_of basis.sizes calls
-  entries_alike [] = refl
-  entries_alike (traced ∷ calls) =
-      sum_by-cons (λ (t : TracedCall). of_core.entries_taken opened.sizes t.call) traced calls ∙ ap₂ (λ m n. m + n) (taken_is traced.call) (entries_alike calls)
-      ∙ sym (sum_by-cons (λ (t : TracedCall). entries_taken basis.sizes t.call) traced calls)
+  pub entries_alike : (calls : List TracedCall) → entries_of_calls opened.sizes.page calls ≡ entries_of_calls basis.sizes.page calls
+  entries_alike calls = ap (λ page. entries_of_calls page calls) (sym is.page)
 
 -- ---- the calls that drew
 
-drawn_open : (left : List OpenedCall) → drawing_calls (map opened_made left) ≡ map (λ (o : OpenedCall). o.call) left
+drawn_open : (left : List OpenedCall) → calls_that_drew (map opened_made left) ≡ map (λ (o : OpenedCall). o.call) left
 drawn_open [] = refl
 drawn_open (o ∷ left) = ap (λ (l : List TracedCall). o.call ∷ l) (drawn_open left)
 
-drawn_refused : (refused : List RefusedCall) (left : List OpenedCall) → drawing_calls (map refused_made refused ++ map opened_made left) ≡ map (λ (o : OpenedCall). o.call) left
+drawn_refused : (refused : List RefusedCall) (left : List OpenedCall) → calls_that_drew (map refused_made refused ++ map opened_made left) ≡ map (λ (o : OpenedCall). o.call) left
 drawn_refused [] left = drawn_open left
 drawn_refused (r ∷ refused) left = drawn_refused refused left
 
 pub drawn_listed : (placed : List PlacedCall) (refused : List RefusedCall) (left : List OpenedCall)
-    → drawing_calls (map placed_made placed ++ map refused_made refused ++ map opened_made left) ≡ map (λ (p : PlacedCall). p.call) placed ++ map (λ (o : OpenedCall). o.call) left
+    → calls_that_drew (map placed_made placed ++ map refused_made refused ++ map opened_made left) ≡ map (λ (p : PlacedCall). p.call) placed ++ map (λ (o : OpenedCall). o.call) left
 drawn_listed [] refused left = drawn_refused refused left
 drawn_listed (p ∷ placed) refused left = ap (λ (l : List TracedCall). p.call ∷ l) (drawn_listed placed refused left)
 
 -- what they drew that don't come later than one, in whatever order they are listed
 pub drawn_before : (sizes : Sizes) (call : TracedCall) (made : List MadeCall) (placed : List PlacedCall) (refused : List RefusedCall) (left : List OpenedCall)
     → IsPermutation made (map placed_made placed ++ map refused_made refused ++ map opened_made left)
-    → entries_of_calls sizes (not_later call (drawing_calls made)) ≡ entries_of_calls sizes (not_later call (map (λ (p : PlacedCall). p.call) placed ++ map (λ (o : OpenedCall). o.call) left))
+    → entries_of_calls sizes.page (not_later call (calls_that_drew made)) ≡ entries_of_calls sizes.page (not_later call (map (λ (p : PlacedCall). p.call) placed ++ map (λ (o : OpenedCall). o.call) left))
 drawn_before sizes call made placed refused left listed =
     let each = map placed_made placed ++ map refused_made refused ++ map opened_made left in
     sym (drew_all sizes call made) ∙ added_moved (drew_before sizes call) made each listed ∙ drew_all sizes call each
-    ∙ ap (λ (l : List TracedCall). entries_of_calls sizes (not_later call l)) (drawn_listed placed refused left)
-
-drew_sum : (sizes : Sizes) (made : List MadeCall) → added (drew sizes) made ≡ entries_of_calls sizes (drawing_calls made)
-drew_sum sizes [] = refl
-drew_sum sizes (m ∷ later) = ap (λ n. drew sizes m + n) (drew_sum sizes later) ∙ by (has_drawn m.answer)
-  where
-    by : (drawn : Bool) → entries_if drawn (of_core.entries_taken sizes m.call.call) + entries_of_calls sizes (drawing_calls later)
-        ≡ entries_of_calls sizes (map (λ (m : MadeCall). m.call) (cond drawn (m ∷ filter (λ (m : MadeCall). has_drawn m.answer) later) (filter (λ (m : MadeCall). has_drawn m.answer) later)))
-    by true = sym (sum_by-cons (λ (t : TracedCall). of_core.entries_taken sizes t.call) m.call (drawing_calls later))
-    by false = omega arith
+    ∙ ap (λ (l : List TracedCall). entries_of_calls sizes.page (not_later call l)) (drawn_listed placed refused left)
 
 -- and what all drew
 pub drawn_in_all : (sizes : Sizes) (made : List MadeCall) (placed : List PlacedCall) (refused : List RefusedCall) (left : List OpenedCall)
     → IsPermutation made (map placed_made placed ++ map refused_made refused ++ map opened_made left)
-    → entries_of_calls sizes (drawing_calls made) ≡ entries_of_calls sizes (map (λ (p : PlacedCall). p.call) placed ++ map (λ (o : OpenedCall). o.call) left)
+    → entries_of_calls sizes.page (calls_that_drew made) ≡ entries_of_calls sizes.page (map (λ (p : PlacedCall). p.call) placed ++ map (λ (o : OpenedCall). o.call) left)
 drawn_in_all sizes made placed refused left listed =
     let each = map placed_made placed ++ map refused_made refused ++ map opened_made left in
-    sym (drew_sum sizes made) ∙ added_moved (drew sizes) made each listed ∙ drew_sum sizes each ∙ ap (λ (l : List TracedCall). entries_of_calls sizes l) (drawn_listed placed refused left)
+    sym (drew_total sizes made) ∙ added_moved (drew sizes) made each listed ∙ drew_total sizes each ∙ ap (λ (l : List TracedCall). entries_of_calls sizes.page l) (drawn_listed placed refused left)
 
 -- ---- what bars a call is shown
 
@@ -189,7 +173,7 @@ early_shown = early_such (λ refusal. is_some (shown_refusal refusal) ≡ true) 
 pub record StoodSo (failed : Type 0) (basis : Basis) (worker : Option ℕ) (drew : List TracedCall) (call : TracedCall) (now : PassState) : Type 0 where
   pub stopped : HasSeenStop now → failed
   pub order : word_seen now ORDER < 2 ^ 60
-  pub head : word_seen now HEAD ≤ basis.next + entries_of basis.sizes (not_later call drew)
+  pub head : word_seen now HEAD ≤ basis.next + entries_of_calls basis.sizes.page (not_later call drew)
   pub tail : worker ≡ None → word_seen now TAIL ≡ basis.next
 
 pub no_batch : (plan : Plan) → plan.worker ≡ false → batch_of plan ≡ None

@@ -21,10 +21,11 @@ use Rattle.nv_mount.specs.declared.fds.Fd.{Fd}
 use Rattle.nv_calls.specs.histories.Faults.{OpenWrite, open_in, open_writes}
 use Rattle.nv_trace.specs.declared.trace_call.TraceCall.{TraceCall}
 use Rattle.nv_trace.specs.declared.trace_call.TraceCall.TheVariants.{Pread, Pwrite, Fsync}
+use Rattle.nv_runner.specs.Entries.{entries_taken}
 use Rattle.nv_runner.specs.declared.answer.Answer.{Answer}
 use Rattle.nv_runner.specs.declared.answer.Answer.TheVariants.{Placed, Refused, Open}
 use Rattle.nv_runner.specs.Calls.{IsAnswered, call_on, opened_on}
-use Rattle.nv_runner.specs.Runs.{entries_drawn, entries_taken, has_drawn}
+use Rattle.nv_runner.specs.Runs.{entries_drawn, has_drawn}
 use Rattle.nv_runner.proofs.DrawRuns.{DrawsAt, draws_at}
 use Rattle.nv_runner.proofs.DrawSteps.{ended_calls, ended_entries, opened_entries}
 use Rattle.nv_runner.proofs.PassLaws.{shorter_begins}
@@ -33,13 +34,13 @@ use Rattle.nv_runner.proofs.ShiftRuns.{DrawnLaws, drawn, drawn_less}
 
 -- ---- the entries of a call
 
-call_takes : (sizes : Sizes) (call : TraceCall) (file : ℕ) → entries_of sizes (call_on call file) ≡ entries_taken sizes call
+call_takes : (sizes : Sizes) (call : TraceCall) (file : ℕ) → entries_of sizes (call_on call file) ≡ entries_taken sizes.page call
 call_takes sizes (Pread fd at len) file = refl
 call_takes sizes (Pwrite fd at bytes) file = refl
 call_takes sizes (Fsync fd) file = refl
 
 -- a write of some bytes takes one
-takes_some : (sizes : Sizes) (call : TraceCall) (file : ℕ) → is_write (call_on call file) ≡ true → 1 ≤ entries_taken sizes call
+takes_some : (sizes : Sizes) (call : TraceCall) (file : ℕ) → is_write (call_on call file) ≡ true → 1 ≤ entries_taken sizes.page call
 takes_some sizes (Pread fd at len) file write = absurd (true≢false (sym write))
 takes_some sizes (Pwrite fd at bytes) file write =
     if_both (λ n. 1 ≤ n) (length bytes == 0) 0 _ (λ is. absurd (let some = ltb-true 0 (length bytes) write in let none = eqb-zero (length bytes) is in omega (arith, some, none))) (λ _. omega arith)
@@ -58,7 +59,7 @@ placed_more sizes (first ∷ rest) one = let again = placed_more sizes rest one 
 pub record Adds (sizes : Sizes) (call : TraceCall) (answer : Answer) (old now : Pass) : Type 0 where
   pub entries : ended_entries sizes now ≡ ended_entries sizes old + entries_drawn sizes call answer
   pub more : has_drawn answer ≡ true → ended_calls now ≡ ended_calls old + 1
-  pub opened : (number : ℕ) → answer ≡ Open number → (1 ≤ entries_taken sizes call) × ((write : FileCall) × (open_in now.faulted ≡ record { call = write; first = number } ∷ open_in old.faulted))
+  pub opened : (number : ℕ) → answer ≡ Open number → (1 ≤ entries_taken sizes.page call) × ((write : FileCall) × (open_in now.faulted ≡ record { call = write; first = number } ∷ open_in old.faulted))
 
 adds : (fds : List Fd) (worker : Option ℕ) (call : TraceCall) (start now : PassState) (answer : Answer) → IsAnswered fds worker call start now answer
     → Adds now.view.opened.sizes call answer (pass_of start.view) (pass_of now.view)
@@ -132,7 +133,7 @@ module _ (words : WordLaws) (draws : DrawnLaws) (opened : Opened) (mount : IsMou
     pub low : (other : List Event) → IsPrefix other all → length other ≤ length run → drawn_at number other ≤ drawn_at number from
     pub high : (other : List Event) → IsPrefix other all → length run < length other → drawn_at number to ≤ drawn_at number other
     pub told : (found : ℕ) → answer ≡ Open found
-        → (found ≡ head_at run) × ((next : List Event) × IsPrefix next all × (length next ≡ length run + 1) × (head_at next ≡ found + entries_taken sizes call))
+        → (found ≡ head_at run) × ((next : List Event) × IsPrefix next all × (length next ≡ length run + 1) × (head_at next ≡ found + entries_taken sizes.page call))
 
   -- all that a pass has drawn its ended calls have
   abbrev pub IsBare : (number : ℕ) → (run : List Event) → Type 0
@@ -249,7 +250,7 @@ module _ (words : WordLaws) (draws : DrawnLaws) (opened : Opened) (mount : IsMou
         first_same one other rest before is = let same : one ≡ other = cc in ap (λ (w : OpenWrite). w.first) same
 
         told_so : (told : ℕ) → answer ≡ Open told
-            → (told ≡ head_at at) × ((after : List Event) × IsPrefix after all × (length after ≡ length at + 1) × (head_at after ≡ told + entries_taken sizes call))
+            → (told ≡ head_at at) × ((after : List Event) × IsPrefix after all × (length after ≡ length at + 1) × (head_at after ≡ told + entries_taken sizes.page call))
         told_so told is =
             let opens = adds_so.opened told is in
             let now : open_in (last.passes number).faulted ≡ record { call = opens.1.0; first = told } ∷ open_in (start.passes number).faulted =
@@ -264,7 +265,7 @@ module _ (words : WordLaws) (draws : DrawnLaws) (opened : Opened) (mount : IsMou
             let at_head = ap (λ (c : Core). c.words HEAD) at_is in
             let next_head = ap (λ (c : Core). c.words HEAD) next_is in
             let there = ap (λ (c : Core). drawn_of sizes (c.passes number)) to_is in
-            let entries : entries_drawn sizes call answer ≡ entries_taken sizes call = ap (entries_drawn sizes call) is in
+            let entries : entries_drawn sizes call answer ≡ entries_taken sizes.page call = ap (entries_drawn sizes call) is in
             (first, (next, next_lies, next_long, omega (arith, first, head, at_head, next_head, there, drew, entries)))
 
     -- so it is of each call
@@ -272,7 +273,7 @@ module _ (words : WordLaws) (draws : DrawnLaws) (opened : Opened) (mount : IsMou
     moment = elim (cases_lt 0 (entries_drawn sizes call answer)) [
       | inl some ↦ drawing_moment (drew_some answer some) some
       | inr none ↦ idle_moment (omega (arith, none))
-          (λ found is. (let some = (adds_so.opened found is).0 in let entries : entries_drawn sizes call answer ≡ entries_taken sizes call = ap (entries_drawn sizes call) is in omega (arith, none, some, entries)))
+          (λ found is. (let some = (adds_so.opened found is).0 in let entries : entries_drawn sizes call answer ≡ entries_taken sizes.page call = ap (entries_drawn sizes call) is in omega (arith, none, some, entries)))
     ]
       where
         drew_some : (a : Answer) → 0 < entries_drawn sizes call a → has_drawn a ≡ true

@@ -9,11 +9,12 @@ use Rattle.nv_core.specs.state.Words.{Sizes}
 use Rattle.nv_core.proofs.state.Choices.{if_both}
 use Rattle.nv_trace.specs.declared.trace_call.TraceCall.{TraceCall}
 use Rattle.nv_trace.specs.declared.trace_call.TracedCall.{TracedCall}
+use Rattle.nv_runner.specs.Entries.{entries_taken}
 use Rattle.nv_runner.specs.DrawnNumbers.{AreInARow, DrawnCall}
 use Rattle.nv_runner.specs.Histories.{ComesBefore, KeepOrder}
 use Rattle.nv_runner.specs.Lists.{MadeCall}
-use Rattle.nv_runner.specs.RunRefusals.{drawing_calls}
-use Rattle.nv_runner.specs.Runs.{entries_if, entries_taken, has_drawn}
+use Rattle.nv_runner.specs.RunRefusals.{calls_that_drew}
+use Rattle.nv_runner.specs.Runs.{entries_if, has_drawn}
 use Rattle.nv_runner.proofs.DrawTimes.{Timed, drew_by}
 use Rattle.nv_runner.proofs.HistoryMembers.{of_each, one_moved, one_of_mapped}
 use Rattle.nv_runner.proofs.HistorySums.{added, added_append, added_none, added_same}
@@ -192,17 +193,17 @@ drew_so t = has_drawn t.made.answer
 abbrev pub one_drawing : MadeCall → List TracedCall
 one_drawing m = if has_drawn m.answer then m.call ∷ [] else []
 
-pub drawing_each : (made : List MadeCall) → drawing_calls made ≡ flat_map one_drawing made
+pub drawing_each : (made : List MadeCall) → calls_that_drew made ≡ flat_map one_drawing made
 drawing_each [] = refl
 drawing_each (m ∷ later) = by (has_drawn m.answer) (drawing_each later)
   where
-    by : (b : Bool) → drawing_calls later ≡ flat_map one_drawing later
+    by : (b : Bool) → calls_that_drew later ≡ flat_map one_drawing later
         → map (λ (m : MadeCall). m.call) (if b then m ∷ filter (λ (m : MadeCall). has_drawn m.answer) later else filter (λ (m : MadeCall). has_drawn m.answer) later)
         ≡ (if b then m.call ∷ [] else []) ++ flat_map one_drawing later
     by true same = ap (λ l. m.call ∷ l) same
     by false same = same
 
-pub drawing_timed : (xs : List Timed) → drawing_calls (map (λ (t : Timed). t.made) xs) ≡ map call_of (filter drew_so xs)
+pub drawing_timed : (xs : List Timed) → calls_that_drew (map (λ (t : Timed). t.made) xs) ≡ map call_of (filter drew_so xs)
 drawing_timed [] = refl
 drawing_timed (t ∷ later) = by (has_drawn t.made.answer) (drawing_timed later)
   where
@@ -214,7 +215,7 @@ drawing_timed (t ∷ later) = by (has_drawn t.made.answer) (drawing_timed later)
     by true same = ap (λ l. t.made.call ∷ l) same
     by false same = same
 
-pub drew_of_those : (sizes : Sizes) (count : ℕ) (xs : List Timed) → added (drew_by sizes count) xs ≡ added (takes_by (entries_taken sizes) count) (filter drew_so xs)
+pub drew_of_those : (sizes : Sizes) (count : ℕ) (xs : List Timed) → added (drew_by sizes count) xs ≡ added (takes_by (entries_taken sizes.page) count) (filter drew_so xs)
 drew_of_those sizes count [] = refl
 drew_of_those sizes count (t ∷ later) = by (has_drawn t.made.answer) (drew_of_those sizes count later)
   where
@@ -225,9 +226,9 @@ drew_of_those sizes count (t ∷ later) = by (has_drawn t.made.answer) (drew_of_
     nothing true = refl
     nothing false = refl
 
-    by : (b : Bool) → added (drew_by sizes count) later ≡ added (takes_by (entries_taken sizes) count) rest
-        → entries_if (nat_lt t.time count) (entries_if b (entries_taken sizes t.made.call.call)) + added (drew_by sizes count) later ≡ added (takes_by (entries_taken sizes) count) (if b then t ∷ rest else rest)
-    by true same = ap (λ n. entries_if (nat_lt t.time count) (entries_taken sizes t.made.call.call) + n) same
+    by : (b : Bool) → added (drew_by sizes count) later ≡ added (takes_by (entries_taken sizes.page) count) rest
+        → entries_if (nat_lt t.time count) (entries_if b (entries_taken sizes.page t.made.call.call)) + added (drew_by sizes count) later ≡ added (takes_by (entries_taken sizes.page) count) (if b then t ∷ rest else rest)
+    by true same = ap (λ n. entries_if (nat_lt t.time count) (entries_taken sizes.page t.made.call.call) + n) same
     by false same = let none = nothing (nat_lt t.time count) in omega (arith, none, same)
 
 pub one_kept : (xs : List Timed) (t : Timed) → IsOneOf xs t → drew_so t ≡ true → IsOneOf (filter drew_so xs) t

@@ -17,10 +17,11 @@ use Rattle.nv_table.specs.state.Views.{SeesAll}
 use Rattle.nv_mount.specs.declared.fds.Fd.{Fd}
 use Rattle.nv_calls.specs.histories.Faults.{open_in}
 use Rattle.nv_trace.specs.declared.trace_call.TracedCall.{TracedCall}
+use Rattle.nv_runner.specs.Entries.{entries_taken}
 use Rattle.nv_runner.specs.declared.answer.Answer.TheVariants.{Open}
 use Rattle.nv_runner.specs.Histories.{ComesBefore}
 use Rattle.nv_runner.specs.Lists.{AreMade, MadeCall}
-use Rattle.nv_runner.specs.Runs.{entries_if, entries_taken, has_drawn}
+use Rattle.nv_runner.specs.Runs.{entries_if, has_drawn}
 use Rattle.nv_runner.specs.Shifts.{IsShift, Shift}
 use Rattle.nv_runner.proofs.DrawMoments.{IsBare, IsTimed, drawn_at, head_at, part_less, pass_at, stands_at, timed}
 use Rattle.nv_runner.proofs.DrawSteps.{opened_entries}
@@ -47,7 +48,7 @@ drew_late sizes count t late = ap (λ b. entries_if b (drew sizes t.made)) (le-l
 
 -- a call that has not drawn has drawn nothing at any time
 drew_never : (sizes : Sizes) (count : ℕ) (t : Timed) → has_drawn t.made.answer ≡ false → (drew_by sizes count t ≡ 0) × (drew sizes t.made ≡ 0)
-drew_never sizes count t none = let zero : drew sizes t.made ≡ 0 = ap (λ b. entries_if b (entries_taken sizes t.made.call.call)) none in (ap (entries_if (nat_lt t.time count)) zero ∙ nothing (nat_lt t.time count), zero)
+drew_never sizes count t none = let zero : drew sizes t.made ≡ 0 = ap (λ b. entries_if b (entries_taken sizes.page t.made.call.call)) none in (ap (entries_if (nat_lt t.time count)) zero ∙ nothing (nat_lt t.time count), zero)
   where
     nothing : (b : Bool) → entries_if b 0 ≡ 0
     nothing true = refl
@@ -96,7 +97,7 @@ module _ (words : WordLaws) (draws : DrawnLaws) (opened : Opened) (mount : IsMou
     pub inside : (t : Timed) → IsOneOf timed t → (length from ≤ t.time) × (has_drawn t.made.answer ≡ true → t.time < length to)
     pub sums : (other : List Event) → IsPrefix other all → length from ≤ length other → drawn_then number other ≤ drawn_then number to
         → drawn_then number other ≡ drawn_then number from + added (drew_by sizes (length other)) timed
-    pub told : (t : Timed) → IsOneOf timed t → (found : ℕ) → t.made.answer ≡ Open found → DrewAt t.time (entries_taken sizes t.made.call.call) found
+    pub told : (t : Timed) → IsOneOf timed t → (found : ℕ) → t.made.answer ≡ Open found → DrewAt t.time (entries_taken sizes.page t.made.call.call) found
     pub ordered : AllPairs (λ (x y : ℕ). x < y) (map (λ (m : MadeCall). m.call.line) made)
         → ((a b : MadeCall) → IsOneOf made a → IsOneOf made b → a.call.line < b.call.line → b.call.round < a.call.round → ⊥)
         → (a b : Timed) → IsOneOf timed a → IsOneOf timed b → has_drawn a.made.answer ≡ true → ComesBefore a.made.call b.made.call → a.time < b.time
@@ -128,10 +129,10 @@ module _ (words : WordLaws) (draws : DrawnLaws) (opened : Opened) (mount : IsMou
             (is.moment.least, λ drawn_so. (let most = is.moment.most drawn_so in omega (arith, most, shorter)))
         inside u (inr one) = let there = rest.inside u one in ((let least = there.0 in omega (arith, least, short)), there.1)
 
-        told : (u : Timed) → IsOneOf (t ∷ rest.timed) u → (found : ℕ) → u.made.answer ≡ Open found → DrewAt u.time (entries_taken sizes u.made.call.call) found
+        told : (u : Timed) → IsOneOf (t ∷ rest.timed) u → (found : ℕ) → u.made.answer ≡ Open found → DrewAt u.time (entries_taken sizes.page u.made.call.call) found
         told u (inl same) found is_open =
             let at = is.moment.told found (ap (λ (u : Timed). u.made.answer) (sym same) ∙ is_open) in
-            subst (λ (u : Timed). DrewAt u.time (entries_taken sizes u.made.call.call) found) (sym same)
+            subst (λ (u : Timed). DrewAt u.time (entries_taken sizes.page u.made.call.call) found) (sym same)
             (record { run = is.moment.run; lies = is.moment.lies; long = refl; head = at.0; next = at.1.0; next_lies = at.1.1; next_long = at.1.2; next_head = at.1.3 })
         told u (inr one) found is_open = rest.told u one found is_open
 
@@ -226,7 +227,7 @@ module _ (words : WordLaws) (draws : DrawnLaws) (opened : Opened) (mount : IsMou
     pub are : map (λ t. t.made) timed ≡ shift.made
     pub inside : (t : Timed) → IsOneOf timed t → (length shift.start.view.run ≤ t.time) × (has_drawn t.made.answer ≡ true → t.time < length shift.now.view.run)
     pub sums : (other : List Event) → IsPrefix other all → drawn_then shift.now.view.number other ≡ added (drew_by sizes (length other)) timed
-    pub told : (t : Timed) → IsOneOf timed t → (found : ℕ) → t.made.answer ≡ Open found → DrewAt t.time (entries_taken sizes t.made.call.call) found
+    pub told : (t : Timed) → IsOneOf timed t → (found : ℕ) → t.made.answer ≡ Open found → DrewAt t.time (entries_taken sizes.page t.made.call.call) found
     pub ordered : ((a b : MadeCall) → IsOneOf shift.made a → IsOneOf shift.made b → a.call.line < b.call.line → b.call.round < a.call.round → ⊥)
         → (a b : Timed) → IsOneOf timed a → IsOneOf timed b → has_drawn a.made.answer ≡ true → ComesBefore a.made.call b.made.call → a.time < b.time
 

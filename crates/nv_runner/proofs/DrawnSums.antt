@@ -9,10 +9,11 @@ use Rattle.nv_core.proofs.state.Choices.{if_both, when_true, when_false}
 use Rattle.nv_core.proofs.state.TotalLaws.{total_apart, total_at, total_zeros}
 use Rattle.nv_table.specs.state.Views.{AreDistinctNumbers}
 use Rattle.nv_trace.specs.declared.trace_call.TracedCall.{TracedCall}
+use Rattle.nv_runner.specs.Entries.{entries_of_calls, entries_taken}
 use Rattle.nv_runner.specs.Faithful.{is_later, not_later}
 use Rattle.nv_runner.specs.Lists.{MadeCall}
-use Rattle.nv_runner.specs.RunRefusals.{drawing_calls, entries_of_calls}
-use Rattle.nv_runner.specs.Runs.{entries_drawn, entries_if, entries_taken, has_drawn}
+use Rattle.nv_runner.specs.RunRefusals.{calls_that_drew}
+use Rattle.nv_runner.specs.Runs.{entries_drawn, entries_if, has_drawn}
 use Rattle.nv_runner.proofs.HistorySums.{added, added_same}
 
 -- smaller values have a smaller sum
@@ -66,28 +67,28 @@ none_if false = refl
 
 -- as a sum over the calls that drew
 one_more : (sizes : Sizes) (call traced : TracedCall) (rest : List TracedCall)
-    → entries_of_calls sizes (not_later call (traced ∷ rest)) ≡ entries_if (not (is_later call traced)) (entries_taken sizes traced.call) + entries_of_calls sizes (not_later call rest)
+    → entries_of_calls sizes.page (not_later call (traced ∷ rest)) ≡ entries_if (not (is_later call traced)) (entries_taken sizes.page traced.call) + entries_of_calls sizes.page (not_later call rest)
 one_more sizes call traced rest = by (not (is_later call traced))
   where
-    by : (b : Bool) → entries_of_calls sizes (if b then traced ∷ not_later call rest else not_later call rest) ≡ entries_if b (entries_taken sizes traced.call) + entries_of_calls sizes (not_later call rest)
-    by true = sum_by-cons (λ (t : TracedCall). entries_taken sizes t.call) traced (not_later call rest)
+    by : (b : Bool) → entries_of_calls sizes.page (if b then traced ∷ not_later call rest else not_later call rest) ≡ entries_if b (entries_taken sizes.page traced.call) + entries_of_calls sizes.page (not_later call rest)
+    by true = sum_by-cons (λ (t : TracedCall). entries_taken sizes.page t.call) traced (not_later call rest)
     by false = omega arith
 
-pub drew_all : (sizes : Sizes) (call : TracedCall) (made : List MadeCall) → added (drew_before sizes call) made ≡ entries_of_calls sizes (not_later call (drawing_calls made))
+pub drew_all : (sizes : Sizes) (call : TracedCall) (made : List MadeCall) → added (drew_before sizes call) made ≡ entries_of_calls sizes.page (not_later call (calls_that_drew made))
 drew_all sizes call [] = refl
 drew_all sizes call (m ∷ later) =
     ap (λ n. drew_before sizes call m + n) (drew_all sizes call later) ∙ by (has_drawn m.answer)
   where
-    by : (drawn : Bool) → entries_if (not (is_later call m.call)) (entries_if drawn (entries_taken sizes m.call.call)) + entries_of_calls sizes (not_later call (drawing_calls later))
-        ≡ entries_of_calls sizes (not_later call (map (λ (m : MadeCall). m.call) (if drawn then m ∷ filter (λ (m : MadeCall). has_drawn m.answer) later else filter (λ (m : MadeCall). has_drawn m.answer) later)))
-    by true = sym (one_more sizes call m.call (drawing_calls later))
+    by : (drawn : Bool) → entries_if (not (is_later call m.call)) (entries_if drawn (entries_taken sizes.page m.call.call)) + entries_of_calls sizes.page (not_later call (calls_that_drew later))
+        ≡ entries_of_calls sizes.page (not_later call (map (λ (m : MadeCall). m.call) (if drawn then m ∷ filter (λ (m : MadeCall). has_drawn m.answer) later else filter (λ (m : MadeCall). has_drawn m.answer) later)))
+    by true = sym (one_more sizes call m.call (calls_that_drew later))
     by false = let none = none_if (not (is_later call m.call)) in omega (arith, none)
 
-pub drew_total : (sizes : Sizes) (made : List MadeCall) → added (drew sizes) made ≡ entries_of_calls sizes (drawing_calls made)
+pub drew_total : (sizes : Sizes) (made : List MadeCall) → added (drew sizes) made ≡ entries_of_calls sizes.page (calls_that_drew made)
 drew_total sizes [] = refl
 drew_total sizes (m ∷ later) = ap (λ n. drew sizes m + n) (drew_total sizes later) ∙ by (has_drawn m.answer)
   where
-    by : (drawn : Bool) → entries_if drawn (entries_taken sizes m.call.call) + entries_of_calls sizes (drawing_calls later)
-        ≡ entries_of_calls sizes (map (λ (m : MadeCall). m.call) (if drawn then m ∷ filter (λ (m : MadeCall). has_drawn m.answer) later else filter (λ (m : MadeCall). has_drawn m.answer) later))
-    by true = sym (sum_by-cons (λ (t : TracedCall). entries_taken sizes t.call) m.call (drawing_calls later))
+    by : (drawn : Bool) → entries_if drawn (entries_taken sizes.page m.call.call) + entries_of_calls sizes.page (calls_that_drew later)
+        ≡ entries_of_calls sizes.page (map (λ (m : MadeCall). m.call) (if drawn then m ∷ filter (λ (m : MadeCall). has_drawn m.answer) later else filter (λ (m : MadeCall). has_drawn m.answer) later))
+    by true = sym (sum_by-cons (λ (t : TracedCall). entries_taken sizes.page t.call) m.call (calls_that_drew later))
     by false = omega arith

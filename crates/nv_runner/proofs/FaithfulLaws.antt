@@ -34,19 +34,19 @@ use Rattle.nv_trace.specs.Traced.{Traced, lines_in}
 use Rattle.nv_trace.specs.declared.report.Refusal.{Refusal}
 use Rattle.nv_trace.specs.declared.trace.Descriptor.{Descriptor}
 use Rattle.nv_trace.specs.declared.trace_call.TracedCall.{TracedCall}
+use Rattle.nv_runner.specs.Entries.{entries_of_calls}
 use Rattle.nv_runner.specs.declared.answer.Answer.TheVariants as answers
 use Rattle.nv_runner.specs.declared.plan.Plan.{Plan}
 use Rattle.nv_runner.specs.declared.sorted.Open.{Open}
 use Rattle.nv_runner.specs.declared.sorted.SortedCalls.{SortedCalls}
 use Rattle.nv_runner.specs.EndedRuns.{HasOutcome, IsClosedBy, IsRefusedSo, batch_of}
-use Rattle.nv_runner.specs.Faithful.{Basis, IsAllowedRefusal, IsFaithful, IsLeftOpen, IsWrite, barred, descriptors_in, drawing_calls, entries_of, file_call, history_of, listed_calls, not_later, open_calls_of}
+use Rattle.nv_runner.specs.Faithful.{Basis, IsAllowedRefusal, IsFaithful, IsLeftOpen, IsWrite, barred, descriptors_in, drawing_calls, file_call, history_of, listed_calls, not_later, open_calls_of}
 use Rattle.nv_runner.specs.FaithfulRuns.{EmptiedLogsGoOn, FilesAreOfTheHistory, IsMountOf, RunsAreFaithful, ShowsCalls, UnstoppedRunsLeaveNothingOpen, as_fd, shown_as, shown_one, shown_refusal, shown_refusals}
 use Rattle.nv_runner.specs.Histories.{CallsOnFiles, KeepOrder, PlacedCall, StandsAs}
 use Rattle.nv_runner.specs.Reports.{Report, ShownRefusal}
 use Rattle.nv_runner.specs.Lists.{MadeCall, calls_made}
 use Rattle.nv_runner.specs.Refusals.{early_of_call}
-use Rattle.nv_runner.specs.RunRefusals.{entries_of_calls}
-use Rattle.nv_runner.specs.RunRefusals as in_run
+use Rattle.nv_runner.specs.RunRefusals.{calls_that_drew}
 use Rattle.nv_runner.specs.Sorted.{AreSortedOut, OpenedCall, RefusedCall, opened_call, opened_made, placed_call, placed_made, refused_call, refused_made}
 use Rattle.nv_runner.specs.Told.{AreTold}
 use Rattle.nv_runner.proofs.HistoryThreads.{descriptors_say_files, threads_are_legal}
@@ -147,8 +147,8 @@ pub record HaveCauses (fds : List Fd) (plan : Plan) (made : List MadeCall) (zero
   pub refused : (call : TracedCall) (refusal : mirror.Refusal) → IsOneOf made (record { call = call; answer = answers.Refused refusal }) → IsRefusedSo fds (batch_of plan) made zero call refusal
   pub placed : (call : TracedCall) (place : ℕ) (reply : Reply) → IsOneOf made (record { call = call; answer = answers.Placed place reply }) → early_of_call zero.view.opened.sizes fds call.call ≡ None
   pub left_open : (call : TracedCall) (number : ℕ) → IsOneOf made (record { call = call; answer = answers.Open number }) → SawStop zero.view × IsWrite call.call × (early_of_call zero.view.opened.sizes fds call.call ≡ None)
-  pub room : plan.worker ≡ false → entries_of_calls zero.view.opened.sizes (in_run.drawing_calls made) ≤ zero.view.opened.sizes.entries
-  pub small : zero.view.opened.next + entries_of_calls zero.view.opened.sizes (in_run.drawing_calls made) ≤ 2 ^ 60
+  pub room : plan.worker ≡ false → entries_of_calls zero.view.opened.sizes.page (calls_that_drew made) ≤ zero.view.opened.sizes.entries
+  pub small : zero.view.opened.next + entries_of_calls zero.view.opened.sizes.page (calls_that_drew made) ≤ 2 ^ 60
 
 module _ (made : List MadeCall) (sorted : SortedCalls) (sorts : AreSortedOut made sorted) where
   abbrev placed_ones : List PlacedCall
@@ -211,14 +211,14 @@ module _ (failed : Type 0) (basis : Basis) (trace : Traced) (fds : List Fd) (pla
       ap (λ (l : List PlacedCall). map (λ (p : PlacedCall). p.call) l ++ open_calls_of report) shows.history
       ∙ ap (λ (l : List TracedCall). map (λ (p : PlacedCall). p.call) placed_list ++ l) shows.open_calls
 
-  drew_before_is : (call : TracedCall) → entries_of_calls opened.sizes (not_later call (in_run.drawing_calls made)) ≡ entries_of basis.sizes (not_later call (drawing_calls report))
+  drew_before_is : (call : TracedCall) → entries_of_calls opened.sizes.page (not_later call (calls_that_drew made)) ≡ entries_of_calls basis.sizes.page (not_later call (drawing_calls report))
   drew_before_is call =
-      drawn_before opened.sizes call made placed_list refused_list open_list sorts.listed ∙ ap (λ (l : List TracedCall). entries_of_calls opened.sizes (not_later call l)) (sym drew_is)
+      drawn_before opened.sizes call made placed_list refused_list open_list sorts.listed ∙ ap (λ (l : List TracedCall). entries_of_calls opened.sizes.page (not_later call l)) (sym drew_is)
       ∙ entries_alike basis trace opened fds is (not_later call (drawing_calls report))
 
-  drew_all_is : entries_of_calls opened.sizes (in_run.drawing_calls made) ≡ entries_of basis.sizes (drawing_calls report)
+  drew_all_is : entries_of_calls opened.sizes.page (calls_that_drew made) ≡ entries_of_calls basis.sizes.page (drawing_calls report)
   drew_all_is =
-      drawn_in_all opened.sizes made placed_list refused_list open_list sorts.listed ∙ ap (λ (l : List TracedCall). entries_of_calls opened.sizes l) (sym drew_is)
+      drawn_in_all opened.sizes made placed_list refused_list open_list sorts.listed ∙ ap (λ (l : List TracedCall). entries_of_calls opened.sizes.page l) (sym drew_is)
       ∙ entries_alike basis trace opened fds is (drawing_calls report)
 
   -- ---- refusals
@@ -239,7 +239,7 @@ module _ (failed : Type 0) (basis : Basis) (trace : Traced) (fds : List Fd) (pla
         stopped = λ seen. stops (told.seen seen);
         order = omega arith;
         head = omega arith;
-        tail = λ none. told.tail none ∙ sym next;
+        tail = λ none. told.tail none tt ∙ sym next;
       }
 
   pub all_shown : AreShown refused_list
@@ -291,14 +291,14 @@ module _ (failed : Type 0) (basis : Basis) (trace : Traced) (fds : List Fd) (pla
           subst (IsLeftOpen failed basis descriptors_then) from.2
           (record { is_write = told.1; failed_so = stops told.0; not_barred = free_where (opened_made o) (open_there made sorted sorts o from.1) told.2 })
 
-  pub has_room : plan.worker ≡ false → entries_of basis.sizes (drawing_calls report) ≤ basis.sizes.entries
+  pub has_room : plan.worker ≡ false → entries_of_calls basis.sizes.page (drawing_calls report) ≤ basis.sizes.entries
   has_room off =
       let room = causes.room off in
       let drawn = drew_all_is in
       let entries = is.entries in
       omega arith
 
-  pub are_small : basis.next + entries_of basis.sizes (drawing_calls report) ≤ 2 ^ 60
+  pub are_small : basis.next + entries_of_calls basis.sizes.page (drawing_calls report) ≤ 2 ^ 60
   are_small =
       let small = causes.small in
       let drawn = drew_all_is in
@@ -363,8 +363,8 @@ emptied_logs_go_on basis trace fds plan start zero sorted part_values store_valu
     let drew_is : drawing_calls report ≡ map (λ (p : PlacedCall). p.call) placed_list ++ map (λ (o : OpenedCall). o.call) open_list =
     ap (λ (l : List PlacedCall). map (λ (p : PlacedCall). p.call) l ++ open_calls_of report) shows.history
     ∙ ap (λ (l : List TracedCall). map (λ (p : PlacedCall). p.call) placed_list ++ l) shows.open_calls in
-    let drew : entries_of_calls opened.sizes (in_run.drawing_calls out.made) ≡ entries_of basis.sizes (drawing_calls report) =
-    drawn_in_all opened.sizes out.made placed_list refused_list open_list out.sorted.0.listed ∙ ap (λ (l : List TracedCall). entries_of_calls opened.sizes l) (sym drew_is)
+    let drew : entries_of_calls opened.sizes.page (calls_that_drew out.made) ≡ entries_of_calls basis.sizes.page (drawing_calls report) =
+    drawn_in_all opened.sizes out.made placed_list refused_list open_list out.sorted.0.listed ∙ ap (λ (l : List TracedCall). entries_of_calls opened.sizes.page l) (sym drew_is)
     ∙ entries_alike basis trace opened fds there (drawing_calls report) in
     let last = closed.whole.tail_is in
     let none = emptied.none in

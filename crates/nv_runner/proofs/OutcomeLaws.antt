@@ -35,6 +35,7 @@ use Rattle.nv_calls.specs.histories.Heeds.{HasSeenStop}
 use Rattle.nv_trace.specs.declared.trace_call.TraceCall.{TraceCall}
 use Rattle.nv_trace.specs.declared.trace_call.TraceCall.TheVariants.{Pread, Pwrite, Fsync}
 use Rattle.nv_trace.specs.declared.trace_call.TracedCall.{TracedCall}
+use Rattle.nv_runner.specs.Entries.{entries_of_calls}
 use Rattle.nv_runner.specs.declared.answer.Answer.TheVariants.{Placed, Open}
 use Rattle.nv_runner.specs.declared.plan.Plan.{Plan}
 use Rattle.nv_runner.specs.declared.run_error.RunError.{RunError}
@@ -50,7 +51,7 @@ use Rattle.nv_runner.specs.OpenWrites.{KeepsFaults}
 use Rattle.nv_runner.specs.Refusals.{early_of_call, unless_file, word_seen}
 use Rattle.nv_runner.specs.Rounds.{AreCallsOf}
 use Rattle.nv_runner.specs.RunNumbers.{HaveDrawn, RunsDrawInARow}
-use Rattle.nv_runner.specs.RunRefusals.{DrawsHaveRoom, HeadsCountCalls, IsRefusedInRun, IsRunOfPasses, RefusalsInRunsHaveCauses, drawing_calls, entries_of_calls}
+use Rattle.nv_runner.specs.RunRefusals.{DrawsHaveRoom, HeadsCountCalls, IsRefusedInRun, IsRunOfPasses, RefusalsInRunsHaveCauses, calls_that_drew}
 use Rattle.nv_runner.specs.Runs.{CleansNothing}
 use Rattle.nv_runner.specs.Shifts.{HasRun, IsShift, Shift}
 use Rattle.nv_runner.specs.Sorted.{AreSortedOut, HaveOwnLines}
@@ -210,7 +211,7 @@ module _ (fds : List Fd) (plan : Plan) (calls : List TracedCall) (made : List Ma
 
     -- what the calls drew HEAD counts
     drawn_now : RunsAreSound → HeadsCountCalls → AreDistinctNumbers (numbers zero.view.ended) → IsRunOf now.view.opened now.view.run
-        → word_then now.view HEAD ≡ now.view.opened.next + entries_of_calls now.view.opened.sizes (drawing_calls made)
+        → word_then now.view HEAD ≡ now.view.opened.next + entries_of_calls now.view.opened.sizes.page (calls_that_drew made)
     drawn_now sound heads distinct is_run_now =
         let mount_now = subst (λ (o : Opened). IsMount (mount_of o)) (sym cleaned.opened) mount in
         heads fds worker made now run_now mount_now
@@ -225,7 +226,7 @@ module _ (fds : List Fd) (plan : Plan) (calls : List TracedCall) (made : List Ma
 
     -- and HEAD comes to no more than the last number
     small_now : RunsAreSound → HeadsCountCalls → AreDistinctNumbers (numbers zero.view.ended) → IsRunOf now.view.opened now.view.run
-        → now.view.opened.next + entries_of_calls now.view.opened.sizes (drawing_calls made) ≤ 2 ^ 60
+        → now.view.opened.next + entries_of_calls now.view.opened.sizes.page (calls_that_drew made) ≤ 2 ^ 60
     small_now sound heads distinct is_run_now =
         let mount_now = subst (λ (o : Opened). IsMount (mount_of o)) (sym cleaned.opened) mount in
         let most = (sound (mount_of now.view.opened) now.view.run mount_now is_run_now).window.small in
@@ -258,8 +259,8 @@ module _ (fds : List Fd) (plan : Plan) (calls : List TracedCall) (made : List Ma
           cause = is.cause;
           seen = λ seen. saw_now (is.seen seen);
           order = omega (arith, order, more);
-          head = subst (λ (o : Opened). word_seen is.now HEAD ≤ o.next + entries_of_calls o.sizes (not_later call (drawing_calls made))) (sym cleaned.opened) is.head;
-          tail = λ none. is.tail none (uncleaned none) ∙ sym (ap (λ (o : Opened). o.next) cleaned.opened);
+          head = subst (λ (o : Opened). word_seen is.now HEAD ≤ o.next + entries_of_calls o.sizes.page (not_later call (calls_that_drew made))) (sym cleaned.opened) is.head;
+          tail = λ none always. is.tail none (uncleaned none) ∙ sym (ap (λ (o : Opened). o.next) cleaned.opened);
           behind = begins_all is.now.view.run zero.view.run now.view.run is.behind (cleaned.more, cleaned.run);
         }
 
@@ -326,7 +327,7 @@ module _ (fds : List Fd) (plan : Plan) (calls : List TracedCall) (made : List Ma
       own = own;
       counted = drawn_now sound heads distinct is_run_now;
       small = small_now sound heads distinct is_run_now;
-      room = λ none. subst (λ (o : Opened). entries_of_calls o.sizes (drawing_calls made) ≤ o.sizes.entries) (sym cleaned.opened)
+      room = λ none. subst (λ (o : Opened). entries_of_calls o.sizes.page (calls_that_drew made) ≤ o.sizes.entries) (sym cleaned.opened)
           (has_room fds worker made zero run mount (whole sound) distinct (without none) (uncleaned (without none)));
     }
 

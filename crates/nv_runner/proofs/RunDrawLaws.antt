@@ -18,13 +18,14 @@ use Rattle.nv_table.specs.state.States.{PassState}
 use Rattle.nv_table.specs.state.Views.{AreDistinctNumbers, numbers, pass_of}
 use Rattle.nv_mount.specs.declared.fds.Fd.{Fd}
 use Rattle.nv_trace.specs.declared.trace_call.TracedCall.{TracedCall}
+use Rattle.nv_runner.specs.Entries.{entries_taken}
 use Rattle.nv_runner.specs.declared.answer.Answer.TheVariants.{Open}
 use Rattle.nv_runner.specs.DrawnNumbers.{DrawnCall}
 use Rattle.nv_runner.specs.Histories.{ComesBefore, KeepOrder, RoundsRise}
 use Rattle.nv_runner.specs.Lists.{MadeCall, calls_made}
 use Rattle.nv_runner.specs.RunNumbers.{HaveDrawn}
-use Rattle.nv_runner.specs.RunRefusals.{IsRunOfPasses, drawing_calls}
-use Rattle.nv_runner.specs.Runs.{entries_taken, has_drawn}
+use Rattle.nv_runner.specs.RunRefusals.{IsRunOfPasses, calls_that_drew}
+use Rattle.nv_runner.specs.Runs.{has_drawn}
 use Rattle.nv_runner.specs.Shifts.{AreInOrder, ComesBehind, HasRun, Shift}
 use Rattle.nv_runner.proofs.DrawOrder.{AreOrdered, call_of, drawing_each, drawing_timed, drew_of_those, drew_so, in_a_row, in_time, keep_order, number_told, numbered, numbered_calls, of_kept, one_drawing, one_kept, takes_by, time_moved, time_rises}
 use Rattle.nv_runner.proofs.DrawTimes.{DrewAt, IsTimedShift, Timed, drew_by, timed_shift}
@@ -102,7 +103,7 @@ module _ (words : WordLaws) (counts : RunsCountDraws) (draws : DrawnLaws) (unmad
       ∙ ap (λ l. l ++ map (λ (t : Timed). t.made) more) (times first (inl refl)).are ∙ ap (λ l. first.made ++ l) (all_are rest (λ s there. times s (inr there)))
 
   all_told : (shifts : List Shift) (times : (s : Shift) → IsOneOf shifts s → TimedShift s) (t : Timed) → IsOneOf (timed_all shifts times) t → (found : ℕ) → t.made.answer ≡ Open found
-      → DrewAt words draws opened mount all whole.is_run t.time (entries_taken sizes t.made.call.call) found
+      → DrewAt words draws opened mount all whole.is_run t.time (entries_taken sizes.page t.made.call.call) found
   all_told [] times t one found is_open = absurd one
   all_told (first ∷ rest) times t one found is_open = elim (one_either (times first (inl refl)).timed (timed_all rest (λ s there. times s (inr there))) t one) [
     | inl here ↦ (times first (inl refl)).told t here found is_open
@@ -231,10 +232,10 @@ module _ (words : WordLaws) (counts : RunsCountDraws) (draws : DrawnLaws) (unmad
       all_ordered run.shifts times_of (λ s there. there) run.in_order a b of_a.0 of_b.0 of_a.1 of_b.1 comes
 
   -- what those had drawn when so many events had come
-  those_drew : (count : ℕ) → added (drew_by sizes count) times ≡ added (takes_by (entries_taken sizes) count) order
-  those_drew count = drew_of_those sizes count times ∙ added_moved (takes_by (entries_taken sizes) count) those order (time_moved those)
+  those_drew : (count : ℕ) → added (drew_by sizes count) times ≡ added (takes_by (entries_taken sizes.page) count) order
+  those_drew count = drew_of_those sizes count times ∙ added_moved (takes_by (entries_taken sizes.page) count) those order (time_moved those)
 
-  told : (call : TracedCall) (number : ℕ) → IsOneOf made (record { call = call; answer = Open number }) → IsOneOf (numbered (entries_taken sizes) opened.next order) (record { call = call; number = number })
+  told : (call : TracedCall) (number : ℕ) → IsOneOf made (record { call = call; answer = Open number }) → IsOneOf (numbered (entries_taken sizes.page) opened.next order) (record { call = call; number = number })
   told call number one =
       let m : MadeCall = record { call = call; answer = Open number } in
       let flat = flat_map (λ (s : Shift). s.made) run.shifts in
@@ -251,23 +252,23 @@ module _ (words : WordLaws) (counts : RunsCountDraws) (draws : DrawnLaws) (unmad
       let next_long = ap (λ count. added (drew_by sizes count) times) at.next_long in
       let those_then = those_drew t.time in
       let those_next = those_drew (t.time + 1) in
-      subst (λ (c : TracedCall). IsOneOf (numbered (entries_taken sizes) opened.next order) (record { call = c; number = number })) (ap (λ (m : MadeCall). m.call) from.2)
-      (number_told (entries_taken sizes) opened.next number order t there (time_rises those) (omega (arith, head, then_is, long, those_then)) (omega (arith, next_head, next_is, next_long, those_next)))
+      subst (λ (c : TracedCall). IsOneOf (numbered (entries_taken sizes.page) opened.next order) (record { call = c; number = number })) (ap (λ (m : MadeCall). m.call) from.2)
+      (number_told (entries_taken sizes.page) opened.next number order t there (time_rises those) (omega (arith, head, then_is, long, those_then)) (omega (arith, next_head, next_is, next_long, those_next)))
 
   pub have_drawn : HaveDrawn sizes opened.next made
   have_drawn =
-      let taken = entries_taken sizes in
+      let taken = entries_taken sizes.page in
       let flat = flat_map (λ (s : Shift). s.made) run.shifts in
       let drawn_calls = numbered taken opened.next order in
       let calls : map (λ (d : DrawnCall). d.call) drawn_calls ≡ map call_of order = numbered_calls taken opened.next order in
-      let flat_drew : drawing_calls flat ≡ map call_of those = ap drawing_calls (sym (all_are run.shifts times_of)) ∙ drawing_timed times in
-      let moved : IsPermutation (drawing_calls made) (drawing_calls flat) =
-      subst (λ l. IsPermutation l (drawing_calls flat)) (sym (drawing_each made)) (subst (λ l. IsPermutation (flat_map one_drawing made) l) (sym (drawing_each flat)) (flat_moved one_drawing made flat run.listed)) in
+      let flat_drew : calls_that_drew flat ≡ map call_of those = ap calls_that_drew (sym (all_are run.shifts times_of)) ∙ drawing_timed times in
+      let moved : IsPermutation (calls_that_drew made) (calls_that_drew flat) =
+      subst (λ l. IsPermutation l (calls_that_drew flat)) (sym (drawing_each made)) (subst (λ l. IsPermutation (flat_map one_drawing made) l) (sym (drawing_each flat)) (flat_moved one_drawing made flat run.listed)) in
       record {
         drew = record {
           drawn = drawn_calls;
-          each_once = subst (λ l. IsPermutation (drawing_calls made) l) (sym calls)
-              (IsPermutation-trans (drawing_calls made) (map call_of those) (map call_of order) (subst (λ l. IsPermutation (drawing_calls made) l) flat_drew moved) (IsPermutation-map call_of those order (time_moved those)));
+          each_once = subst (λ l. IsPermutation (calls_that_drew made) l) (sym calls)
+              (IsPermutation-trans (calls_that_drew made) (map call_of those) (map call_of order) (subst (λ l. IsPermutation (calls_that_drew made) l) flat_drew moved) (IsPermutation-map call_of those order (time_moved those)));
           in_order = subst KeepOrder (sym calls) (keep_order order (time_rises those) ordered);
           row = in_a_row taken opened.next order;
         };

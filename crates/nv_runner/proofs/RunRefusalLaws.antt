@@ -22,12 +22,13 @@ use Rattle.nv_table.specs.state.Views.{AreDistinctNumbers, Past, SeesAll, number
 use Rattle.nv_mount.specs.declared.fds.Fd.{Fd}
 use Rattle.nv_mirror.specs.declared.answers.Refusal.{Refusal}
 use Rattle.nv_trace.specs.declared.trace_call.TracedCall.{TracedCall}
+use Rattle.nv_runner.specs.Entries.{entries_of_calls}
 use Rattle.nv_runner.specs.declared.answer.Answer.TheVariants.{Refused}
 use Rattle.nv_runner.specs.Faithful.{is_later, not_later}
 use Rattle.nv_runner.specs.Histories.{RoundsRise}
 use Rattle.nv_runner.specs.Lists.{MadeCall, calls_made}
 use Rattle.nv_runner.specs.Refusals.{RefusalsHaveCauses, word_seen}
-use Rattle.nv_runner.specs.RunRefusals.{IsRefusedInRun, IsRunOfPasses, drawing_calls, entries_of_calls}
+use Rattle.nv_runner.specs.RunRefusals.{IsRefusedInRun, IsRunOfPasses, calls_that_drew}
 use Rattle.nv_runner.specs.Runs.{CleansNothing, is_cleaning}
 use Rattle.nv_runner.specs.Shifts.{AreInOrder, ComesBehind, HasRun, IsShift, Shift}
 use Rattle.nv_runner.proofs.DrawnSums.{added_most, drew, drew_all, drew_before, drew_total, is_before, listed_total, total_listed}
@@ -197,7 +198,7 @@ module _ (words : WordLaws) (counts : RunsCountDraws) (draws : DrawnLaws) (fds :
   -- ---- room
 
   -- what the calls have drawn the passes have
-  pub room : UnmadeHaveDrawnNothing → AreDistinctNumbers (numbers zero.view.ended) → worker ≡ None → CleansNothing zero.view.number all → entries_of_calls opened.sizes (drawing_calls made) ≤ opened.sizes.entries
+  pub room : UnmadeHaveDrawnNothing → AreDistinctNumbers (numbers zero.view.ended) → worker ≡ None → CleansNothing zero.view.number all → entries_of_calls opened.sizes.page (calls_that_drew made) ≤ opened.sizes.entries
   room unmade distinct none own_clean =
       let core = state_of opened all in
       let counted = counts (mount_of opened) all mount whole.is_run in
@@ -222,7 +223,7 @@ module _ (words : WordLaws) (counts : RunsCountDraws) (draws : DrawnLaws) (fds :
   -- ---- HEAD
 
   pub head_counts : UnmadeHaveDrawnNothing → AreDistinctNumbers (numbers zero.view.ended) → drawn_of zero.view.opened.sizes (pass_of zero.view) ≡ 0
-      → (state_of opened all).words HEAD ≡ opened.next + entries_of_calls opened.sizes (drawing_calls made)
+      → (state_of opened all).words HEAD ≡ opened.next + entries_of_calls opened.sizes.page (calls_that_drew made)
   head_counts unmade distinct idle =
       let core = state_of opened all in
       let counted = counts (mount_of opened) all mount whole.is_run in
@@ -368,7 +369,7 @@ module _ (words : WordLaws) (counts : RunsCountDraws) (draws : DrawnLaws) (fds :
           (nobody_there number ne (λ s s_there same. absent (subst (IsOneOf (map (λ (s : Shift). s.now.view.number) run.shifts)) same (one_mapped (λ (s : Shift). s.now.view.number) run.shifts s s_there))))
     ]
 
-    head_bound : word_seen now HEAD ≤ opened.next + entries_of_calls sizes (not_later call (drawing_calls made))
+    head_bound : word_seen now HEAD ≤ opened.next + entries_of_calls sizes.page (not_later call (calls_that_drew made))
     head_bound =
         let numbers = map (λ (s : Shift). s.now.view.number) run.shifts in
         let there_is = ap (λ (o : Opened). (state_of o now.view.run).words HEAD) now_opened in

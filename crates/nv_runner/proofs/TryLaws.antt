@@ -37,11 +37,12 @@ use Rattle.nv_calls.specs.histories.Tries.{IsTried, Try, WereBusy}
 use Rattle.nv_calls.specs.reads.Reads.{IsReadDone, IsReadOver}
 use Rattle.nv_calls.specs.writes.Writes.{IsWriteOver, IsWritePlaced, IsWriteTried, WereMadeAgain, is_made_again}
 use Rattle.nv_trace.specs.declared.trace_call.TraceCall.{TraceCall}
+use Rattle.nv_runner.specs.Entries.{entries_taken}
 use Rattle.nv_runner.specs.declared.answer.Answer.{Answer}
 use Rattle.nv_trace.specs.declared.trace_call.TraceCall.TheVariants.{Pwrite}
 use Rattle.nv_runner.specs.Calls.{Tells, wants_room}
 use Rattle.nv_runner.specs.OpenWrites.{without_place}
-use Rattle.nv_runner.specs.Runs.{CleansNothing, GoesOn, entries_drawn, entries_if, entries_taken, has_drawn, is_cleaning}
+use Rattle.nv_runner.specs.Runs.{CleansNothing, GoesOn, entries_drawn, entries_if, has_drawn, is_cleaning}
 use Rattle.nv_runner.specs.TryLaws.{BatchesGoOn, SyncsGoOn, WritesGoOn, write_drawn}
 use Rattle.nv_runner.proofs.RefusalSteps.{Stands, own_any, stands}
 use Rattle.nv_runner.proofs.RefusalWords.{WordLaws}
@@ -253,7 +254,7 @@ on_any worker one other old new same on =
 -- ---- answers
 
 -- a call that takes no entries
-pub answer_on : (worker : Option ℕ) (sizes : Sizes) (call : TraceCall) (answer : Answer) (start now : PassState) → entries_taken sizes call ≡ 0 → GoesOn None 0 start now → GoesOn worker (entries_drawn sizes call answer) start now
+pub answer_on : (worker : Option ℕ) (sizes : Sizes) (call : TraceCall) (answer : Answer) (start now : PassState) → entries_taken sizes.page call ≡ 0 → GoesOn None 0 start now → GoesOn worker (entries_drawn sizes call answer) start now
 answer_on worker sizes call answer start now none on = on_any worker 0 _ start now (sym (ap (entries_if (has_drawn answer)) none ∙ none_if (has_drawn answer))) on
 
 -- a write, behind others of its tries
@@ -278,7 +279,7 @@ room_none refusal more sizes at bytes room = refl
 pub write_answer_on : (fds : List Fd) (worker : Option ℕ) (sizes : Sizes) (fd at : ℕ) (bytes : List ℕ) (start now : PassState) (refusal : Refusal) (drawn : Option ℕ) (answer : Answer) → answer ≡ without_place refusal drawn
     → Tells fds worker (Pwrite fd at bytes) start now answer → GoesOn worker (write_drawn sizes at bytes (Err refusal)) start now → GoesOn worker (entries_drawn sizes (Pwrite fd at bytes) answer) start now
 write_answer_on fds worker sizes fd at bytes start now refusal drawn answer is told on =
-    subst (λ n. GoesOn worker n start now) (ap (λ b. entries_if b (entries_taken sizes (Pwrite fd at bytes))) (sym (ap has_drawn is ∙ by refusal drawn (subst (Tells fds worker (Pwrite fd at bytes) start now) is told)))) on
+    subst (λ n. GoesOn worker n start now) (ap (λ b. entries_if b (entries_taken sizes.page (Pwrite fd at bytes))) (sym (ap has_drawn is ∙ by refusal drawn (subst (Tells fds worker (Pwrite fd at bytes) start now) is told)))) on
   where
     by : (refusal : Refusal) (drawn : Option ℕ) → Tells fds worker (Pwrite fd at bytes) start now (without_place refusal drawn) → has_drawn (without_place refusal drawn) ≡ is_fault (Some refusal)
     by RegionFault (Some number) told = refl

@@ -1,14 +1,13 @@
 -- Ended runs: a mount over which calls of a trace were made, and what it tells when pass 0 closes it.
-use Rattle.std.specs.Prelude.{◌≡◌, ℕ, ◌+◌, ◌^◌, ◌≤◌, true, false, List, length, is_none, IsPermutation, Option, Some, None, Result, Ok, Err, IfOk, OnOk, if◌then◌else◌}
+use Rattle.std.specs.Prelude.{◌≡◌, ℕ, ◌+◌, ◌^◌, ◌≤◌, true, false, List, is_none, IsPermutation, Option, Some, None, Result, Ok, Err, IfOk, OnOk, if◌then◌else◌}
 use Rattle.std.specs.List.{flat_map}
 use Rattle.nv_plain.specs.Faults.{Rose}
 use Rattle.nv_plain.specs.declared.call.Reply.{Reply}
 use Rattle.nv_pmem.specs.Steps.{PartHistory}
 use Rattle.nv_store.specs.Steps.{StoreHistory}
-use Rattle.nv_core.specs.invariant.OneHistory.{IsPrefix}
 use Rattle.nv_core.specs.state.Passes.{IsOneOf}
 use Rattle.nv_core.specs.state.Values.{Value}
-use Rattle.nv_core.specs.state.Words.{ORDER, HEAD, TAIL}
+use Rattle.nv_core.specs.state.Words.{HEAD}
 use Rattle.nv_table.specs.invariant.BetweenSteps.{KnowsTaken}
 use Rattle.nv_table.specs.invariant.Idle.{IsIdle}
 use Rattle.nv_table.specs.passes.Alone.{IsAlone}
@@ -18,25 +17,25 @@ use Rattle.nv_mount.specs.LoneWords.{word_then}
 use Rattle.nv_mount.specs.OneHistories.{HasOneHistory}
 use Rattle.nv_mount.specs.RisenCounts.{SawStop, failed_before}
 use Rattle.nv_mount.specs.Telling.{DevicesGoOnTelling, KeepLines}
-use Rattle.nv_mount.specs.WholeRuns.{IsWholeRun, history_then}
+use Rattle.nv_mount.specs.WholeRuns.{IsWholeRun}
 use Rattle.nv_mount.specs.WholeWrites.{CrashesLeaveWholeWrites, faults_then}
 use Rattle.nv_mount.specs.declared.fds.Fd.{Fd}
 use Rattle.nv_mirror.specs.Answers.{IsUnplaced}
 use Rattle.nv_mirror.specs.declared.answers.Refusal.{Refusal}
 use Rattle.nv_calls.specs.histories.Faults.{open_in}
-use Rattle.nv_calls.specs.histories.Heeds.{HasSeenStop}
 use Rattle.nv_trace.specs.declared.trace_call.TracedCall.{TracedCall}
+use Rattle.nv_runner.specs.Entries.{entries_of_calls}
 use Rattle.nv_runner.specs.declared.plan.Plan.{Plan}
 use Rattle.nv_runner.specs.declared.run_error.RunError.{RunError}
 use Rattle.nv_runner.specs.declared.run_error.RunError.TheVariants.{Fault, NoMemory}
 use Rattle.nv_runner.specs.declared.sorted.SortedCalls.{SortedCalls}
 use Rattle.nv_runner.specs.declared.answer.Answer.TheVariants.{Placed, Refused, Open}
-use Rattle.nv_runner.specs.Faithful.{IsWrite, not_later}
+use Rattle.nv_runner.specs.Faithful.{IsWrite}
 use Rattle.nv_runner.specs.Lists.{MadeCall, calls_made}
 use Rattle.nv_runner.specs.OpenRuns.{open_of}
-use Rattle.nv_runner.specs.Refusals.{HasCause, early_of_call, word_seen}
+use Rattle.nv_runner.specs.Refusals.{early_of_call}
 use Rattle.nv_runner.specs.RunNumbers.{HaveDrawn}
-use Rattle.nv_runner.specs.RunRefusals.{drawing_calls, entries_of_calls}
+use Rattle.nv_runner.specs.RunRefusals.{IsRefusedWhile, calls_that_drew}
 use Rattle.nv_runner.specs.Shifts.{HasRun}
 use Rattle.nv_runner.specs.Rounds.{AreCallsOf}
 use Rattle.nv_runner.specs.Sorted.{AreSortedOut, HaveOwnLines, OpenedCall, opened_calls}
@@ -67,17 +66,9 @@ pub record IsClosedBy (zero : PassState) (part_values store_values : List Value)
   pub telling : DevicesGoOnTelling zero parts stores
   pub lines : KeepLines zero.view parts
 
--- A call of a run was refused, by such a cause. Its pass had seen HEAD no higher than the first number and what the calls drew that don't come later than it; ORDER no higher than there are placed
--- calls; and TAIL as it was at opening, where no batch may be run. The run went on behind what it had seen.
-pub record IsRefusedSo (fds : List Fd) (worker : Option ℕ) (made : List MadeCall) (zero : PassState) (call : TracedCall) (refusal : Refusal) : Type 0 where
-  pub now : PassState
-  pub opened : now.view.opened ≡ zero.view.opened
-  pub cause : HasCause fds worker call.call now refusal
-  pub seen : HasSeenStop now → SawStop zero.view
-  pub order : word_seen now ORDER ≤ length (history_then zero.view)
-  pub head : word_seen now HEAD ≤ zero.view.opened.next + entries_of_calls zero.view.opened.sizes (not_later call (drawing_calls made))
-  pub tail : worker ≡ None → word_seen now TAIL ≡ zero.view.opened.next
-  pub behind : IsPrefix now.view.run zero.view.run
+-- why a call of such a run was refused, whatever batches pass 0 has run since
+abbrev pub IsRefusedSo : List Fd → (worker : Option ℕ) → List MadeCall → (zero : PassState) → TracedCall → Refusal → Type 0
+IsRefusedSo fds worker made zero call refusal = IsRefusedWhile (Unit {0}) fds worker made zero call refusal
 
 -- What became of the calls of a trace: passes made them, and pass 0 came to this. All of them were made, and are sorted out, where the run was brought to its end; then the log is empty, unless the
 -- run is one that is stopped. Each is a call of the trace, and no two are of one line. A fault is answered only of a run that isn't, and where a pass has seen STOP set. Each refusal has its cause; the writes that faults ended are the calls that were left open, each of some bytes, which came only where
@@ -95,9 +86,9 @@ pub record HasOutcome (fds : List Fd) (plan : Plan) (calls : List TracedCall) (s
   pub within : AreCallsOf calls made
   pub own : HaveOwnLines (calls_made made)
   pub drawn : HaveDrawn zero.view.opened.sizes zero.view.opened.next made
-  pub counted : word_then zero.view HEAD ≡ zero.view.opened.next + entries_of_calls zero.view.opened.sizes (drawing_calls made)
-  pub small : zero.view.opened.next + entries_of_calls zero.view.opened.sizes (drawing_calls made) ≤ 2 ^ 60
-  pub room : plan.worker ≡ false → entries_of_calls zero.view.opened.sizes (drawing_calls made) ≤ zero.view.opened.sizes.entries
+  pub counted : word_then zero.view HEAD ≡ zero.view.opened.next + entries_of_calls zero.view.opened.sizes.page (calls_that_drew made)
+  pub small : zero.view.opened.next + entries_of_calls zero.view.opened.sizes.page (calls_that_drew made) ≤ 2 ^ 60
+  pub room : plan.worker ≡ false → entries_of_calls zero.view.opened.sizes.page (calls_that_drew made) ≤ zero.view.opened.sizes.entries
 
 -- What is answered of a run that came to this: its error; or its calls, sorted out, or that memory was wanting for that.
 abbrev pub IsOutcomeOf : {T : Type 0} → Result T RunError → List MadeCall → Result SortedCalls RunError → Type 0

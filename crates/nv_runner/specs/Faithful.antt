@@ -1,5 +1,5 @@
 -- Faithful reports: what a run of a trace begins with, and when a report of it is right.
-use Rattle.std.specs.Prelude.{◌≡◌, ℕ, ◌+◌, ◌*◌, ◌^◌, ◌<◌, ◌≤◌, ◌==◌, ◌&&◌, ◌||◌, not, nat_lt, min, if◌then◌else◌, Bool, true, false, List, [], ◌++◌, length, map, filter, sum_by, fold, All, Option, Some, None, MatchOption, slice_index_or, IsPermutation}
+use Rattle.std.specs.Prelude.{◌≡◌, ℕ, ◌+◌, ◌*◌, ◌^◌, ◌<◌, ◌≤◌, ◌==◌, ◌&&◌, ◌||◌, not, nat_lt, min, if◌then◌else◌, Bool, true, false, List, [], ◌++◌, length, map, filter, fold, All, Option, Some, None, MatchOption, slice_index_or, IsPermutation}
 use Rattle.std.specs.List.{zip}
 use Rattle.std.specs.List.Sorted.{IsStrictlyIncreasing}
 use Rattle.nv_plain.specs.declared.call.FileCall.{FileCall}
@@ -21,6 +21,7 @@ use Rattle.nv_trace.specs.declared.report.Refusal.TheVariants.{BadDescriptor, To
 use Rattle.nv_trace.specs.Said.{said_place}
 use Rattle.nv_trace.specs.Traced.{Traced}
 use Rattle.nv_trace.specs.declared.trace.Descriptor.{Descriptor}
+use Rattle.nv_runner.specs.Entries.{entries_of_calls, entries_taken}
 use Rattle.nv_runner.specs.Histories.{KeepOrder, PlacedCall}
 use Rattle.nv_runner.specs.Reports.{NamedFile, OpenCall, Report}
 
@@ -103,16 +104,6 @@ is_allowed descriptors (Fsync fd) = true
 abbrev pub barred : RunSizes → List Descriptor → TraceCall → Option Refusal
 barred sizes descriptors call = if is_allowed descriptors call then barred_there sizes call else Some BadDescriptor
 
--- how many entries a call takes
-abbrev pub entries_taken : RunSizes → TraceCall → ℕ
-entries_taken sizes (Pread fd at len) = 0
-entries_taken sizes (Pwrite fd at bytes) = pages_touched at (length bytes) sizes.page
-entries_taken sizes (Fsync fd) = 0
-
--- and some calls
-abbrev pub entries_of : RunSizes → List TracedCall → ℕ
-entries_of sizes calls = sum_by (λ traced. entries_taken sizes traced.call) calls
-
 -- a call comes later than another: it stands in a later line of its thread, or is of a later round
 abbrev pub is_later : TracedCall → (other : TracedCall) → Bool
 is_later call other = (other.thread == call.thread && nat_lt call.line other.line) || nat_lt call.round other.round
@@ -123,19 +114,19 @@ not_later call calls = filter (λ other. not (is_later call other)) calls
 
 -- a number that a call may find as the next: at most the first one, and what the calls drew that don't come later than it
 abbrev pub MayBeDrawn : Basis → (drew : List TracedCall) → TracedCall → ℕ → Type 0
-MayBeDrawn basis drew call head = head ≤ basis.next + entries_of basis.sizes (not_later call drew)
+MayBeDrawn basis drew call head = head ≤ basis.next + entries_of_calls basis.sizes.page (not_later call drew)
 
 -- The log had no room for a call that takes entries: nothing was retired.
 pub record HadNoRoom (basis : Basis) (drew : List TracedCall) (call : TracedCall) (head tail : ℕ) : Type 0 where
-  pub takes : 0 < entries_taken basis.sizes call.call
+  pub takes : 0 < entries_taken basis.sizes.page call.call
   pub retired : tail ≡ basis.next
-  pub full : tail + basis.sizes.entries < head + entries_taken basis.sizes call.call
+  pub full : tail + basis.sizes.entries < head + entries_taken basis.sizes.page call.call
   pub drawn : MayBeDrawn basis drew call head
 
 -- The numbers were used up for a call that takes entries.
 pub record HadNoNumber (basis : Basis) (drew : List TracedCall) (call : TracedCall) (found : ℕ) : Type 0 where
-  pub takes : 0 < entries_taken basis.sizes call.call
-  pub spent : 2 ^ 60 < found + entries_taken basis.sizes call.call
+  pub takes : 0 < entries_taken basis.sizes.page call.call
+  pub spent : 2 ^ 60 < found + entries_taken basis.sizes.page call.call
   pub drawn : MayBeDrawn basis drew call found
 
 abbrev pub IsReadCall : TraceCall → Type 0
@@ -211,8 +202,8 @@ pub record IsFaithful (failed : Type 0) (worker : Bool) (basis : Basis) (trace :
   -- only a write is left open, where a device failed
   pub left_open : All (IsLeftOpen failed basis (descriptors_in basis.names trace)) (open_calls_of report)
   -- without a worker a write for which the log has no entry left is refused
-  pub room : worker ≡ false → entries_of basis.sizes (drawing_calls report) ≤ basis.sizes.entries
+  pub room : worker ≡ false → entries_of_calls basis.sizes.page (drawing_calls report) ≤ basis.sizes.entries
   -- no number is drawn beyond the last one: a write whose entries would pass it is refused
-  pub numbers : basis.next + entries_of basis.sizes (drawing_calls report) ≤ 2 ^ 60
+  pub numbers : basis.next + entries_of_calls basis.sizes.page (drawing_calls report) ≤ 2 ^ 60
   -- the files are those after the history and then the kept writes, each whole
   pub files : report.files ≡ named basis.names (files_shown basis trace report)

@@ -24,12 +24,13 @@ use Rattle.nv_trace.specs.declared.report.Refusal.{Refusal}
 use Rattle.nv_trace.specs.declared.report.Refusal.TheVariants.{BadDescriptor, TooFar, TooLong, Stopped, Spent, Again, RegionFault, StoreFault}
 use Rattle.nv_trace.specs.declared.trace.Descriptor.{Descriptor}
 use Rattle.nv_trace.specs.declared.trace_call.TracedCall.{TracedCall}
+use Rattle.nv_runner.specs.Entries.{entries_of_calls, entries_taken}
 use Rattle.nv_runner.specs.declared.plan.Plan.{Plan}
 use Rattle.nv_runner.specs.declared.shown.Shown.{Shown}
 use Rattle.nv_runner.specs.declared.sorted.SortedCalls.{SortedCalls}
 use Rattle.nv_runner.specs.DrawnNumbers.{DrewInARow}
 use Rattle.nv_runner.specs.EndedRuns.{HasOutcome, IsClosedBy}
-use Rattle.nv_runner.specs.Faithful.{Basis, IsFaithful, descriptors_in, drawing_calls, entries_of, entries_taken, files_shown, history_of, named, open_calls_of}
+use Rattle.nv_runner.specs.Faithful.{Basis, IsFaithful, descriptors_in, drawing_calls, files_shown, history_of, named, open_calls_of}
 use Rattle.nv_runner.specs.Reports.{Report, ShownRefusal}
 use Rattle.nv_runner.specs.Sorted.{RefusedCall, opened_call, placed_call, refused_call}
 
@@ -106,7 +107,7 @@ abbrev pub RunsAreNumbered : Type 0
 RunsAreNumbered =
     (basis : Basis) (trace : Traced) (fds : List Fd) (plan : Plan) (start zero : PassState) (sorted : SortedCalls) (report : Report)
     → IsMountOf basis trace start.view.opened fds → HasOutcome fds plan trace.calls start (Ok sorted) zero → ShowsCalls basis trace sorted report
-    → (drew : DrewInARow (entries_taken basis.sizes) basis.next (drawing_calls report))
+    → (drew : DrewInARow (entries_taken basis.sizes.page) basis.next (drawing_calls report))
     × All (λ o. IsOneOf drew.drawn (record { call = o.call; number = o.number })) (map opened_call sorted.open_calls.items)
 
 -- Where the log was left empty it goes on with the number that came first, and the entries of the calls of such a report that drew some.
@@ -115,7 +116,7 @@ EmptiedLogsGoOn =
     (basis : Basis) (trace : Traced) (fds : List Fd) (plan : Plan) (start zero : PassState) (sorted : SortedCalls) (part_values store_values : List Value) (parts : List PartHistory)
     (stores : List StoreHistory) (faults placed tail : ℕ) (report : Report)
     → IsMountOf basis trace start.view.opened fds → HasOutcome fds plan trace.calls start (Ok sorted) zero → IsClosedBy zero part_values store_values parts stores faults placed tail
-    → ShowsCalls basis trace sorted report → HasEmptiedLog zero.view → tail ≡ basis.next + entries_of basis.sizes (drawing_calls report)
+    → ShowsCalls basis trace sorted report → HasEmptiedLog zero.view → tail ≡ basis.next + entries_of_calls basis.sizes.page (drawing_calls report)
 
 -- The files after the history that such a report shows are those that the mount's stores have then.
 abbrev pub FilesAreOfTheHistory : Type 0

@@ -1,3 +1,4 @@
+pub mod Entries
 pub mod Runs
 pub mod Calls
 pub mod Lists

@@ -17,9 +17,9 @@ use Rattle.nv_calls.specs.fsync.SyncRuns.{file_of_fd}
 use Rattle.nv_calls.specs.histories.Heeds.{HasSeenStop}
 use Rattle.nv_trace.specs.declared.trace_call.TraceCall.{TraceCall}
 use Rattle.nv_trace.specs.declared.trace_call.TraceCall.TheVariants.{Pread, Pwrite, Fsync}
+use Rattle.nv_runner.specs.Entries.{entries_taken}
 use Rattle.nv_runner.specs.Calls.{IsRefused}
 use Rattle.nv_runner.specs.Faithful.{IsReadCall}
-use Rattle.nv_runner.specs.Runs.{entries_taken}
 
 -- ---- what bars a call
 
@@ -47,14 +47,14 @@ pub record FoundNoPlace (now : PassState) (found : ℕ) : Type 0 where
 
 -- A call that takes entries found HEAD so, and too few numbers are left for them.
 pub record FoundNoNumber (sizes : Sizes) (call : TraceCall) (now : PassState) (found : ℕ) : Type 0 where
-  pub takes : 0 < entries_taken sizes call
-  pub spent : 2 ^ 60 < found + entries_taken sizes call
+  pub takes : 0 < entries_taken sizes.page call
+  pub spent : 2 ^ 60 < found + entries_taken sizes.page call
   pub most : found ≤ word_seen now HEAD
 
 -- A call that takes entries found HEAD and TAIL so, and the log has no room for them; TAIL is no lower than at opening.
 pub record FoundNoRoom (sizes : Sizes) (call : TraceCall) (now : PassState) (head tail : ℕ) : Type 0 where
-  pub takes : 0 < entries_taken sizes call
-  pub full : tail + sizes.entries < head + entries_taken sizes call
+  pub takes : 0 < entries_taken sizes.page call
+  pub full : tail + sizes.entries < head + entries_taken sizes.page call
   pub head_most : head ≤ word_seen now HEAD
   pub tail_least : now.view.opened.next ≤ tail
   pub tail_most : tail ≤ word_seen now TAIL

@@ -1,6 +1,5 @@
 -- Runs: how the run that a pass has seen goes on, and what the pass draws of the log meanwhile.
-use Rattle.std.specs.Prelude.{◌≡◌, ℕ, ◌+◌, Bool, true, false, List, ◌++◌, length, All, Option, None}
-use Rattle.nv_plain.specs.Pieces.{pages_touched}
+use Rattle.std.specs.Prelude.{◌≡◌, ℕ, ◌+◌, Bool, true, false, List, ◌++◌, All, Option, None}
 use Rattle.nv_core.specs.state.Words.{Sizes}
 use Rattle.nv_core.specs.steps.Ops.{Op, ByCleaner}
 use Rattle.nv_core.specs.steps.Events.{Act, BeginsCall, TakesStep, Event}
@@ -8,17 +7,11 @@ use Rattle.nv_core.specs.invariant.Draws.{drawn_of}
 use Rattle.nv_table.specs.state.States.{PassState}
 use Rattle.nv_table.specs.state.Views.{pass_of}
 use Rattle.nv_trace.specs.declared.trace_call.TraceCall.{TraceCall}
-use Rattle.nv_trace.specs.declared.trace_call.TraceCall.TheVariants.{Pread, Pwrite, Fsync}
 use Rattle.nv_runner.specs.declared.answer.Answer.{Answer}
 use Rattle.nv_runner.specs.declared.answer.Answer.TheVariants.{Placed, Refused, Open}
+use Rattle.nv_runner.specs.Entries.{entries_taken}
 
 -- ---- entries
-
--- how many entries of the log a call takes
-abbrev pub entries_taken : Sizes → TraceCall → ℕ
-entries_taken sizes (Pread fd at len) = 0
-entries_taken sizes (Pwrite fd at bytes) = pages_touched at (length bytes) sizes.page
-entries_taken sizes (Fsync fd) = 0
 
 -- A call has drawn these where it has its place, or was left open.
 abbrev pub has_drawn : Answer → Bool
@@ -32,7 +25,7 @@ entries_if false entries = 0
 
 -- how many it has drawn
 abbrev pub entries_drawn : Sizes → TraceCall → Answer → ℕ
-entries_drawn sizes call answer = entries_if (has_drawn answer) (entries_taken sizes call)
+entries_drawn sizes call answer = entries_if (has_drawn answer) (entries_taken sizes.page call)
 
 -- ---- batches
 

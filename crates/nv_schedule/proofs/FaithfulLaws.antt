@@ -23,13 +23,13 @@ use Rattle.nv_trace.specs.declared.report.Refusal.{Refusal}
 use Rattle.nv_trace.specs.declared.report.Refusal.TheVariants.{Again}
 use Rattle.nv_trace.specs.declared.trace_call.TraceCall.{TraceCall}
 use Rattle.nv_trace.specs.declared.trace_call.TracedCall.{TracedCall}
+use Rattle.nv_runner.specs.Entries.{entries_of_calls, entries_taken}
 use Rattle.nv_runner.specs.declared.answer.Answer.TheVariants.{Open}
 use Rattle.nv_runner.specs.declared.plan.Plan.{Plan}
-use Rattle.nv_runner.specs.Faithful.{Basis, WasRefused, barred, descriptors_in, entries_of, not_later}
+use Rattle.nv_runner.specs.Faithful.{Basis, WasRefused, barred, descriptors_in, not_later}
 use Rattle.nv_runner.specs.FaithfulRuns.{IsMountOf, shown_refusal}
 use Rattle.nv_runner.specs.Lists.{MadeCall, calls_made}
 use Rattle.nv_runner.specs.Refusals.{FoundNoRoom, HasCause, IsCause, early_of_call, word_seen}
-use Rattle.nv_runner.specs.Runs as of_core
 use Rattle.nv_runner.specs.Shifts.{calls_of_thread}
 use Rattle.nv_runner.specs.Sorted.{HaveOwnLines, OpenedCall, opened_calls}
 use Rattle.nv_runner.proofs.CauseLaws.{StoodSo, bar_is, is_allowed_so, is_shown, shown_bar, taken_is}
@@ -145,7 +145,7 @@ allowed_as failed basis drew call (Again head tail) None allowed = absurd (true�
 allowed_as failed basis drew call shown None allowed = allowed
 
 module _ (failed : Type 0) (basis : Basis) (trace : Traced) (opened : Opened) (fds : List Fd) (is : IsMountOf basis trace opened fds) (drew : List TracedCall) (call : TracedCall) (now : PassState) (same : now.view.opened ≡ opened)
-    (stopped : HasSeenStop now → failed) (order : word_seen now ORDER < 2 ^ 60) (head_low : word_seen now HEAD ≤ basis.next + entries_of basis.sizes (not_later call drew)) (refusal : mirror.Refusal)
+    (stopped : HasSeenStop now → failed) (order : word_seen now ORDER < 2 ^ 60) (head_low : word_seen now HEAD ≤ basis.next + entries_of_calls basis.sizes.page (not_later call drew)) (refusal : mirror.Refusal)
     (cause : HasCause fds None call.call now refusal) where
   stood : StoodSo failed basis (Some 0) drew call now
   stood = record { stopped = stopped; order = order; head = head_low; tail = λ none. absurd (none-some 0 (sym none)) }
@@ -167,7 +167,7 @@ module _ (failed : Type 0) (basis : Basis) (trace : Traced) (opened : Opened) (f
         sym (bar_is basis trace opened fds is call.call within) ∙ ap shown_bar (ap (λ (o : Opened). early_of_call o.sizes fds call.call) (sym same) ∙ room.free) in
         let shown_is : shown ≡ Again room.head room.tail = some_same (sym shows ∙ ap shown_refusal room.is) in
         let taken = taken_is basis trace opened fds is call.call in
-        let sizes_same = ap (λ (o : Opened). of_core.entries_taken o.sizes call.call) same in
+        let sizes_same = ap (λ (o : Opened). entries_taken o.sizes.page call.call) same in
         let takes = room.found.takes in
         let full = room.found.full in
         let entries_same = ap (λ (o : Opened). o.sizes.entries) same in

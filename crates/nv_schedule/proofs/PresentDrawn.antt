@@ -83,8 +83,9 @@ use Rattle.nv_schedule.specs.Tries.{WereTried}
 use Rattle.nv_schedule.specs.declared.hand.Hand.{Hand}
 use Rattle.nv_schedule.specs.declared.hand.Hand.TheVariants.{Reading, Writing, Syncing}
 use Rattle.nv_schedule.proofs.AnswerLaws.{CallLaws, all_answered, tried_since}
+use Rattle.nv_runner.specs.Entries.{entries_taken}
 use Rattle.nv_runner.specs.declared.answer.Answer.{Answer}
-use Rattle.nv_runner.specs.Runs.{entries_if, entries_taken}
+use Rattle.nv_runner.specs.Runs.{entries_if}
 use Rattle.nv_runner.specs.Runs.{has_drawn as answered_drawn}
 use Rattle.nv_runner.proofs.DrawnSums.{drew}
 use Rattle.nv_runner.proofs.HistorySums.{added, added_append}
@@ -234,7 +235,7 @@ told_same None len reply true (Some number) entries = refl
 told_same None len reply true None entries = refl
 told_same None len reply false drawn entries = refl
 
-told_listed : (sizes : Sizes) (call : TracedCall) (answer : Option Answer) → added (drew sizes) (listed_as call answer) ≡ told_by answer (entries_taken sizes call.call)
+told_listed : (sizes : Sizes) (call : TracedCall) (answer : Option Answer) → added (drew sizes) (listed_as call answer) ≡ told_by answer (entries_taken sizes.page call.call)
 told_listed sizes call None = refl
 told_listed sizes call (Some answer) = omega arith
 
@@ -425,22 +426,22 @@ module _ (laws : WordLaws) (tell : OwnEventsTell) (begun now : PassState) (mount
   nothing_few same = let is = ap (λ (p : PassState). drawn_of begun.view.opened.sizes (pass_of p.view)) same in omega (arith, is)
 
   pub present_few : (fds : List Fd) (call : TraceCall) (hand : Hand) → IsTrying fds call hand begun now
-      → drawn_of begun.view.opened.sizes (pass_of now.view) ≤ drawn_of begun.view.opened.sizes (pass_of begun.view) + told_by (told_at_hand hand (drawn_by now.view)) (entries_taken begun.view.opened.sizes call)
+      → drawn_of begun.view.opened.sizes (pass_of now.view) ≤ drawn_of begun.view.opened.sizes (pass_of begun.view) + told_by (told_at_hand hand (drawn_by now.view)) (entries_taken begun.view.opened.sizes.page call)
   present_few fds call (Reading r) t = let few = at_read r.machine.control t.1.stands in omega (arith, few)
     where
       at_read : (control : ReadControl) → reads.StandsAt fds r.machine r.list.items begun now control → drawn_of begun.view.opened.sizes (pass_of now.view) ≤ drawn_of begun.view.opened.sizes (pass_of begun.view)
       at_read read_controls.Begin s = nothing_few s.1
       at_read (read_controls.Running running) s = read_few (Read s.1.file r.machine.at r.machine.len) _ _ running refl s.0 s.1.way.stands
   present_few fds call (Writing m) t =
-      subst (λ (c : TraceCall). drawn_of begun.view.opened.sizes (pass_of now.view) ≤ drawn_of begun.view.opened.sizes (pass_of begun.view) + told_by (told_at_hand (Writing m) (drawn_by now.view)) (entries_taken begun.view.opened.sizes c)) (sym t.1)
+      subst (λ (c : TraceCall). drawn_of begun.view.opened.sizes (pass_of now.view) ≤ drawn_of begun.view.opened.sizes (pass_of begun.view) + told_by (told_at_hand (Writing m) (drawn_by now.view)) (entries_taken begun.view.opened.sizes.page c)) (sym t.1)
       (at_write m.control t.2.stands)
     where
       at_write : (control : WriteControl) → writes.StandsAt fds m t.0 begun now control → drawn_of begun.view.opened.sizes (pass_of now.view) ≤ drawn_of begun.view.opened.sizes (pass_of begun.view)
-          + told_by (either_of (placed_answer (done_at m.len (writes.place_at control)) (reply_at_hand (Writing m))) (open_answer (has_drawn control) (drawn_by now.view))) (entries_taken begun.view.opened.sizes (Pwrite m.fd m.at t.0))
+          + told_by (either_of (placed_answer (done_at m.len (writes.place_at control)) (reply_at_hand (Writing m))) (open_answer (has_drawn control) (drawn_by now.view))) (entries_taken begun.view.opened.sizes.page (Pwrite m.fd m.at t.0))
       at_write write_controls.Begin s = let few = nothing_few s.1 in omega (arith, few)
       at_write (write_controls.Running w) s =
           let few = write_few (Write s.2.file m.at t.0) s.1 w s.0 s.2.way in
-          let same = told_same (write_place w) m.len (reply_at_hand (Writing m)) (has_drawn (Running w)) (drawn_by now.view) (entries_taken begun.view.opened.sizes (Pwrite m.fd m.at t.0)) in
+          let same = told_same (write_place w) m.len (reply_at_hand (Writing m)) (has_drawn (Running w)) (drawn_by now.view) (entries_taken begun.view.opened.sizes.page (Pwrite m.fd m.at t.0)) in
           omega (arith, few, same)
   present_few fds call (Syncing m) t = let few = at_sync m.control t.1 in omega (arith, few)
     where
@@ -527,7 +528,7 @@ thread_few words tell laws fds thread start now mount idle none come =
         let begun_same = since.opened ∙ same in
         let begun_is = ap (λ (o : Opened). drawn_of o.sizes (pass_of begun.view)) begun_same in
         let last_is = ap (λ (o : Opened). drawn_of o.sizes (pass_of last.view)) same in
-        let more = subst (λ (o : Opened). drawn_of o.sizes (pass_of now.view) ≤ drawn_of o.sizes (pass_of begun.view) + told_by (told_at_hand hand (drawn_by now.view)) (entries_taken o.sizes call.call)) begun_same
+        let more = subst (λ (o : Opened). drawn_of o.sizes (pass_of now.view) ≤ drawn_of o.sizes (pass_of begun.view) + told_by (told_at_hand hand (drawn_by now.view)) (entries_taken o.sizes.page call.call)) begun_same
         (present_few words tell begun now (subst (λ (o : Opened). IsMount (mount_of o)) (sym since.opened) last_mount) fds call.call hand at.2) in
         let told_is = told_listed start.view.opened.sizes call (told_at_hand hand (drawn_by now.view)) in
         omega (arith, few, begun_is, last_is, more, told_is)

@@ -29,6 +29,7 @@ use Rattle.nv_mirror.specs.declared.answers.Done.{Done}
 use Rattle.nv_mirror.specs.declared.answers.Refusal.{Refusal}
 use Rattle.nv_trace.specs.declared.token.Token.{Token}
 use Rattle.nv_trace.specs.declared.trace_call.TracedCall.{TracedCall}
+use Rattle.nv_runner.specs.Entries.{entries_of_calls}
 use Rattle.nv_runner.specs.declared.answer.Answer.{Answer}
 use Rattle.nv_runner.specs.declared.answer.Answer.TheVariants.{Refused}
 use Rattle.nv_runner.specs.Faithful.{is_later, not_later}
@@ -36,7 +37,7 @@ use Rattle.nv_runner.specs.Lists.{MadeCall, calls_made, placed}
 use Rattle.nv_runner.specs.Refusals as refusals
 use Rattle.nv_runner.specs.Refusals.{word_seen}
 use Rattle.nv_runner.specs.Rounds.{AreInLineOrder}
-use Rattle.nv_runner.specs.RunRefusals.{drawing_calls, entries_of_calls}
+use Rattle.nv_runner.specs.RunRefusals.{calls_that_drew}
 use Rattle.nv_runner.proofs.DrawnSums.{added_most, drew, drew_all, drew_before, is_before, total_listed}
 use Rattle.nv_runner.proofs.HistoryMembers.{contained, of_one, one_either, one_left, one_mapped, one_right}
 use Rattle.nv_runner.proofs.HistorySums.{added, added_append, added_joined, added_mapped, added_moved, added_same}
@@ -361,7 +362,7 @@ module _ (words : WordLaws) (call_laws : CallLaws) (causes : refusals.RefusalsHa
             (past_listed mount tokens calls batch done then_ zero_then placed_count followed history order one there_one))))
       ]
 
-      head_bound : word_seen at.now HEAD ≤ opened.next + entries_of_calls sizes (not_later call (drawing_calls (all_listed then_)))
+      head_bound : word_seen at.now HEAD ≤ opened.next + entries_of_calls sizes.page (not_later call (calls_that_drew (all_listed then_)))
       head_bound =
           let mine = shares_from 0 followed.first then_ in
           let there_is = ap (λ (o : Opened). (state_of o at.now.view.run).words HEAD) now_opened in

@@ -23,16 +23,17 @@ use Rattle.nv_trace.specs.Traced.{Traced, lines_in}
 use Rattle.nv_trace.specs.declared.report.Fate.TheVariants.{Lost}
 use Rattle.nv_trace.specs.declared.report.Refusal.{Refusal}
 use Rattle.nv_trace.specs.declared.trace_call.TracedCall.{TracedCall}
+use Rattle.nv_runner.specs.Entries.{entries_of_calls}
 use Rattle.nv_runner.specs.declared.answer.Answer.TheVariants.{Open, Refused}
 use Rattle.nv_runner.specs.declared.sorted.SortedCalls.{SortedCalls}
 use Rattle.nv_runner.specs.EndedRuns.{IsClosedBy}
 use Rattle.nv_runner.specs.Faithful as report_of
-use Rattle.nv_runner.specs.Faithful.{Basis, barred, descriptors_in, entries_of, files_shown, named, not_later, open_calls_of}
+use Rattle.nv_runner.specs.Faithful.{Basis, barred, descriptors_in, files_shown, named, not_later, open_calls_of}
 use Rattle.nv_runner.specs.FaithfulRuns.{IsMountOf, ShowsCalls, shown_as, shown_one, shown_refusal, shown_refusals}
 use Rattle.nv_runner.specs.Histories.{PlacedCall, StandsAs}
 use Rattle.nv_runner.specs.Lists.{MadeCall, made_calls}
 use Rattle.nv_runner.specs.Reports.{OpenCall, Report, ShownRefusal}
-use Rattle.nv_runner.specs.RunRefusals.{drawing_calls, entries_of_calls}
+use Rattle.nv_runner.specs.RunRefusals.{calls_that_drew}
 use Rattle.nv_runner.specs.Sorted.{AreSortedOut, HaveOwnLines, OpenedCall, RefusedCall, opened_call, opened_made, placed_call, placed_made, refused_call, refused_made}
 use Rattle.nv_runner.specs.Told.{AreTold}
 use Rattle.nv_runner.proofs.CauseLaws.{bar_is, drawn_before, entries_alike, shown_bar}
@@ -72,19 +73,19 @@ lost_are (o ∷ later) = ap (λ (l : List TracedCall). o.call ∷ l) (lost_are l
 abbrev as_open : TracedCall → MadeCall
 as_open call = record { call = call; answer = Open 0 }
 
-drawing_open : (calls : List TracedCall) → drawing_calls (map as_open calls) ≡ calls
+drawing_open : (calls : List TracedCall) → calls_that_drew (map as_open calls) ≡ calls
 drawing_open [] = refl
 drawing_open (call ∷ later) = ap (λ (l : List TracedCall). call ∷ l) (drawing_open later)
 
-before_sum : (sizes : Sizes) (call : TracedCall) (calls : List TracedCall) → entries_of_calls sizes (not_later call calls) ≡ added (drew_before sizes call) (map as_open calls)
-before_sum sizes call calls = ap (λ (l : List TracedCall). entries_of_calls sizes (not_later call l)) (sym (drawing_open calls)) ∙ sym (drew_all sizes call (map as_open calls))
+before_sum : (sizes : Sizes) (call : TracedCall) (calls : List TracedCall) → entries_of_calls sizes.page (not_later call calls) ≡ added (drew_before sizes call) (map as_open calls)
+before_sum sizes call calls = ap (λ (l : List TracedCall). entries_of_calls sizes.page (not_later call l)) (sym (drawing_open calls)) ∙ sym (drew_all sizes call (map as_open calls))
 
 mapped_both : (xs ys : List TracedCall) → map as_open (xs ++ ys) ≡ map as_open xs ++ map as_open ys
 mapped_both [] ys = refl
 mapped_both (x ∷ xs) ys = ap (λ (l : List MadeCall). as_open x ∷ l) (mapped_both xs ys)
 
 before_more : (sizes : Sizes) (call : TracedCall) (front some more all : List TracedCall) → IsPermutation (some ++ more) all
-    → entries_of_calls sizes (not_later call (front ++ some)) ≤ entries_of_calls sizes (not_later call (front ++ all))
+    → entries_of_calls sizes.page (not_later call (front ++ some)) ≤ entries_of_calls sizes.page (not_later call (front ++ all))
 before_more sizes call front some more all moved =
     let count = drew_before sizes call in
     let left = before_sum sizes call (front ++ some) ∙ ap (added (drew_before sizes call)) (mapped_both front some) ∙ added_append (drew_before sizes call) (map as_open front) (map as_open some) in
@@ -184,15 +185,15 @@ module _ (laws : RefusalLaws) (basis : Basis) (trace : Traced) (mount : MountSta
 
   -- ---- what was drawn
 
-  head_low : (call : TracedCall) → end.view.opened.next + entries_of_calls end.view.opened.sizes (not_later call (drawing_calls (made_calls told.answered.items)))
-      ≤ basis.next + entries_of basis.sizes (not_later call (report_of.drawing_calls report))
+  head_low : (call : TracedCall) → end.view.opened.next + entries_of_calls end.view.opened.sizes.page (not_later call (calls_that_drew (made_calls told.answered.items)))
+      ≤ basis.next + entries_of_calls basis.sizes.page (not_later call (report_of.drawing_calls report))
   head_low call =
       let ones = map (λ (p : PlacedCall). p.call) placed_ones in
       let left = map (λ (o : OpenedCall). o.call) open_ones in
       let drew = drawn_before end.view.opened.sizes call (made_calls told.answered.items) placed_ones refused_ones open_ones out.listed in
       let more = before_more end.view.opened.sizes call ones left (unanswered_calls told) (open_calls_of report) shows.open_calls in
       let placed_is : map (λ (p : PlacedCall). p.call) report.history ≡ ones = ap (map (λ (p : PlacedCall). p.call)) shows.history in
-      let shown = ap (λ (l : List TracedCall). entries_of_calls end.view.opened.sizes (not_later call (l ++ open_calls_of report))) placed_is in
+      let shown = ap (λ (l : List TracedCall). entries_of_calls end.view.opened.sizes.page (not_later call (l ++ open_calls_of report))) placed_is in
       let alike = entries_alike basis trace end.view.opened mount.fds there (not_later call (report_of.drawing_calls report)) in
       let next = there.next in
       omega (arith, drew, more, shown, alike, next)

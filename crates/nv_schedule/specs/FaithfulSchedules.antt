@@ -10,8 +10,9 @@ use Rattle.nv_table.specs.state.Opened.{mount_of}
 use Rattle.nv_table.specs.state.States.{PassState}
 use Rattle.nv_mount.specs.Mounts.{MountState}
 use Rattle.nv_mount.specs.RisenCounts.{SawStop}
+use Rattle.nv_runner.specs.Entries.{entries_taken}
 use Rattle.nv_runner.specs.EndedRuns.{IsClosedBy}
-use Rattle.nv_runner.specs.Faithful.{Basis, HadNoNumber, IsReadCall, MayBeDrawn, barred, descriptors_in, drawing_calls, entries_taken, files_shown, history_of, listed_calls, named, open_calls_of, placed_calls}
+use Rattle.nv_runner.specs.Faithful.{Basis, HadNoNumber, IsReadCall, MayBeDrawn, barred, descriptors_in, drawing_calls, files_shown, history_of, listed_calls, named, open_calls_of, placed_calls}
 use Rattle.nv_runner.specs.FaithfulRuns.{IsMountOf, shown_refusals}
 use Rattle.nv_runner.specs.Histories.{KeepOrder}
 use Rattle.nv_runner.specs.Lists.{made_calls}
@@ -35,9 +36,9 @@ use Rattle.nv_schedule.specs.declared.scheduled.ScheduledCalls.{ScheduledCalls}
 
 -- The log had no room for a call that takes entries, whatever a cleaner had retired by then.
 pub record HadNoRoomThen (basis : Basis) (drew : List TracedCall) (call : TracedCall) (head tail : ℕ) : Type 0 where
-  pub takes : 0 < entries_taken basis.sizes call.call
+  pub takes : 0 < entries_taken basis.sizes.page call.call
   pub retired : basis.next ≤ tail
-  pub full : tail + basis.sizes.entries < head + entries_taken basis.sizes call.call
+  pub full : tail + basis.sizes.entries < head + entries_taken basis.sizes.page call.call
   pub drawn : MayBeDrawn basis drew call head
 
 -- Why a call was refused that its arguments don't bar: no number was left, or no room in the log; or, where devices failed, it was made after that, or was the read that met it.

@@ -16,13 +16,14 @@ use Rattle.nv_mount.specs.WholeRuns.{history_then}
 use Rattle.nv_mount.specs.declared.fds.Fd.{Fd}
 use Rattle.nv_mirror.specs.declared.answers.Refusal.{Refusal}
 use Rattle.nv_calls.specs.histories.Heeds.{HasSeenStop}
+use Rattle.nv_runner.specs.Entries.{entries_of_calls}
 use Rattle.nv_runner.specs.declared.answer.Answer.TheVariants.{Placed, Refused}
 use Rattle.nv_runner.specs.EndedRuns.{IsClosedBy}
 use Rattle.nv_runner.specs.Faithful.{not_later}
 use Rattle.nv_runner.specs.Lists.{MadeCall, made_calls}
 use Rattle.nv_runner.specs.Refusals.{HasCause, early_of_call, word_seen}
 use Rattle.nv_runner.specs.Rounds.{AreInLineOrder}
-use Rattle.nv_runner.specs.RunRefusals.{drawing_calls, entries_of_calls}
+use Rattle.nv_runner.specs.RunRefusals.{calls_that_drew}
 use Rattle.nv_trace.specs.declared.token.Token.{Token}
 use Rattle.nv_trace.specs.declared.trace_call.TracedCall.{TracedCall}
 use Rattle.nv_schedule.specs.Scheduled.{AreCallsOf, HasFollowed}
@@ -38,7 +39,7 @@ pub record IsRefusedThere (fds : List Fd) (listed : List MadeCall) (zero : PassS
   pub cause : HasCause fds None call.call now refusal
   pub seen : HasSeenStop now → SawStop zero.view
   pub order : word_seen now ORDER ≤ length (history_then zero.view)
-  pub head : word_seen now HEAD ≤ zero.view.opened.next + entries_of_calls zero.view.opened.sizes (not_later call (drawing_calls listed))
+  pub head : word_seen now HEAD ≤ zero.view.opened.next + entries_of_calls zero.view.opened.sizes.page (not_later call (calls_that_drew listed))
   pub tail : word_seen now TAIL ≤ word_then zero.view TAIL
 
 -- So is each call that a schedule of a trace without rounds lists as refused.

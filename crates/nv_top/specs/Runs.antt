@@ -14,7 +14,8 @@ use Rattle.nv_table.specs.state.States.{PassState}
 use Rattle.nv_mount.specs.Mounts.{MountState}
 use Rattle.nv_mount.specs.Telling.{HasLongParts, IsTelling}
 use Rattle.nv_trace.specs.Traced.{Traced}
-use Rattle.nv_runner.specs.Faithful.{Basis, IsFaithful, drawing_calls, entries_of, files_shown}
+use Rattle.nv_runner.specs.Entries.{entries_of_calls}
+use Rattle.nv_runner.specs.Faithful.{Basis, IsFaithful, drawing_calls, files_shown}
 use Rattle.nv_runner.specs.FaithfulRuns.{IsMountOf}
 use Rattle.nv_runner.specs.Reports.{Report}
 use Rattle.nv_top.specs.Leaving.{AreLeft}
@@ -44,7 +45,7 @@ pub record BeginsMount (basis : Basis) (trace : Traced) (mount : MountState) (pa
 
 -- the number behind the last that the calls of a report drew
 abbrev pub next_behind : Basis → Report → ℕ
-next_behind basis report = basis.next + entries_of basis.sizes (drawing_calls report)
+next_behind basis report = basis.next + entries_of_calls basis.sizes.page (drawing_calls report)
 
 -- A trace was run from a basis, with a worker or not, by which no device failed: the text shows a faithful report, and the devices are
 -- left with the files of it, the region with its sizes, and its log goes on behind what was drawn.

@@ -21,8 +21,9 @@ use Rattle.nv_trace.specs.Traced.{Traced}
 use Rattle.nv_trace.specs.declared.report.Fate.{Fate}
 use Rattle.nv_trace.specs.declared.trace_call.TracedCall.{TracedCall}
 use Rattle.nv_core.specs.state.Passes.{IsOneOf}
+use Rattle.nv_runner.specs.Entries.{entries_taken}
 use Rattle.nv_runner.specs.DrawnNumbers.{DrawnCall, DrewInARow}
-use Rattle.nv_runner.specs.Faithful.{Basis, IsFaithful, drawing_calls, entries_taken, files_shown}
+use Rattle.nv_runner.specs.Faithful.{Basis, IsFaithful, drawing_calls, files_shown}
 use Rattle.nv_top.specs.Fates.{AreShownOpen, fate_of}
 use Rattle.nv_top.specs.Outcomes.{shown_report}
 use Rattle.nv_top.specs.Readings.{HavePlainNames}
@@ -125,7 +126,7 @@ HasFate parts files drawn o =
 
 -- The placed and the open calls drew their numbers in a row, from the basis' next one on; and each open one is kept or lost by its number, as the log says that stands in these parts.
 pub record HaveFates (basis : Basis) (parts : List Part) (report : Report) : Type 0 where
-  pub drew : DrewInARow (entries_taken basis.sizes) basis.next (drawing_calls report)
+  pub drew : DrewInARow (entries_taken basis.sizes.page) basis.next (drawing_calls report)
   pub each : All (HasFate parts basis.files drew.drawn) report.open_calls
 
 -- The text is that of a faithful report of a run of the trace, whose fates are those of the parts as power left them, and the bench rests
