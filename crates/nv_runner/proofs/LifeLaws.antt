@@ -52,7 +52,7 @@ use Rattle.nv_runner.proofs.ToldLaws.{history_of_others}
 -- ---- calls, sorted
 
 -- each is no lower than those before it
-abbrev Rising : {X : Type 0} (key : X → ℕ) → List X → Type 0
+abbrev pub Rising : {X : Type 0} (key : X → ℕ) → List X → Type 0
 Rising key [] = Unit {0}
 Rising key (x ∷ xs) = All (λ y. key x ≤ key y) xs × Rising key xs
 
@@ -74,14 +74,14 @@ put {X} key x (y ∷ ys) rising =
       )
     ]
 
-sorted_by : {X : Type 0} (key : X → ℕ) (xs : List X) → (ys : List X) × IsPermutation xs ys × Rising key ys
+pub sorted_by : {X : Type 0} (key : X → ℕ) (xs : List X) → (ys : List X) × IsPermutation xs ys × Rising key ys
 sorted_by key [] = ([], IsPermutation-refl [], tt)
 sorted_by key (x ∷ xs) =
     let rest = sorted_by key xs in
     let all = put key x rest.0 rest.2 in
     (all.0, IsPermutation-trans (x ∷ xs) (x ∷ rest.0) all.0 (IsPermutation-append_right (x ∷ []) xs rest.0 rest.1) all.1, all.2)
 
-falls_nowhere : {X : Type 0} (key : X → ℕ) (xs : List X) → Rising key xs → IsNonDecreasingBy key xs
+pub falls_nowhere : {X : Type 0} (key : X → ℕ) (xs : List X) → Rising key xs → IsNonDecreasingBy key xs
 falls_nowhere key [] rising i j d before within = absurd (omega (arith, within))
 falls_nowhere key (x ∷ xs) rising zero zero d before within = omega arith
 falls_nowhere key (x ∷ xs) rising (suc i) zero d before within = absurd (omega (arith, before))
@@ -91,7 +91,7 @@ falls_nowhere key (x ∷ xs) rising (suc i) (suc j) d before within = falls_nowh
 -- ---- calls that were left open
 
 -- those of some that are kept, with their lines
-record Kept (on_file : TraceCall → FileCall) (writes : List FileCall) (left : List OpenedCall) : Type 0 where
+pub record Kept (on_file : TraceCall → FileCall) (writes : List FileCall) (left : List OpenedCall) : Type 0 where
   pub calls : List TracedCall
   pub are : map (λ (call : TracedCall). on_file call.call) calls ≡ writes
   pub among : (call : TracedCall) → IsOneOf calls call → IsOneOf (map (λ (o : OpenedCall). o.call) left) call
@@ -118,7 +118,7 @@ module _ (fds : List Fd) (on_file : TraceCall → FileCall) (on_files : CallsOnF
   some_kept o left None of rest = more_left (kept_open first groups (flat_map (open_of fds) left)) o left rest
   some_kept o left (Some file) of rest = one_kept o left file (is_kept_open first groups (record { call = call_on o.call.call file; first = o.number })) of rest
 
-  kept_of : (left : List OpenedCall) → Kept on_file (kept_open first groups (flat_map (open_of fds) left)) left
+  pub kept_of : (left : List OpenedCall) → Kept on_file (kept_open first groups (flat_map (open_of fds) left)) left
   kept_of [] = record { calls = []; are = refl; among = λ call one. one; few = λ n. omega arith }
   kept_of (o ∷ left) = some_kept o left (file_of_fd fds (fd_of o.call.call)) refl (kept_of left)
 
@@ -141,7 +141,7 @@ both_few n (m ∷ later) =
     omega (arith, one, rest, placed, opened)
 
 -- calls with a place, and some of those left open, are each of a line of its own
-own_lines : (made : List MadeCall) (history : List PlacedCall) (kept : List TracedCall) → HaveOwnLines (calls_made made) → IsPermutation (placed_calls made) history
+pub own_lines : (made : List MadeCall) (history : List PlacedCall) (kept : List TracedCall) → HaveOwnLines (calls_made made) → IsPermutation (placed_calls made) history
     → ((n : ℕ) → added (λ (call : TracedCall). if_same n call.line) kept ≤ added (λ (o : OpenedCall). if_same n o.call.line) (opened_calls made))
     → HaveOwnLines (map (λ (p : PlacedCall). p.call) history ++ kept)
 own_lines made history kept own moved few =
@@ -163,13 +163,13 @@ own_lines made history kept own moved few =
 
 -- ---- members
 
-placed_among : (call : TracedCall) (answer : Answer) (p : PlacedCall) → IsOneOf (placed_in_answer call answer) p → p.call ≡ call
+pub placed_among : (call : TracedCall) (answer : Answer) (p : PlacedCall) → IsOneOf (placed_in_answer call answer) p → p.call ≡ call
 placed_among call (Placed place reply) p (inl is) = ap (λ (p : PlacedCall). p.call) is
 placed_among call (Placed place reply) p (inr none) = absurd none
 placed_among call (Refused refusal) p one = absurd one
 placed_among call (Open number) p one = absurd one
 
-opened_among : (call : TracedCall) (answer : Answer) (o : OpenedCall) → IsOneOf (opened_in_answer call answer) o → o.call ≡ call
+pub opened_among : (call : TracedCall) (answer : Answer) (o : OpenedCall) → IsOneOf (opened_in_answer call answer) o → o.call ≡ call
 opened_among call (Placed place reply) o one = absurd one
 opened_among call (Refused refusal) o one = absurd one
 opened_among call (Open number) o (inl is) = ap (λ (o : OpenedCall). o.call) is

@@ -2,7 +2,7 @@
 use Rattle.std.proofs.Common.{◌≡◌, ℕ, suc, ◌+◌, ◌<◌, List, [], ◌∷◌, ◌++◌, length, map, inl, inr, refl, sym, ap, ap₂, subst, ◌∙◌, arith, append_assoc}
 use Rattle.std.specs.Prelude.{All, IsPermutation, Ok, slice_index_or}
 use Rattle.std.specs.List.{flat_map, range_with_len}
-use Rattle.std.specs.List.Sorted.{IsStrictlyIncreasing}
+use Rattle.std.specs.List.Sorted.{IsNonDecreasingBy, IsStrictlyIncreasing}
 use Rattle.std.proofs.lemmas.Bool.{cases_eq}
 use Rattle.std.proofs.lemmas.List.{map-append}
 use Rattle.std.proofs.lemmas.List.Elements.{All-cons, All-nil}
@@ -17,9 +17,8 @@ use Rattle.nv_mount.specs.Mounts.{MountState}
 use Rattle.nv_mount.specs.OneHistories.{HasOneHistory}
 use Rattle.nv_mount.specs.WholeRuns.{history_then}
 use Rattle.nv_mount.specs.declared.fds.Fd.{Fd}
-use Rattle.nv_trace.specs.declared.token.Token.{Token}
 use Rattle.nv_trace.specs.declared.trace_call.TracedCall.{TracedCall}
-use Rattle.nv_runner.specs.Histories.{PlacedCall}
+use Rattle.nv_runner.specs.Histories.{AreHistory, PlacedCall, placed_calls}
 use Rattle.nv_runner.specs.Lists.{MadeCall, Stand, calls_made, made_calls, placed}
 use Rattle.nv_runner.specs.Rounds.{AreInLineOrder}
 use Rattle.nv_runner.specs.Shifts.{calls_of_thread}
@@ -31,20 +30,18 @@ use Rattle.nv_runner.proofs.LineLaws.{open_in_lines, refused_in_lines}
 use Rattle.nv_runner.proofs.RoundLists.{distinct_range, in_range}
 use Rattle.nv_schedule.specs.Begun.{listed_calls, unanswered_calls}
 use Rattle.nv_schedule.specs.Growing.{number_of}
-use Rattle.nv_schedule.specs.Listed.{all_listed, listed, listed_by, unanswered}
-use Rattle.nv_schedule.specs.Scheduled.{HasFollowed}
+use Rattle.nv_schedule.specs.Listed.{all_listed, all_unanswered, listed, listed_by, unanswered}
+use Rattle.nv_schedule.specs.Scheduled.{HaveCalled}
 use Rattle.nv_schedule.specs.Shares.{AreShares, IsShareOf, Share}
-use Rattle.nv_schedule.specs.SortedOut.{SchedulesAreLegal, SchedulesAreTold}
+use Rattle.nv_schedule.specs.SortedOut.{AreOfOneRound, SchedulesAreLegal, SchedulesAreTold}
 use Rattle.nv_schedule.specs.Told.{IsToldOfWork}
 use Rattle.nv_schedule.specs.Turns.{CallerState}
 use Rattle.nv_schedule.specs.declared.caller.Work.{Work}
 use Rattle.nv_schedule.specs.declared.caller.Work.TheVariants.{Calls, Batches}
-use Rattle.nv_schedule.specs.declared.schedule_error.ScheduleError.{ScheduleError}
-use Rattle.nv_schedule.proofs.BegunLaws.{AreFirstOf, any_caller, begun_within, nine, own_first, schedules_begin}
+use Rattle.nv_schedule.proofs.BegunLaws.{AreFirstOf, any_caller, begun_within, called_begin, called_of, own_first, schedules_begin}
 use Rattle.nv_schedule.proofs.EndLaws.{past_of_some, stood_number}
 use Rattle.nv_schedule.proofs.ShareLaws.{shares_are_history}
 use Rattle.nv_schedule.proofs.ThreadLists.{front_rises, kept_one, thread_rises}
-use Rattle.std.specs.Prelude.{Result}
 
 -- ---- a caller's share
 
@@ -141,15 +138,13 @@ parts_alone placed refused opened =
 
 -- ---- of a schedule
 
-module _ (mount : MountState) (tokens : List Token) (calls : List TracedCall) (batch : ℕ) (done : Result (Unit {0}) ScheduleError) (then_ : List CallerState) (zero_then : PassState) (placed_count : ℕ)
-    (followed : HasFollowed mount tokens calls batch done then_ zero_then) (history : HasOneHistory zero_then.view placed_count) (order : AreInLineOrder calls) where
-  pub told_first : (i : ℕ) (d : CallerState) → i < length followed.first → AreFirstOf (calls_of_thread i calls) (calls_made (listed (slice_index_or then_ i d))) (unanswered (slice_index_or then_ i d))
-  told_first i d less =
-      let long = nine mount calls batch followed.first then_ followed.works followed.come followed.count in
-      own_first mount calls batch followed.first then_ followed.works followed.come followed.count i d (omega (arith, less, long))
+module _ (mount : MountState) (calls : List TracedCall) (batch : ℕ) (then_ : List CallerState) (zero_then : PassState) (placed_count : ℕ) (called : HaveCalled mount calls batch then_ zero_then)
+    (history : HasOneHistory zero_then.view placed_count) (order : AreInLineOrder calls) where
+  pub told_first : (i : ℕ) (d : CallerState) → i < length called.first → AreFirstOf (calls_of_thread i calls) (calls_made (listed (slice_index_or then_ i d))) (unanswered (slice_index_or then_ i d))
+  told_first i d less = own_first mount calls batch called.first then_ called.unmade called.works called.come called.count i d less
 
   -- what is listed of it are calls of its thread in the trace
-  pub told_there : (i : ℕ) (d : CallerState) → i < length followed.first → (m : MadeCall) → IsOneOf (listed (slice_index_or then_ i d)) m → IsOneOf calls m.call × (m.call.thread ≡ i)
+  pub told_there : (i : ℕ) (d : CallerState) → i < length called.first → (m : MadeCall) → IsOneOf (listed (slice_index_or then_ i d)) m → IsOneOf calls m.call × (m.call.thread ≡ i)
   told_there i d less m one =
       let told = calls_made (listed (slice_index_or then_ i d)) in
       let untold = unanswered (slice_index_or then_ i d) in
@@ -157,18 +152,18 @@ module _ (mount : MountState) (tokens : List Token) (calls : List TracedCall) (b
       kept_one i calls m.call
       (subst (λ l. IsOneOf l m.call) (sym are.first) (one_left (told ++ untold) are.left m.call (one_left told untold m.call (one_mapped (λ (m : MadeCall). m.call) (listed (slice_index_or then_ i d)) m one))))
 
-  pub told_rises : (i : ℕ) (d : CallerState) → i < length followed.first → AreInLineOrder (calls_made (listed (slice_index_or then_ i d)))
+  pub told_rises : (i : ℕ) (d : CallerState) → i < length called.first → AreInLineOrder (calls_made (listed (slice_index_or then_ i d)))
   told_rises i d less =
       let told = calls_made (listed (slice_index_or then_ i d)) in
       let untold = unanswered (slice_index_or then_ i d) in
       let are = told_first i d less in
       front_rises told (untold ++ are.left) (subst AreInLineOrder (are.first ∙ append_assoc told untold are.left) (thread_rises i calls order))
 
-  pub share_at : (i : ℕ) (d : CallerState) → i < length followed.first → IsShareOf mount.fds (history_then zero_then.view) (share_of i (slice_index_or followed.first i d) (slice_index_or then_ i d))
+  pub share_at : (i : ℕ) (d : CallerState) → i < length called.first → IsShareOf mount.fds (history_then zero_then.view) (share_of i (slice_index_or called.first i d) (slice_index_or then_ i d))
   share_at i d less =
-      let from = slice_index_or followed.first i d in
+      let from = slice_index_or called.first i d in
       let to = slice_index_or then_ i d in
-      let stands = stands_as mount.fds (number_of from) to.work to.pass from.pass (history_then zero_then.view) (followed.told i d less) in
+      let stands = stands_as mount.fds (number_of from) to.work to.pass from.pass (history_then zero_then.view) (called.told i d less) in
       record {
         own = of_each (λ (m : MadeCall). m.call.thread ≡ i) (listed to) (λ m one. (told_there i d less m one).1);
         in_lines = subst IsStrictlyIncreasing (sym (twice_mapped (listed to))) (told_rises i d less);
@@ -176,59 +171,66 @@ module _ (mount : MountState) (tokens : List Token) (calls : List TracedCall) (b
         placed_are = stands.1;
       }
 
-  numbers_are : map (λ (s : Share). s.number) (shares_from 0 followed.first then_) ≡ range_with_len (0 + 1) (length followed.first)
-  numbers_are = share_passes (any_caller zero_then) 0 followed.first then_ followed.count (λ i less. (let n = (followed.fresh i (any_caller zero_then) less).number in omega (arith, n)))
+  numbers_are : map (λ (s : Share). s.number) (shares_from 0 called.first then_) ≡ range_with_len (0 + 1) (length called.first)
+  numbers_are = share_passes (any_caller zero_then) 0 called.first then_ called.count (λ i less. (let n = (called.fresh i (any_caller zero_then) less).number in omega (arith, n)))
 
   -- each pass that was taken in has one
-  pub past_listed : (past : Past) → IsOneOf zero_then.view.ended past → IsOneOf (map (λ (s : Share). s.number) (shares_from 0 followed.first then_)) past.number
+  pub past_listed : (past : Past) → IsOneOf zero_then.view.ended past → IsOneOf (map (λ (s : Share). s.number) (shares_from 0 called.first then_)) past.number
   past_listed past one =
-      let whose = past_of_some then_ zero_then.view.ended past followed.taken one in
+      let whose = past_of_some then_ zero_then.view.ended past called.taken one in
       let d = any_caller zero_then in
       let place = whose.place in
       let within = whose.there in
-      let count = followed.count in
-      let less : place < length followed.first = omega (arith, within, count) in
+      let count = called.count in
+      let less : place < length called.first = omega (arith, within, count) in
       let stood = stood_number (slice_index_or then_ place d).pass past (whose.stood d) in
-      let same = (followed.come place d less).number in
-      let fresh = (followed.fresh place d less).number in
-      subst (λ l. IsOneOf l past.number) (sym numbers_are) (in_range (0 + 1) (length followed.first) past.number (omega (arith, stood, same, fresh)) (omega (arith, stood, same, fresh, less)))
+      let same = (called.come place d less).number in
+      let fresh = (called.fresh place d less).number in
+      subst (λ l. IsOneOf l past.number) (sym numbers_are) (in_range (0 + 1) (length called.first) past.number (omega (arith, stood, same, fresh)) (omega (arith, stood, same, fresh, less)))
 
-  nobody_else : (number : ℕ) → (IsOneOf (map (λ (s : Share). s.number) (shares_from 0 followed.first then_)) number → ⊥) → calls_by number (history_then zero_then.view) ≡ []
+  nobody_else : (number : ℕ) → (IsOneOf (map (λ (s : Share). s.number) (shares_from 0 called.first then_)) number → ⊥) → calls_by number (history_then zero_then.view) ≡ []
   nobody_else number absent = elim (cases_eq number zero_then.view.number) [
-    | inl same ↦ ap (λ n. calls_by n (history_then zero_then.view)) same ∙ history.own ∙ followed.none
-    | inr ne ↦ history.others number ne (λ past one is. absent (subst (IsOneOf (map (λ (s : Share). s.number) (shares_from 0 followed.first then_))) is (past_listed past one)))
+    | inl same ↦ ap (λ n. calls_by n (history_then zero_then.view)) same ∙ history.own ∙ called.none
+    | inr ne ↦ history.others number ne (λ past one is. absent (subst (IsOneOf (map (λ (s : Share). s.number) (shares_from 0 called.first then_))) is (past_listed past one)))
   ]
 
-  at_place : (i : ℕ) → IsShareOf mount.fds (history_then zero_then.view) (share_of i (slice_index_or followed.first i (any_caller zero_then)) (slice_index_or then_ i (any_caller zero_then)))
-      → IsShareOf mount.fds (history_then zero_then.view) (share_of (0 + i) (slice_index_or followed.first i (any_caller zero_then)) (slice_index_or then_ i (any_caller zero_then)))
+  at_place : (i : ℕ) → IsShareOf mount.fds (history_then zero_then.view) (share_of i (slice_index_or called.first i (any_caller zero_then)) (slice_index_or then_ i (any_caller zero_then)))
+      → IsShareOf mount.fds (history_then zero_then.view) (share_of (0 + i) (slice_index_or called.first i (any_caller zero_then)) (slice_index_or then_ i (any_caller zero_then)))
   at_place i is =
       let place : i ≡ 0 + i = omega arith in
-      subst (λ n. IsShareOf mount.fds (history_then zero_then.view) (share_of n (slice_index_or followed.first i (any_caller zero_then)) (slice_index_or then_ i (any_caller zero_then)))) place is
+      subst (λ n. IsShareOf mount.fds (history_then zero_then.view) (share_of n (slice_index_or called.first i (any_caller zero_then)) (slice_index_or then_ i (any_caller zero_then)))) place is
 
-  pub are_shares : AreShares mount.fds (history_then zero_then.view) (shares_from 0 followed.first then_)
+  pub are_shares : AreShares mount.fds (history_then zero_then.view) (shares_from 0 called.first then_)
   are_shares = record {
-    each = each_share (any_caller zero_then) (IsShareOf mount.fds (history_then zero_then.view)) 0 followed.first then_ (λ i less. at_place i (share_at i (any_caller zero_then) less));
-    passes = subst AreDistinctNumbers (sym numbers_are) (distinct_range (0 + 1) (length followed.first));
-    threads = subst AreDistinctNumbers (sym (share_threads 0 followed.first then_ followed.count)) (distinct_range 0 (length followed.first));
+    each = each_share (any_caller zero_then) (IsShareOf mount.fds (history_then zero_then.view)) 0 called.first then_ (λ i less. at_place i (share_at i (any_caller zero_then) less));
+    passes = subst AreDistinctNumbers (sym numbers_are) (distinct_range (0 + 1) (length called.first));
+    threads = subst AreDistinctNumbers (sym (share_threads 0 called.first then_ called.count)) (distinct_range 0 (length called.first));
     others = nobody_else;
   }
+
+-- The placed ones among all that is listed, sorted by their places, are the history.
+pub called_history : (mount : MountState) (calls : List TracedCall) (batch : ℕ) (then_ : List CallerState) (zero : PassState) (placed : ℕ) (made : List MadeCall) (sorted : List PlacedCall) → HaveCalled mount calls batch then_ zero
+    → HasOneHistory zero.view placed → made ≡ all_listed then_ → AreInLineOrder calls → AreOfOneRound calls → IsPermutation (placed_calls made) sorted → IsNonDecreasingBy (λ p. p.place) sorted
+    → AreHistory mount.fds sorted (history_then zero.view)
+called_history mount calls batch then_ zero placed made sorted called history are order one_round moved rises =
+    let begun = called_begin mount calls batch then_ zero (calls_made made) (all_unanswered then_) called (ap calls_made are) refl order in
+    let shares = shares_from 0 called.first then_ in
+    let theirs : IsPermutation made (flat_map (λ (s : Share). s.made) shares) =
+    subst (λ l. IsPermutation l (flat_map (λ (s : Share). s.made) shares)) (sym are) (listed_shares 0 called.first then_ called.count) in
+    let rounds : All (λ (m : MadeCall). m.call.round ≡ one_round.0) made =
+    of_each (λ (m : MadeCall). m.call.round ≡ one_round.0) made
+    (λ m one. of_one (λ (call : TracedCall). call.round ≡ one_round.0) calls m.call one_round.1
+    (begun_within calls (calls_made made) (all_unanswered then_) begun.first m.call (one_left (calls_made made) (all_unanswered then_) m.call (one_mapped (λ (m : MadeCall). m.call) made m one)))) in
+    shares_are_history mount.fds (history_then zero.view) shares made one_round.0 sorted (are_shares mount calls batch then_ zero placed called history order) theirs rounds moved rises
 
 pub schedules_are_told : SchedulesAreTold
 schedules_are_told mount tokens calls batch then_ zero told sorted part_values store_values parts stores faults placed tail followed are closed order one_round out =
     let made = made_calls told.answered.items in
     let begun = schedules_begin mount tokens calls batch then_ zero told followed are order in
     let own = own_front (listed_calls told) (unanswered_calls told) begun.own_lines in
-    let shares = shares_from 0 followed.first then_ in
-    let theirs : IsPermutation made (flat_map (λ (s : Share). s.made) shares) =
-    subst (λ l. IsPermutation l (flat_map (λ (s : Share). s.made) shares)) (sym are.answered) (listed_shares 0 followed.first then_ followed.count) in
-    let rounds : All (λ (m : MadeCall). m.call.round ≡ one_round.0) made =
-    of_each (λ (m : MadeCall). m.call.round ≡ one_round.0) made
-    (λ m one. of_one (λ (call : TracedCall). call.round ≡ one_round.0) calls m.call one_round.1
-    (begun_within calls (listed_calls told) (unanswered_calls told) begun.first m.call (one_left (listed_calls told) (unanswered_calls told) m.call (one_mapped (λ (m : MadeCall). m.call) made m one)))) in
     let each = map placed_made (map placed_call sorted.placed.items) ++ map refused_made (map refused_call sorted.refused.items) ++ map opened_made (map opened_call sorted.open_calls.items) in
     record {
-      placed = shares_are_history mount.fds (history_then zero.view) shares made one_round.0 (map placed_call sorted.placed.items)
-          (are_shares mount tokens calls batch (Ok tt) then_ zero placed followed closed.history order) theirs rounds out.placed out.by_place;
+      placed = called_history mount calls batch then_ zero placed made (map placed_call sorted.placed.items) (called_of mount tokens calls batch (Ok tt) then_ zero followed) closed.history are.answered order one_round out.placed out.by_place;
       listed = subst (IsPermutation (listed_calls told)) (parts_alone (map placed_call sorted.placed.items) (map refused_call sorted.refused.items) (map opened_call sorted.open_calls.items))
           (IsPermutation-map (λ (m : MadeCall). m.call) made each out.listed);
       in_lines = refused_in_lines made (map refused_call sorted.refused.items) own out.refused out.by_line;

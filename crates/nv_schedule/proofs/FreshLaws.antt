@@ -1,9 +1,10 @@
 -- Fresh: a caller that has begun nothing has come to where it is.
-use Rattle.std.proofs.Common.{◌≡◌, ◌⊎◌, ℕ, ◌+◌, ◌<◌, ◌≤◌, false, List, [], ◌∷◌, ◌++◌, length, map, inl, inr, refl, sym, ap, subst, ◌∙◌, arith, length-append}
+use Rattle.std.proofs.Common.{◌≡◌, ◌⊎◌, ℕ, ◌+◌, ◌<◌, ◌≤◌, false, List, [], ◌∷◌, ◌++◌, length, map, inl, inr, refl, sym, ap, subst, ◌∙◌, arith, append_assoc, length-append}
 use Rattle.std.proofs.lemmas.Bool.{cases_lt}
-use Rattle.std.proofs.lemmas.List.{get_or_append_left, get_or_push, map-append}
-use Rattle.std.proofs.lemmas.List.FromFn.{map-range_with_len_more}
-use Rattle.std.specs.Prelude.{Option, None, slice_index_or}
+use Rattle.std.proofs.lemmas.List.{append-nil, get_or_append_left, get_or_push, map-append, take-append-drop}
+use Rattle.std.proofs.lemmas.List.FromFn.{map-range_with_len_more, take-map-range_with_len}
+use Rattle.std.specs.Prelude.{OnErr, OnOk, Option, None, Result, Ok, Err, drop, slice_index_or, take}
+use Rattle.nv_plain.specs.declared.memory.NoMemory.{NoMemory}
 use Rattle.nv_table.specs.invariant.Idle.{IsIdle}
 use Rattle.nv_table.specs.state.States.{PassState}
 use Rattle.nv_clean.specs.Cleaning.{CleanState}
@@ -16,7 +17,7 @@ use Rattle.nv_schedule.specs.declared.caller.Work.{Work}
 use Rattle.nv_schedule.specs.declared.caller.Work.TheVariants.{Calls, Batches}
 use Rattle.nv_schedule.specs.declared.hand.Hand.{Hand}
 use Rattle.nv_schedule.specs.Callers.{AreAnswered, IsAtBatch, IsAtCall}
-use Rattle.nv_schedule.specs.Fresh.{AreFresh, IsFresh, IsFreshWork, thread_works}
+use Rattle.nv_schedule.specs.Fresh.{AreFresh, IsFresh, IsFreshWork, thread_works, works_of}
 use Rattle.nv_schedule.specs.Turns.{CallerState, HasCome}
 use Rattle.nv_schedule.proofs.ThreadLaws.{at_next}
 
@@ -54,3 +55,33 @@ works_more calls number old new caller works more is =
     ∙ ap (λ l. l ++ caller.work ∷ []) works
     ∙ ap (λ w. thread_works calls number ++ w ∷ []) is
     ∙ sym (map-range_with_len_more (λ n. Calls (record { left = calls_of_thread n calls; begun = false; hand = None; made = [] })) 0 number number (omega arith))
+
+-- those of a schedule, or the first ones of them
+abbrev IsFront : (calls : List TracedCall) → (batch : ℕ) → List CallerState → Type 0
+IsFront calls batch callers = (unmade : List Work) × (map (λ (one : CallerState). one.work) callers ++ unmade ≡ works_of calls batch)
+
+pub works_first : (calls : List TracedCall) (batch number : ℕ) (callers : List CallerState) → map (λ (one : CallerState). one.work) callers ≡ thread_works calls number → number ≤ 8 → IsFront calls batch callers
+works_first calls batch number callers works few =
+    let cleaner : List Work = Batches (record { most = batch; machine = None }) ∷ [] in
+    let later = drop number (thread_works calls 8) in
+    let front : take number (thread_works calls 8) ≡ thread_works calls number =
+    take-map-range_with_len (λ n. Calls (record { left = calls_of_thread n calls; begun = false; hand = None; made = [] })) 0 8 number few in (
+      later ++ cleaner,
+      sym (append_assoc (map (λ (one : CallerState). one.work) callers) later cleaner)
+          ∙ ap (λ l. (l ++ later) ++ cleaner) (works ∙ sym front)
+          ∙ ap (λ l. l ++ cleaner) (take-append-drop number (thread_works calls 8)),
+    )
+
+-- where the cleaner comes behind all threads, or there was no memory for it
+pub works_last : (calls : List TracedCall) (batch number : ℕ) (old new : List CallerState) (work : Work) (result : Result (Unit {0}) NoMemory) → map (λ (one : CallerState). one.work) old ≡ thread_works calls number → number ≡ 8
+    → work ≡ Batches (record { most = batch; machine = None }) → OnOk result ((caller : CallerState) × (new ≡ old ++ caller ∷ []) × (caller.work ≡ work)) → OnErr result (new ≡ old) → IsFront calls batch new
+works_last calls batch number old new work (Ok done) works all is more none = (
+  [],
+  append-nil (map (λ (one : CallerState). one.work) new)
+      ∙ ap (map (λ (one : CallerState). one.work)) more.1
+      ∙ map-append (λ (one : CallerState). one.work) old (more.0 ∷ [])
+      ∙ ap (λ l. l ++ more.0.work ∷ []) (works ∙ ap (thread_works calls) all)
+      ∙ ap (λ w. thread_works calls 8 ++ w ∷ []) (more.2 ∙ is),
+)
+works_last calls batch number old new work (Err wanting) works all is more none =
+    works_first calls batch number new (ap (map (λ (one : CallerState). one.work)) none ∙ works) (omega (arith, all))

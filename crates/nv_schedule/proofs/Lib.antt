@@ -16,6 +16,7 @@ mod GrowLaws
 mod GrownLaws
 mod HandLaws
 mod KeptFaultLaws
+mod LifeLaws
 mod MidCallLaws
 mod OpenCallLaws
 mod OrderLaws

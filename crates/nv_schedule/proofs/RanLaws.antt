@@ -1,5 +1,5 @@
 -- Ran: fresh callers stand, and what follows a schedule between two views stands in the second one.
-use Rattle.std.proofs.Common.{◌≡◌, ℕ, false, List, [], ◌++◌, length, map, refl, ap, arith}
+use Rattle.std.proofs.Common.{◌≡◌, ℕ, false, List, [], ◌++◌, length, map, refl, sym, ap, subst, arith}
 use Rattle.std.proofs.lemmas.Grind.{common_steps}
 use Rattle.std.specs.Prelude.{All, Result, Ok, Err, drop, slice_index_or, take}
 use Rattle.nv_bench.specs.Benches.{BenchState}
@@ -12,6 +12,7 @@ use Rattle.nv_table.specs.passes.PassesMade.{imported_by}
 use Rattle.nv_schedule.specs.Following.{IsWell, ScheduleTells, Stands}
 use Rattle.nv_schedule.specs.Faulted.{batch_faulted, hand_faulted}
 use Rattle.nv_schedule.specs.Fresh.{AreFresh, IsFreshWork, works_of}
+use Rattle.nv_schedule.specs.Going.{AllGoOn, HaveBegun}
 use Rattle.nv_schedule.specs.Ran.{RunTells}
 use Rattle.nv_schedule.specs.Turns.{CallerState, has_faulted}
 use Rattle.nv_schedule.specs.declared.caller.Work.{Work}
@@ -19,6 +20,7 @@ use Rattle.nv_schedule.specs.declared.caller.Work.TheVariants.{Calls, Batches}
 use Rattle.nv_schedule.specs.declared.schedule_error.ScheduleError.{ScheduleError}
 use Rattle.nv_schedule.specs.declared.schedule_error.ScheduleError.TheVariants.{Fault, NoMemory, TurnsUsed}
 use Rattle.nv_trace.specs.declared.token.Token.{Token}
+use Rattle.nv_schedule.proofs.SinceLaws.{all_self}
 
 pub fresh_stand : (mount : MountState) (callers : List CallerState) → AreFresh mount callers → All (Stands mount) callers
 fresh_stand mount callers fresh i d less = let one = fresh i d less in (one.board, λ zero. (let n = one.number in omega (arith, n, zero)), (slice_index_or callers i d).pass, one.come)
@@ -41,6 +43,19 @@ fresh_work (Batches cleaner) fresh = ap batch_faulted fresh
 
 pub fresh_well : (mount : MountState) (callers : List CallerState) → AreFresh mount callers → All IsWell callers
 fresh_well mount callers fresh i d less = fresh_work (slice_index_or callers i d).work (fresh i d less).fresh
+
+-- they have gone on from there, or not yet
+pub begun_on : (mount : MountState) (calls : List TracedCall) (batch : ℕ) (first then_ : List CallerState) → AreFresh mount first → (unmade : List Work) × (map (λ (caller : CallerState). caller.work) first ++ unmade ≡ works_of calls batch)
+    → AllGoOn mount.fds first then_ → HaveBegun mount calls batch then_
+begun_on mount calls batch first then_ fresh works on = record { first = first; fresh = fresh; unmade = works.0; works = works.1; on = on }
+
+pub begun_fresh : (mount : MountState) (calls : List TracedCall) (batch : ℕ) (callers : List CallerState) → AreFresh mount callers → (unmade : List Work) × (map (λ (caller : CallerState). caller.work) callers ++ unmade ≡ works_of calls batch)
+    → HaveBegun mount calls batch callers
+begun_fresh mount calls batch callers fresh works = begun_on mount calls batch callers callers fresh works (all_self mount.fds callers)
+
+pub begun_none : (mount : MountState) (calls : List TracedCall) (batch : ℕ) (callers : List CallerState) → callers ≡ [] → HaveBegun mount calls batch callers
+begun_none mount calls batch callers none =
+    subst (HaveBegun mount calls batch) (sym none) (begun_fresh mount calls batch [] (λ i d less. absurd (omega (arith, less))) (works_of calls batch, refl))
 
 -- pass 0 is as it was, but for what it was told
 pub zero_told : (mount : MountState) (zero : PassState) (view : List Event) → IsZero mount zero → IsZero mount (imported_by zero view)

@@ -55,7 +55,7 @@ use Rattle.nv_schedule.specs.declared.caller.Work.TheVariants.{Calls, Batches}
 use Rattle.nv_schedule.specs.declared.hand.Hand.{Hand}
 use Rattle.nv_schedule.specs.declared.schedule_error.ScheduleError.{ScheduleError}
 use Rattle.nv_schedule.proofs.AnswerLaws.{CallLaws, HaveBeenMade, all_answered}
-use Rattle.nv_schedule.proofs.BegunLaws.{any_caller}
+use Rattle.nv_schedule.proofs.BegunLaws.{any_caller, called_of}
 use Rattle.nv_schedule.proofs.CallerShares.{each_share, listed_shares, past_listed, share_at, shares_from, told_rises, told_there}
 use Rattle.nv_schedule.proofs.EndLaws.{HasPast, past_at, stood_number}
 use Rattle.nv_schedule.proofs.GrownLaws.{HasGrown, answered_grown, at_call_grown, caller_grown, grown_on, puts_begin, puts_left}
@@ -199,7 +199,7 @@ module _ (words : WordLaws) (call_laws : CallLaws) (causes : refusals.RefusalsHa
         let its_past = past i d less in
         sym (history_mine zero_then.view placed_count history (slice_index_or then_ i d).pass its_past.past (to_opened i d less) its_past.stood its_past.one)
         ∙ ap (λ n. calls_by n (history_then zero_then.view)) (number i d less)
-        ∙ (share_at mount tokens calls batch done then_ zero_then placed_count followed history order i d less).placed_are
+        ∙ (share_at mount calls batch then_ zero_then placed_count (called_of mount tokens calls batch done then_ zero_then followed) history order i d less).placed_are
 
     -- none where it began
     none_first : drawn draws opened is_mount (number_of (slice_index_or followed.first i d)) (slice_index_or followed.first i d).pass.view.run ≡ 0
@@ -307,14 +307,14 @@ module _ (words : WordLaws) (call_laws : CallLaws) (causes : refusals.RefusalsHa
 
       round_of : (j : ℕ) → j < length followed.first → (other : MadeCall) → IsOneOf (listed (slice_index_or then_ j d)) other → other.call.round ≡ round
       round_of j within other is_there =
-          of_one (λ (c : TracedCall). c.round ≡ round) calls other.call rounds (told_there mount tokens calls batch done then_ zero_then placed_count followed history order j d within other is_there).0
+          of_one (λ (c : TracedCall). c.round ≡ round) calls other.call rounds (told_there mount calls batch then_ zero_then placed_count (called_of mount tokens calls batch done then_ zero_then followed) history order j d within other is_there).0
 
       thread_of : (j : ℕ) → j < length followed.first → (other : MadeCall) → IsOneOf (listed (slice_index_or then_ j d)) other → other.call.thread ≡ j
-      thread_of j within other is_there = (told_there mount tokens calls batch done then_ zero_then placed_count followed history order j d within other is_there).1
+      thread_of j within other is_there = (told_there mount calls batch then_ zero_then placed_count (called_of mount tokens calls batch done then_ zero_then followed) history order j d within other is_there).1
 
       pairs : AllPairs (λ a b. a.line < b.line) (calls_made (at.before ++ m ∷ at.after))
       pairs =
-          let rises = told_rises mount tokens calls batch done then_ zero_then placed_count followed history order i d less in
+          let rises = told_rises mount calls batch then_ zero_then placed_count (called_of mount tokens calls batch done then_ zero_then followed) history order i d less in
           let both : AreInLineOrder (calls_made thread.made ++ calls_made more) =
           subst AreInLineOrder (ap calls_made all_are ∙ map-append (λ (c : MadeCall). c.call) thread.made more) rises in
           subst (λ l. AllPairs (λ a b. a.line < b.line) (calls_made l)) at.are (pairs_of (calls_made thread.made) (front_rises (calls_made thread.made) (calls_made more) both))
@@ -359,7 +359,7 @@ module _ (words : WordLaws) (call_laws : CallLaws) (causes : refusals.RefusalsHa
         | inl is ↦ (let grew = drawn_less draws opened is_mount zero_then.view.number at.now.view.run zero_then.view.run now_begins whole.is_run in let at_zero = ap drawn_then is in let none = idle in omega (arith, grew, at_zero, none))
         | inr ne ↦ drawn_absent draws opened is_mount number at.now.view.run zero_then.view.run now_begins whole.is_run
             (whole.others number ne (λ one there_one is. absent (subst (IsOneOf (map (λ (s : Share). s.number) (shares_from 0 followed.first then_))) is
-            (past_listed mount tokens calls batch done then_ zero_then placed_count followed history order one there_one))))
+            (past_listed mount calls batch then_ zero_then placed_count (called_of mount tokens calls batch done then_ zero_then followed) history order one there_one))))
       ]
 
       head_bound : word_seen at.now HEAD ≤ opened.next + entries_of_calls sizes.page (not_later call (calls_that_drew (all_listed then_)))

@@ -1,8 +1,9 @@
 -- Since: what is so of each caller by its own advances is so by a schedule; and the events of a schedule are deeds.
 use Rattle.std.proofs.Common.{◌≡◌, ◌≢◌, ◌⊎◌, ℕ, ◌<◌, Bool, true, false, List, [], ◌∷◌, ◌++◌, length, inl, inr, refl, sym, ap, subst, ◌∙◌, arith, append_assoc}
-use Rattle.std.specs.Prelude.{slice_index_or}
+use Rattle.std.specs.Prelude.{IfOk, OnErr, Result, Ok, Err, slice_index_or, slice_set}
 use Rattle.std.proofs.lemmas.Bool.{cases_eq}
-use Rattle.std.proofs.lemmas.List.{get_or-set_other, get_or-set_same, length-set, map-append}
+use Rattle.std.proofs.lemmas.List.{get_or-set_other, get_or-set_same, length-set, map-append, set-get_or}
+use Rattle.nv_plain.specs.declared.memory.NoMemory.{NoMemory}
 use Rattle.nv_core.specs.steps.Events.{Event}
 use Rattle.nv_table.specs.state.States.{PassState}
 use Rattle.nv_mount.specs.declared.fds.Fd.{Fd}
@@ -10,14 +11,16 @@ use Rattle.nv_runner.specs.Lists.{MadeCall, calls_made}
 use Rattle.nv_trace.specs.declared.trace_call.TracedCall.{TracedCall}
 use Rattle.nv_schedule.specs.Callers.{CallEnds, ThreadState}
 use Rattle.nv_schedule.specs.Cuts.{cut_behind}
-use Rattle.nv_schedule.specs.Following.{FallShort, Follows, GoesTo, MeetsFault, OneTurns, UsesUp, all_events, next_at}
+use Rattle.nv_schedule.specs.Following.{FallShort, Follows, GoesTo, MeetsFault, OneTells, OneTurns, UsesUp, all_events, next_at}
+use Rattle.nv_schedule.specs.Going.{AllGoOn, GoesOn}
 use Rattle.nv_schedule.specs.Growing.{number_of}
-use Rattle.nv_schedule.specs.Orders.{AreDeeds}
+use Rattle.nv_schedule.specs.Orders.{AreDeeds, ComeBehind}
 use Rattle.nv_schedule.specs.Reaches.{is_there, place_of}
 use Rattle.nv_schedule.specs.Scheduled.{asked_by}
 use Rattle.nv_schedule.specs.Turns.{CallerState, HasCome, HasTurned, WorkEnds}
 use Rattle.nv_schedule.specs.declared.caller.Work.{Work}
 use Rattle.nv_schedule.specs.declared.caller.Work.TheVariants.{Calls, Batches}
+use Rattle.nv_schedule.specs.declared.turned.Turned.{Turned}
 use Rattle.nv_trace.specs.declared.token.Reach.{Reach}
 use Rattle.nv_trace.specs.declared.token.Token.{Token}
 use Rattle.nv_trace.specs.declared.token.Token.TheVariants.{Advance, Cut}
@@ -26,12 +29,6 @@ use Rattle.nv_schedule.proofs.FollowLaws.{all_events_on, number_kept}
 use Rattle.nv_schedule.proofs.OrderLaws.{are_deeds_both}
 
 -- ---- one caller goes on
-
--- By the same pass and with the same calls, it has come further from wherever it has come.
-pub record GoesOn (fds : List Fd) (old new : CallerState) : Type 0 where
-  pub number : number_of new ≡ number_of old
-  pub asked : asked_by new.work ≡ asked_by old.work
-  pub come : (start : PassState) → HasCome fds old.work start old.pass → HasCome fds new.work start new.pass
 
 on_self : (fds : List Fd) (caller : CallerState) → GoesOn fds caller caller
 on_self fds caller = record { number = refl; asked = refl; come = λ start come. come }
@@ -59,14 +56,10 @@ turned_on fds answered made old new turned =
 
 -- ---- all of them
 
-pub record AllGoOn (fds : List Fd) (old new : List CallerState) : Type 0 where
-  pub count : length new ≡ length old
-  pub each : (i : ℕ) (d : CallerState) → i < length old → GoesOn fds (slice_index_or old i d) (slice_index_or new i d)
-
-all_self : (fds : List Fd) (callers : List CallerState) → AllGoOn fds callers callers
+pub all_self : (fds : List Fd) (callers : List CallerState) → AllGoOn fds callers callers
 all_self fds callers = record { count = refl; each = λ i d less. on_self fds (slice_index_or callers i d) }
 
-all_both : (fds : List Fd) (old middle new : List CallerState) → AllGoOn fds old middle → AllGoOn fds middle new → AllGoOn fds old new
+pub all_both : (fds : List Fd) (old middle new : List CallerState) → AllGoOn fds old middle → AllGoOn fds middle new → AllGoOn fds old new
 all_both fds old middle new one more = record {
   count = more.count ∙ one.count;
   each = λ i d less. on_both fds (slice_index_or old i d) (slice_index_or middle i d) (slice_index_or new i d) (one.each i d less) (more.each i d (let n = one.count in omega (arith, less, n)));
@@ -88,8 +81,16 @@ module _ (fds : List Fd) (place : ℕ) (answered : Bool) (made : List Event) (ol
   each_on i d (inl is) = subst (λ k. GoesOn fds (slice_index_or old k d) (slice_index_or new k d)) (sym is) (at_place d)
   each_on i d (inr ne) = subst (GoesOn fds (slice_index_or old i d)) (sym (else_ i d ne)) (on_self fds (slice_index_or old i d))
 
-  one_on : AllGoOn fds old new
+  pub one_on : AllGoOn fds old new
   one_on = record { count = ap length one.new_is ∙ length-set old place one.then_; each = λ i d less. each_on i d (cases_eq i place) }
+
+-- by an advance; or memory was wanting, and nothing was done
+pub turn_on : (fds : List Fd) (place : ℕ) (callers : List CallerState) (d then_ : CallerState) (view after : List Event) (result : Result Turned NoMemory)
+    → IfOk result (λ turned. (events : List Event) × OneTells fds place turned events callers (slice_set callers place then_) × ComeBehind events view after) → OnErr result (then_ ≡ slice_index_or callers place d)
+    → AllGoOn fds callers (slice_set callers place then_)
+turn_on fds place callers d then_ view after (Ok how) told memory = one_on fds place how.answered told.0 callers (slice_set callers place then_) told.1.one
+turn_on fds place callers d then_ view after (Err none) told memory =
+    subst (λ (c : CallerState). AllGoOn fds callers (slice_set callers place c)) (sym memory) (subst (AllGoOn fds callers) (sym (set-get_or callers place d)) (all_self fds callers))
 
 short_on : (fds : List Fd) (cut : Bool) (reach : Reach) (place : ℕ) (callers : List CallerState) (advances : List (List Event)) (then_ : List CallerState) → FallShort fds cut reach place callers advances then_
     → AllGoOn fds callers then_

@@ -20,10 +20,11 @@ use Rattle.nv_trace.specs.declared.trace_call.TracedCall.{TracedCall}
 use Rattle.nv_schedule.specs.Flights.{flights_of}
 use Rattle.nv_schedule.specs.Following.{Stands}
 use Rattle.nv_schedule.specs.Fresh.{AreFresh, thread_works}
+use Rattle.nv_schedule.specs.Going.{AllGoOn, HaveBegun}
 use Rattle.nv_schedule.specs.Growing.{AreApart, GrowBy, number_of, run_of}
 use Rattle.nv_schedule.specs.Orders.{AreDeeds, InTurn, deeds}
 use Rattle.nv_schedule.specs.Ran.{HasRunOn, RanAs, RunTells}
-use Rattle.nv_schedule.specs.Scheduled.{AreCallsOf, HasFollowed, HasTakenIn, HasTold, IsToldBy}
+use Rattle.nv_schedule.specs.Scheduled.{AreCallsOf, AreTakenAsTheyStood, HasFollowed, HasTakenIn, HasTold, HaveCalled, HaveComeSince, IsToldBy}
 use Rattle.nv_schedule.specs.Told.{IsToldOf}
 use Rattle.nv_schedule.specs.Turns.{CallerState}
 use Rattle.nv_schedule.specs.declared.caller.Work.TheVariants.{Batches}
@@ -38,7 +39,7 @@ use Rattle.nv_schedule.proofs.GrowLaws.{fault_grows, schedule_grows, used_up_gro
 use Rattle.nv_schedule.proofs.OpenCallLaws.{IsListedOpen, all_open, caller_opens}
 use Rattle.nv_schedule.proofs.OrderLaws.{deeds_all, own_deeds, trail_is}
 use Rattle.nv_schedule.proofs.ToldLaws.{caller_told, history_mine, history_seen}
-use Rattle.nv_schedule.proofs.SinceLaws.{AllGoOn, AreFirm, fault_deeds, fault_on, schedule_deeds, schedule_on, used_up_deeds, used_up_on}
+use Rattle.nv_schedule.proofs.SinceLaws.{AreFirm, fault_deeds, fault_on, schedule_deeds, schedule_on, used_up_deeds, used_up_on}
 
 -- ---- fresh callers
 
@@ -73,6 +74,55 @@ module _ (mount : MountState) (tokens : List Token) (first then_ : List CallerSt
   ran_deeds (Err TurnsUsed) told ran = used_up_deeds mount.fds false tokens first trail then_ ran (fresh_firm mount first fresh)
   ran_deeds (Err Fault) told ran = fault_deeds mount.fds false tokens first trail then_ ran (fresh_firm mount first fresh)
   ran_deeds (Err NoMemory) told ran = absurd (told refl)
+
+-- ---- callers that have gone on
+
+module _ (mount : MountState) (first then_ : List CallerState) (zero_then : PassState) (placed : ℕ) (laws : CallLaws) (is_mount : IsMount (mount_of mount.board.opened)) (same : zero_then.view.opened ≡ mount.board.opened)
+    (stand : All (Stands mount) then_) (fresh : AreFresh mount first) (on : AllGoOn mount.fds first then_) (taken : AreTakenAsTheyStood then_ zero_then.view.ended) (history : HasOneHistory zero_then.view placed) where
+  come_since : HaveComeSince mount.fds first then_
+  come_since i d less =
+      let goes = on.each i d less in
+      record { number = goes.number; asked = goes.asked; come = goes.come (slice_index_or first i d).pass (fresh i d less).come }
+
+  told_at : (i : ℕ) (d : CallerState) → i < length first → IsToldOf mount.fds (number_of (slice_index_or first i d)) (slice_index_or then_ i d) (slice_index_or first i d).pass (history_then zero_then.view)
+  told_at i d less =
+      let there : i < length then_ = (let n = on.count in omega (arith, less, n)) in
+      let past = past_at then_ zero_then.view.ended i d taken there in
+      let f = fresh i d less in
+      let goes = on.each i d less in
+      let now = (slice_index_or then_ i d).pass in
+      let board = (stand i d there).0 in
+      let mine = history_mine zero_then.view placed history now past.past (board.same_mount ∙ sym same) past.stood past.one in
+      caller_told laws mount.fds (slice_index_or then_ i d) (slice_index_or first i d).pass (history_then zero_then.view)
+      (subst (λ (o : Opened). IsMount (mount_of o)) (sym f.board.same_mount) is_mount) f.idle f.uncalled (goes.come (slice_index_or first i d).pass f.come)
+      (subst (λ n. calls_by n (history_then zero_then.view) ≡ (pass_of now.view).mine) goes.number mine)
+      (history_seen zero_then.view placed history now past.past (board.same_mount ∙ sym same) past.stood past.one)
+
+  -- each caller's calls that are listed as open
+  open_at : (i : ℕ) (d : CallerState) → i < length then_ → IsListedOpen mount.fds zero_then.view.opened (slice_index_or then_ i d)
+  open_at i d there =
+      let less : i < length first = (let n = on.count in omega (arith, there, n)) in
+      let f = fresh i d less in
+      let start = (slice_index_or first i d).pass in
+      caller_opens laws mount.fds zero_then.view.opened (slice_index_or then_ i d) start (subst (λ (o : Opened). IsMount (mount_of o)) (sym f.board.same_mount) is_mount) f.idle f.unfailed
+      ((on.each i d less).come start f.come) ((stand i d there).0.same_mount ∙ sym same)
+
+-- whatever ended them
+pub have_called : (mount : MountState) (calls : List TracedCall) (batch : ℕ) (then_ : List CallerState) (before zero_then : PassState) (placed : ℕ) → CallLaws → IsMount (mount_of mount.board.opened)
+    → zero_then.view.opened ≡ mount.board.opened → All (Stands mount) then_ → HaveBegun mount calls batch then_ → (pass_of before.view).mine ≡ [] → flights_of (pass_of before.view) ≡ []
+    → HasTakenIn before zero_then then_ → HasOneHistory zero_then.view placed → HaveCalled mount calls batch then_ zero_then
+have_called mount calls batch then_ before zero_then placed laws is_mount same stand begun uncalled grounded taken history = record {
+  first = begun.first;
+  fresh = begun.fresh;
+  unmade = begun.unmade;
+  works = begun.works;
+  count = begun.on.count;
+  come = come_since mount begun.first then_ zero_then placed laws is_mount same stand begun.fresh begun.on taken.taken history;
+  taken = taken.taken;
+  told = told_at mount begun.first then_ zero_then placed laws is_mount same stand begun.fresh begun.on taken.taken history;
+  none = taken.aside.mine ∙ uncalled;
+  left_open = all_open mount.fds then_ zero_then (taken.aside.flights ∙ grounded) taken.taken (open_at mount begun.first then_ zero_then placed laws is_mount same stand begun.fresh begun.on taken.taken history);
+}
 
 -- ---- the run of the closed mount
 
@@ -141,27 +191,6 @@ module _ (mount : MountState) (tokens : List Token) (calls : List TracedCall) (b
         let here = subst (λ m. deeds (own m zero_then.view.run) ≡ deeds (own m (run_of (slice_index_or then_ i d)))) (grows.numbers i d less) seen in
         sym (here ∙ ap deeds (grows.each i d less ∙ ap (λ l. l ++ own n ran.trail) (ran.fresh i d less).unborn) ∙ sym (own_deeds n ran.trail) ∙ ap (own n) (deeds_all ran.trail are_deeds))
 
-    told_at : IsToldOf mount.fds (number_of (slice_index_or ran.first i d)) (slice_index_or then_ i d) (slice_index_or ran.first i d).pass (history_then zero_then.view)
-    told_at =
-        let f = ran.fresh i d less in
-        let on = goes_on.each i d less in
-        let now = (slice_index_or then_ i d).pass in
-        let board = (stand i d there).0 in
-        let mine = history_mine zero_then.view placed history now past.past (board.same_mount ∙ sym same) past.stood past.one in
-        caller_told laws mount.fds (slice_index_or then_ i d) (slice_index_or ran.first i d).pass (history_then zero_then.view)
-        (subst (λ (o : Opened). IsMount (mount_of o)) (sym f.board.same_mount) is_mount) f.idle f.uncalled (on.come (slice_index_or ran.first i d).pass f.come)
-        (subst (λ n. calls_by n (history_then zero_then.view) ≡ (pass_of now.view).mine) on.number mine)
-        (history_seen zero_then.view placed history now past.past (board.same_mount ∙ sym same) past.stood past.one)
-
-  -- each caller's calls that are listed as open
-  open_at : (i : ℕ) (d : CallerState) → i < length then_ → IsListedOpen mount.fds zero_then.view.opened (slice_index_or then_ i d)
-  open_at i d there =
-      let less : i < length ran.first = (let n = grows.count in omega (arith, there, n)) in
-      let f = ran.fresh i d less in
-      let start = (slice_index_or ran.first i d).pass in
-      caller_opens laws mount.fds zero_then.view.opened (slice_index_or then_ i d) start (subst (λ (o : Opened). IsMount (mount_of o)) (sym f.board.same_mount) is_mount) f.idle f.unfailed
-      ((goes_on.each i d less).come start f.come) ((stand i d there).0.same_mount ∙ sym same)
-
   -- of nobody
   beyond : (other : ℕ) → length ran.first < other → own other ran.trail ≡ deeds (own other zero_then.view.run)
   beyond other far =
@@ -199,11 +228,11 @@ module _ (mount : MountState) (tokens : List Token) (calls : List TracedCall) (b
     ran = ran.ran;
     only = trail_is ran.trail zero_then.view.run in_turn are_deeds each;
     count = grows.count;
-    come = λ i d less. (let on = goes_on.each i d less in record { number = on.number; asked = on.asked; come = on.come (slice_index_or ran.first i d).pass (ran.fresh i d less).come });
+    come = come_since mount ran.first then_ zero_then placed laws is_mount same stand ran.fresh goes_on taken.taken history;
     taken = taken.taken;
-    told = told_at;
+    told = told_at mount ran.first then_ zero_then placed laws is_mount same stand ran.fresh goes_on taken.taken history;
     none = taken.aside.mine ∙ uncalled;
-    left_open = all_open mount.fds then_ zero_then (taken.aside.flights ∙ grounded) taken.taken open_at;
+    left_open = all_open mount.fds then_ zero_then (taken.aside.flights ∙ grounded) taken.taken (open_at mount ran.first then_ zero_then placed laws is_mount same stand ran.fresh goes_on taken.taken history);
     number = number;
     deedless = taken.aside.deedless ∙ undone;
   }

@@ -8,9 +8,11 @@ pub mod Faults
 pub mod Flights
 pub mod Following
 pub mod Fresh
+pub mod Going
 pub mod Growing
 pub mod Hands
 pub mod Listed
+pub mod Lives
 pub mod Orders
 pub mod Ran
 pub mod Reaches

@@ -115,6 +115,20 @@ pub record HasFollowed (mount : MountState) (tokens : List Token) (calls : List 
   pub number : zero.view.number ≡ 0
   pub deedless : deeds (own 0 zero.view.run) ≡ []
 
+-- Callers that had begun nothing have come to where they are, whatever ended the schedule: those of a trace's calls, or the first ones of them, where there was no memory for more. Their passes were taken in
+-- as they stood; their calls are those of the history, and those that are listed as open are the writes in flight. Pass 0 has made none.
+pub record HaveCalled (mount : MountState) (calls : List TracedCall) (batch : ℕ) (then_ : List CallerState) (zero : PassState) : Type 0 where
+  pub first : List CallerState
+  pub fresh : AreFresh mount first
+  pub unmade : List Work
+  pub works : map (λ caller. caller.work) first ++ unmade ≡ works_of calls batch
+  pub count : length then_ ≡ length first
+  pub come : HaveComeSince mount.fds first then_
+  pub taken : AreTakenAsTheyStood then_ zero.view.ended
+  pub told : AreAllTold mount.fds first then_ (history_then zero.view)
+  pub none : (pass_of zero.view).mine ≡ []
+  pub left_open : OpenAreFlights mount.fds then_ zero
+
 -- What is answered: the calls that were begun; or that a token has used up its advances, or that a device call has failed before any cut. The bench was armed at each cut that was reached: all of them, or those
 -- before the token that used up its advances, or none. Where memory is wanting some first tokens were reached, and nothing else is told.
 abbrev pub HasTold : MountState → List Token → (calls : List TracedCall) → (batch : ℕ) → (zero : PassState) → (bench armed : BenchState) → Result ScheduledCalls ScheduleError → Type 0
@@ -125,10 +139,11 @@ HasTold mount tokens calls batch zero bench armed (Err TurnsUsed) =
 HasTold mount tokens calls batch zero bench armed (Err Fault) = (then_ : List CallerState) × HasFollowed mount tokens calls batch (Err Fault) then_ zero × (armed ≡ bench)
 HasTold mount tokens calls batch zero bench armed (Err NoMemory) = IsCutBySome tokens bench armed
 
--- A schedule over a new mount has come to this, whatever it is answered: the mount is the same, with the same parts.
+-- A schedule over a new mount has come to this, whatever it is answered: the mount is the same, with the same parts, and has the calls of callers that have come to where they are.
 pub record HasScheduled (mount : MountState) (tokens : List Token) (calls : List TracedCall) (batch : ℕ) (start zero : PassState) (bench armed : BenchState) (outcome : Result ScheduledCalls ScheduleError) : Type 0 where
   pub opened : zero.view.opened ≡ start.view.opened
   pub spare : zero.spare ≡ start.spare
+  pub called : (then_ : List CallerState) × HaveCalled mount calls batch then_ zero
   pub told : HasTold mount tokens calls batch zero bench armed outcome
 
 -- ---- what is answered

@@ -1,10 +1,11 @@
 //! How pass 0 makes the passes of callers.
-ghost use Rattle.std.specs.Prelude.{◌≡◌, ◌+◌, ◌<◌, ◌^◌, ◌++◌, ◌∷◌, [], length, map, IfOk, OnErr, OnOk};
+ghost use Rattle.std.specs.Prelude.{◌≡◌, ◌+◌, ◌<◌, ◌^◌, ◌++◌, ◌∷◌, List, [], length, map, IfOk, OnErr, OnOk};
 ghost use Rattle.nv_table.specs.state.Views.{made_of};
 ghost use Rattle.nv_runner.specs.Workers.{IsZero};
 ghost use Rattle.nv_schedule.specs.Fresh.{AreFresh, IsFresh, IsFreshWork, works_of};
 ghost use Rattle.nv_schedule.specs.Scheduled.{IsAside};
 ghost use Rattle.nv_schedule.specs.Turns.{CallerState};
+ghost use Rattle.nv_schedule.specs.declared.caller.Work.{Work as AnyWork};
 
 use crate::batches::Batches;
 use crate::caller::{Caller, Work};
@@ -83,6 +84,7 @@ pub(crate) fn hire<'a, L: Lines + Drop, B: Backing + Drop>(
     ensures zero { IsZero mount.now zero.new }
     ensures fresh { AreFresh mount.now callers.new.items }
     ensures works { OnOk result (map (λ caller. caller.work) callers.new.items ≡ works_of calls.now batch) }
+    ensures some { (unmade : List AnyWork) × (map (λ caller. caller.work) callers.new.items ++ unmade ≡ works_of calls.now batch) }
     ensures count { made_of zero.new.view ≡ length callers.new.items }
     ensures aside { IsAside zero.old zero.new }
     ensures ended { zero.new.view.ended ≡ zero.old.view.ended }

@@ -3,6 +3,7 @@ ghost use Rattle.nv_schedule.specs.Begun.{SchedulesBegin};
 ghost use Rattle.nv_schedule.specs.Counted.{FaultsAreCounted};
 ghost use Rattle.nv_schedule.specs.FaithfulSchedules.{SchedulesAreFaithful};
 ghost use Rattle.nv_schedule.specs.Growing.{SchedulesGrow, TrailsAreDeeds};
+ghost use Rattle.nv_schedule.specs.Lives.{SchedulesLeaveLives};
 ghost use Rattle.nv_schedule.specs.RefusedCalls.{PlacedAreUnbarred, RefusalsHaveCauses};
 ghost use Rattle.nv_schedule.specs.Shares.{SharesAreHistory};
 ghost use Rattle.nv_schedule.specs.SortedOut.{SchedulesAreLegal, SchedulesAreTold};
@@ -83,3 +84,9 @@ pub fn schedules_are_faithful()
     passes_are_left_alone();
     heads_count_draws();
 }
+
+/// Whatever a schedule of a trace without rounds came to, parts and stores that come out of its mount are left so: the calls that have their place are a legal history of calls of the trace, and each image recovers
+/// to the files after it and then some other calls, each whole.
+pub fn schedules_leave_lives()
+    ensures { SchedulesLeaveLives }
+{}

@@ -8,6 +8,7 @@ ghost use Rattle.nv_runner.specs.EndedRuns.{IsClosedBy};
 ghost use Rattle.nv_runner.specs.Workers.{IsZero};
 ghost use Rattle.nv_schedule.specs.Cuts.{CutTells, IsArmedOnly};
 ghost use Rattle.nv_schedule.specs.Following.{Stands};
+ghost use Rattle.nv_schedule.specs.Going.{HaveBegun};
 ghost use Rattle.nv_schedule.specs.Ran.{RunTells};
 ghost use Rattle.nv_schedule.specs.Scheduled.{HasScheduled, IsAside, IsToldBy};
 ghost use Rattle.nv_trace.specs.Shape.{IsTokenWithin};
@@ -54,6 +55,7 @@ pub(crate) fn run_on<'a, D: Bench, L: Lines + Drop, B: Backing + Drop>(
     ensures ended { zero.new.view.ended ≡ zero.old.view.ended }
     ensures count { made_of zero.new.view ≡ length callers.new.items }
     ensures stand { All (Stands mount.now) callers.new.items }
+    ensures begun { HaveBegun mount.now calls.now batch callers.new.items }
     ensures tells { RunTells mount.now tokens.now calls.now batch callers.new.items zero.new (D.state bench.old) (D.state bench.new) result }
     ensures cut { CutTells cut.new (D.state bench.old) (D.state bench.new) }
     ensures armed { IsArmedOnly (D.state bench.old) (D.state bench.new) }

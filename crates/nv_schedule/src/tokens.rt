@@ -5,6 +5,7 @@ ghost use Rattle.nv_op.specs.declared.kinds.Kind.{Kind as AnyKind};
 ghost use Rattle.nv_table.specs.state.Workspaces.{IsWorkspace};
 ghost use Rattle.nv_schedule.specs.Cuts.{CutTells, IsArmedOnly, cut_behind};
 ghost use Rattle.nv_schedule.specs.Following.{IsWell, OneTells, ScheduleTells, Stands, TokenTells, next_at};
+ghost use Rattle.nv_schedule.specs.Going.{AllGoOn};
 ghost use Rattle.nv_schedule.specs.Orders.{ComeBehind};
 ghost use Rattle.nv_trace.specs.Shape.{IsTokenWithin};
 
@@ -55,6 +56,7 @@ fn turn_at<'a, L: Lines + Drop, B: Backing + Drop>(
     requires bare { workspace.old.parts.items ≡ [] }
     requires view { view.table ≡ mount.now.board.table }
     ensures stand { All (Stands mount.now) callers.new }
+    ensures on { AllGoOn mount.now.fds callers.old callers.new }
     ensures turned { IfOk result.1 (λ turned. (events : List Event) × OneTells mount.now.fds place turned events callers.old callers.new × ComeBehind events view.run result.0.run) }
     ensures workspace { IsWorkspace mount.now.board.opened.sizes workspace.new }
     ensures bare { workspace.new.parts.items ≡ [] }
@@ -87,6 +89,7 @@ pub(crate) fn advance_to<'a, L: Lines + Drop, B: Backing + Drop>(
     requires view { view.table ≡ mount.now.board.table }
     requires well { cut ≡ false → All IsWell callers.old }
     ensures stand { All (Stands mount.now) callers.new }
+    ensures on { AllGoOn mount.now.fds callers.old callers.new }
     ensures tells { TokenTells mount.now.fds cut reach place callers.old callers.new view.run result.0.run result.1 }
     ensures well { OnOk result.1 (cut ≡ false → All IsWell callers.new) }
     ensures workspace { IsWorkspace mount.now.board.opened.sizes workspace.new }
@@ -153,6 +156,7 @@ pub(crate) fn follow<'a, D: Bench, L: Lines + Drop, B: Backing + Drop>(
     requires within { All IsTokenWithin tokens.now }
     requires arms { (D.state bench.old).arms + length tokens.now < 2 ^ 64 }
     ensures stand { All (Stands mount.now) callers.new }
+    ensures on { AllGoOn mount.now.fds callers.old callers.new }
     ensures tells { ScheduleTells mount.now.fds false tokens.now callers.old callers.new view.run result.0.run (D.state bench.old) (D.state bench.new) result.1 }
     ensures cut { CutTells result.2 (D.state bench.old) (D.state bench.new) }
     ensures armed { IsArmedOnly (D.state bench.old) (D.state bench.new) }
@@ -196,6 +200,7 @@ fn follow_one<'a, D: Bench, L: Lines + Drop, B: Backing + Drop>(
     requires within { IsTokenWithin token }
     requires arms { (D.state bench.old).arms + 1 < 2 ^ 64 }
     ensures stand { All (Stands mount.now) callers.new }
+    ensures on { AllGoOn mount.now.fds callers.old callers.new }
     ensures tells { ScheduleTells mount.now.fds cut (token ∷ []) callers.old callers.new view.run result.0.run (D.state bench.old) (D.state bench.new) result.1 }
     ensures well { OnOk result.1 (cut_behind cut (token ∷ []) ≡ false → All IsWell callers.new) }
     ensures still { OnErr result.1 (D.state bench.new ≡ D.state bench.old) }

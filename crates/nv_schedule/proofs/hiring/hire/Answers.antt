@@ -4,7 +4,7 @@ use Rattle.nv_schedule.specs.Fresh.{AreFresh}
 use Rattle.nv_schedule.specs.Turns.{CallerState}
 use Rattle.nv_schedule.specs.declared.caller.Work.TheVariants.{Calls}
 use Rattle.nv_schedule.proofs.EndLaws.{aside_on, aside_self}
-use Rattle.nv_schedule.proofs.FreshLaws.{works_more}
+use Rattle.nv_schedule.proofs.FreshLaws.{works_first, works_last, works_more}
 use Rattle.nv_schedule.proofs.hiring.hire.Goals as goal
 
 pub loop-number-preserved : goal.loop-number-preserved
@@ -39,3 +39,15 @@ returns-clause-aside g c = aside_on c.args.zero.now c.loop-number.zero c.hire_on
 
 pub returns-in_err-hire_one-clause-aside : goal.returns-in_err-hire_one-clause-aside
 returns-in_err-hire_one-clause-aside g c = aside_on c.args.zero.now c.loop-number.zero c.hire_one.new.zero c.loop-number.invariant.aside c.hire_one.ensures.aside
+
+pub returns-clause-some : goal.returns-clause-some
+returns-clause-some g c =
+    let so_far = c.loop-number.invariant in
+    let all = c.loop-number-test.false in
+    let few = so_far.few in
+    works_last c.args.calls.now c.args.batch c.loop-number.number c.loop-number.callers.items c.hire_one-2.new.callers.items _ c.hire_one-2.result so_far.works (omega (arith, all, few)) refl c.hire_one-2.ensures.more c.hire_one-2.ensures.none
+
+pub returns-in_err-hire_one-clause-some : goal.returns-in_err-hire_one-clause-some
+returns-in_err-hire_one-clause-some g c =
+    let so_far = c.loop-number.invariant in
+    works_first c.args.calls.now c.args.batch c.loop-number.number c.hire_one.new.callers.items (ap (map (λ (caller : CallerState). caller.work)) c.in_err-hire_one.ensures.none ∙ so_far.works) so_far.few

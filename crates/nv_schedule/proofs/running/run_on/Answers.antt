@@ -6,11 +6,12 @@ use Rattle.nv_table.specs.passes.PassesMade.{imported_by}
 use Rattle.nv_table.specs.state.Views.{made_of}
 use Rattle.nv_runner.specs.Workers.{IsZero}
 use Rattle.nv_schedule.specs.Following.{IsWell, ScheduleTells, Stands}
+use Rattle.nv_schedule.specs.Going.{AllGoOn, HaveBegun}
 use Rattle.nv_schedule.specs.Ran.{RunTells}
 use Rattle.nv_schedule.specs.Scheduled.{IsAside}
 use Rattle.nv_schedule.specs.Turns.{CallerState}
 use Rattle.nv_schedule.proofs.EndLaws.{aside_on, told_aside}
-use Rattle.nv_schedule.proofs.RanLaws.{fresh_stand, fresh_well, run_tells, written_whole, zero_told}
+use Rattle.nv_schedule.proofs.RanLaws.{begun_fresh, begun_none, begun_on, fresh_stand, fresh_well, run_tells, written_whole, zero_told}
 use Rattle.nv_schedule.proofs.running.run_on.Goals as goal
 
 pub follow-after-requires-clause-stand : goal.follow-after-requires-clause-stand
@@ -71,3 +72,21 @@ returns-clause-stand g c =
 
 pub returns-in_err-hire-clause-stand : goal.returns-in_err-hire-clause-stand
 returns-in_err-hire-clause-stand g c = fresh_stand c.args.mount.now c.hire.new.callers.items c.hire.ensures.fresh
+
+pub returns-clause-begun : goal.returns-clause-begun
+returns-clause-begun g c =
+    let mount = c.args.mount.now in
+    let calls = c.args.calls.now in
+    let first = c.hire.new.callers.items in
+    let then_ = c.follow-after.new.callers in
+    let len : c.hire.new.callers.len ≡ length first = search rules in
+    let size : length then_ ≡ length first = c.follow-after.auto.callers ∙ ap length c.as_mut_slice.ensures.value in
+    subst (HaveBegun mount calls c.args.batch) (sym (written_whole c.hire.new.callers.len first then_ len size))
+    (begun_on mount calls c.args.batch first then_ c.hire.ensures.fresh c.hire.ensures.some
+    (subst (λ (callers : List CallerState). AllGoOn mount.fds callers then_) c.as_mut_slice.ensures.value c.follow-after.ensures.on))
+
+pub returns-in_err-hire-clause-begun : goal.returns-in_err-hire-clause-begun
+returns-in_err-hire-clause-begun g c = begun_fresh c.args.mount.now c.args.calls.now c.args.batch c.hire.new.callers.items c.hire.ensures.fresh c.hire.ensures.some
+
+pub returns-in_err-workspace-clause-begun : goal.returns-in_err-workspace-clause-begun
+returns-in_err-workspace-clause-begun g c = begun_none c.args.mount.now c.args.calls.now c.args.batch c.args.callers.now.items c.requires.none

@@ -9,7 +9,7 @@ use Rattle.nv_schedule.specs.Flights.{flights_of}
 use Rattle.nv_schedule.specs.Orders.{deeds}
 use Rattle.nv_schedule.proofs.AnswerLaws.{CallLaws}
 use Rattle.nv_schedule.proofs.EndLaws.{taken_count, zero_takes}
-use Rattle.nv_schedule.proofs.WholeLaws.{has_told}
+use Rattle.nv_schedule.proofs.WholeLaws.{has_told, have_called}
 use Rattle.nv_schedule.proofs.running.run_schedule.Goals as goal
 
 pub run_on-ran-requires-clause-zero : goal.run_on-ran-requires-clause-zero
@@ -56,6 +56,12 @@ returns g c =
         record {
           opened = taken.zero.board.same_mount ∙ sym c.requires.board.same_mount;
           spare = taken.taken.aside.spare ∙ ran.aside.spare;
+          called = (
+            c.run_on-ran.new.callers.items,
+            have_called c.args.mount c.args.calls.now c.args.batch c.run_on-ran.new.callers.items c.run_on-ran.new.zero zero c.close_bare-closed.result.placed laws
+                (subst (λ (o : Opened). IsMount (mount_of o)) c.requires.board.same_mount c.sees_a_run.ensures.mount) taken.zero.board.same_mount ran.stand ran.begun
+                (ran.aside.mine ∙ ap (λ (v : PassView). (pass_of v).mine) first) (ran.aside.flights ∙ ap (λ (v : PassView). flights_of (pass_of v)) first) taken.taken told.history,
+          );
           told = has_told c.args.mount c.args.tokens.now c.args.calls.now c.args.batch c.run_on-ran.new.callers.items c.run_on-ran.new.zero zero _ _ c.close_bare-closed.result.placed c.close_bare-closed.result.tail (g.D.Bench.state c.args.bench.now) (g.D.Bench.state c.run_on-ran.new.bench) laws
               (subst (λ (o : Opened). IsMount (mount_of o)) c.requires.board.same_mount c.sees_a_run.ensures.mount) taken.zero.board.same_mount ran.stand
               (ran.aside.deedless ∙ ap (λ (v : PassView). deeds (own 0 v.run)) first) (ran.aside.mine ∙ ap (λ (v : PassView). (pass_of v).mine) first) (ran.aside.flights ∙ ap (λ (v : PassView). flights_of (pass_of v)) first)

@@ -9,11 +9,13 @@ use Rattle.nv_schedule.specs.Reaches.{has_come, is_there}
 use Rattle.nv_schedule.specs.declared.turned.Turned.{Turned}
 use Rattle.nv_schedule.proofs.FaultLaws.{fails_only_cut, met_fault, unmet}
 use Rattle.nv_schedule.proofs.FollowLaws.{all_events_on, behind_none, behind_on, fall_on, goes_nowhere, goes_to, next_within, none_come, none_there}
+use Rattle.nv_schedule.proofs.SinceLaws.{all_both, all_self}
 use Rattle.nv_schedule.proofs.tokens.advance_to.Goals as goal
 
 pub loop-made-init : goal.loop-made-init
 loop-made-init g c = record {
   stand = c.requires.stand;
+  on = all_self c.args.mount.now.fds c.args.callers.now;
   workspace = c.requires.workspace;
   bare = c.requires.bare;
   view = c.requires.view;
@@ -39,6 +41,7 @@ loop-made-preserved g c =
     ap (has_come c.args.reach how.answered) (sym c.next_kind_at-in-loop-made.ensures) ∙ sym c.come_to_point.ensures ∙ c.if-come_to_point.false in
     record {
       stand = c.turn_at-later.ensures.stand;
+      on = all_both c.args.mount.now.fds c.args.callers.now c.loop-made.callers c.turn_at-later.new.callers so_far.on c.turn_at-later.ensures.on;
       workspace = c.turn_at-later.ensures.workspace;
       bare = c.turn_at-later.ensures.bare;
       view = c.turn_at-later.ensures.view;
@@ -114,3 +117,15 @@ returns-clause-tells g c =
       (let all = c.loop-made-test.false in let few = so_far.few in let count = so_far.count in omega (arith, all, few, count)),
       so_far.behind,
     )
+
+pub returns-then-ends-clause-on : goal.returns-then-ends-clause-on
+returns-then-ends-clause-on g c = all_both c.args.mount.now.fds c.args.callers.now c.loop-made.callers c.turn_at-later.new.callers c.loop-made.invariant.on c.turn_at-later.ensures.on
+
+pub returns-then-come_to_point-clause-on : goal.returns-then-come_to_point-clause-on
+returns-then-come_to_point-clause-on g c = all_both c.args.mount.now.fds c.args.callers.now c.loop-made.callers c.turn_at-later.new.callers c.loop-made.invariant.on c.turn_at-later.ensures.on
+
+pub returns-in_default-clause-on : goal.returns-in_default-clause-on
+returns-in_default-clause-on g c = all_both c.args.mount.now.fds c.args.callers.now c.loop-made.callers c.turn_at-later.new.callers c.loop-made.invariant.on c.turn_at-later.ensures.on
+
+pub returns-then-at_point-clause-on : goal.returns-then-at_point-clause-on
+returns-then-at_point-clause-on g c = all_self c.args.mount.now.fds c.args.callers.now

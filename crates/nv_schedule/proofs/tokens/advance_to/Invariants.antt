@@ -4,12 +4,14 @@ use Rattle.std.specs.Prelude.{All, None}
 use Rattle.nv_core.specs.steps.Events.{Event}
 use Rattle.nv_table.specs.state.Workspaces.{IsWorkspace}
 use Rattle.nv_schedule.specs.Following.{FallShort, IsWell, Stands, all_events, next_at}
+use Rattle.nv_schedule.specs.Going.{AllGoOn}
 use Rattle.nv_schedule.specs.Orders.{ComeBehind}
 use Rattle.nv_schedule.proofs.tokens.advance_to.Given as goal
 
 abbrev pub invariant-loop-made : goal.invariant-loop-made
 invariant-loop-made g l = record {
   stand : All (Stands l.mount) l.callers;
+  on : AllGoOn l.mount.fds l.initial.callers l.callers;
   workspace : IsWorkspace l.mount.board.opened.sizes l.workspace;
   bare : l.workspace.parts.items ≡ [];
   view : l.view.table ≡ l.mount.board.table;

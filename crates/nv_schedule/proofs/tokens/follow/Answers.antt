@@ -1,5 +1,5 @@
 -- One token after another.
-use Rattle.std.proofs.Common.{◌≡◌, ◌∷◌, ◌++◌, Bool, false, List, [], drop, length, sym, ap, subst, ◌∙◌, arith, length-append}
+use Rattle.std.proofs.Common.{◌≡◌, ◌∷◌, ◌++◌, Bool, false, List, [], drop, length, refl, sym, ap, subst, ◌∙◌, arith, length-append}
 use Rattle.std.specs.Prelude.{All}
 use Rattle.nv_bench.specs.Benches.{BenchState}
 use Rattle.nv_schedule.specs.Cuts.{cut_behind}
@@ -7,7 +7,8 @@ use Rattle.nv_schedule.specs.Following.{ScheduleTells}
 use Rattle.nv_trace.specs.Shape.{IsTokenWithin}
 use Rattle.nv_trace.specs.declared.token.Token.{Token}
 use Rattle.nv_schedule.proofs.CutLaws.{all_at, armed_only, cut_behind_both, cut_tells, few_arms, on_err}
-use Rattle.nv_schedule.proofs.FollowLaws.{done_on, moved_on, on_ok, schedule_on}
+use Rattle.nv_schedule.proofs.FollowLaws.{behind_none, done_on, moved_on, on_ok, schedule_on}
+use Rattle.nv_schedule.proofs.SinceLaws.{all_both, all_self}
 use Rattle.nv_schedule.proofs.tokens.follow.Goals as goal
 
 pub follow_one-after-requires-clause-within : goal.follow_one-after-requires-clause-within
@@ -28,6 +29,23 @@ follow_one-after-requires-clause-arms g c κs within =
     let most = c.requires.arms in
     omega (arith, first, all, both, few, is, most)
 
+pub loop-rest-init : goal.loop-rest-init
+loop-rest-init g c = record {
+  stand = c.requires.stand;
+  on = all_self c.args.mount.now.fds c.args.callers.now;
+  workspace = c.requires.workspace;
+  bare = c.requires.bare;
+  view = c.requires.view;
+  before = [];
+  tokens = refl;
+  trail = [];
+  cut = refl;
+  well = λ uncut. c.requires.well;
+  follows = (refl, refl);
+  behind = behind_none c.args.view.run;
+  armed = refl;
+}
+
 pub loop-rest-preserved : goal.loop-rest-preserved
 loop-rest-preserved g c =
     let so_far = c.loop-rest.invariant in
@@ -41,6 +59,7 @@ loop-rest-preserved g c =
     (g.D.Bench.state c.args.bench.now) (g.D.Bench.state c.loop-rest.bench) (g.D.Bench.state c.follow_one-after.new.bench) so_far.follows so_far.behind so_far.armed c.follow_one-after.result.1 tells fine in
     record {
       stand = c.follow_one-after.ensures.stand;
+      on = all_both fds c.args.callers.now c.loop-rest.callers c.follow_one-after.new.callers so_far.on c.follow_one-after.ensures.on;
       workspace = c.follow_one-after.ensures.workspace;
       bare = c.follow_one-after.ensures.bare;
       view = c.follow_one-after.ensures.view;
@@ -93,3 +112,6 @@ pub returns-clause-armed : goal.returns-clause-armed
 returns-clause-armed g c =
     let so_far = c.loop-rest.invariant in
     armed_only so_far.before (g.D.Bench.state c.args.bench.now) (g.D.Bench.state c.loop-rest.bench) so_far.armed
+
+pub returns-then-is_err-clause-on : goal.returns-then-is_err-clause-on
+returns-then-is_err-clause-on g c = all_both c.args.mount.now.fds c.args.callers.now c.loop-rest.callers c.follow_one-after.new.callers c.loop-rest.invariant.on c.follow_one-after.ensures.on

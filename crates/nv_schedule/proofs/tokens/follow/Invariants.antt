@@ -5,6 +5,7 @@ use Rattle.nv_core.specs.steps.Events.{Event}
 use Rattle.nv_table.specs.state.Workspaces.{IsWorkspace}
 use Rattle.nv_schedule.specs.Cuts.{IsCutBy, cut_behind}
 use Rattle.nv_schedule.specs.Following.{Follows, IsWell, Stands}
+use Rattle.nv_schedule.specs.Going.{AllGoOn}
 use Rattle.nv_schedule.specs.Orders.{ComeBehind}
 use Rattle.nv_trace.specs.declared.token.Token.{Token}
 use Rattle.nv_schedule.proofs.tokens.follow.Given as goal
@@ -12,6 +13,7 @@ use Rattle.nv_schedule.proofs.tokens.follow.Given as goal
 abbrev pub invariant-loop-rest : goal.invariant-loop-rest
 invariant-loop-rest g l = record {
   stand : All (Stands l.mount) l.callers;
+  on : AllGoOn l.mount.fds l.initial.callers l.callers;
   workspace : IsWorkspace l.mount.board.opened.sizes l.workspace;
   bare : l.workspace.parts.items ≡ [];
   view : l.view.table ≡ l.mount.board.table;

@@ -7,6 +7,7 @@ use Rattle.nv_schedule.specs.Following.{IsWell, ScheduleTells, TokenTells}
 use Rattle.nv_trace.specs.Shape.{IsTokenWithin}
 use Rattle.nv_trace.specs.declared.token.Token.{Token}
 use Rattle.nv_schedule.proofs.FollowLaws.{behind_none, token_tells}
+use Rattle.nv_schedule.proofs.SinceLaws.{all_self}
 use Rattle.nv_schedule.proofs.tokens.follow_one.Goals as goal
 
 pub returns-in-Advance-clause-tells : goal.returns-in-Advance-clause-tells
@@ -32,3 +33,6 @@ returns-in-Cut-clause-tells g c =
 
 pub returns-in-Cut-clause-well : goal.returns-in-Cut-clause-well
 returns-in-Cut-clause-well g c = λ uncut. absurd (true≢false (subst (λ (token : Token). cut_behind c.args.cut (token ∷ []) ≡ false) c.in-Cut.is uncut))
+
+pub returns-in-Cut-clause-on : goal.returns-in-Cut-clause-on
+returns-in-Cut-clause-on g c = all_self c.args.mount.now.fds c.args.callers.now
