@@ -83,6 +83,7 @@ def refusals(program, folder):
     yield "no folder named", call(program, []), USAGE
     yield "a folder alone", call(program, [folder]), USAGE
     yield "a stop over real files", call(program, [folder, *RUN, "--stop", "3"], HELLO), USAGE
+    yield "a schedule over real files", call(program, [folder, "sched"], HELLO), USAGE
     yield "no such folder", call(program, [folder + "/none", *RUN], HELLO), DEVICE
     yield "a region of no part", call(program, [folder, "recover"]), NO_HEADER
     os.mkdir(folder + "/region/part-0")

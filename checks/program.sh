@@ -1,18 +1,18 @@
 #!/usr/bin/env bash
-# Looks at the pages that a person reads (docs.py), follows rows of schedules by the model of the machine that is made after them
-# (schedules.py), tests nv_sim and nv_run as their users run them (program.py, folder.py), compares the summaries of loads with those of
-# the rules (load.py), stops runs of two threads at each of many device calls (stops.py), kills a few of four over a folder (threads.py),
-# and counts what calls that take no memory allocate. The gate leaves the programs built; without it, this builds them. Ends with the
-# status of the first that fails.
+# Looks at the pages that a person reads (docs.py), tests nv_sim and nv_run as their users run them (program.py, folder.py), compares
+# the summaries of loads with those of the rules (load.py) and the reports of 300 drawn schedules with those of a model of the machine
+# that is made after the pages (schedules.py), stops runs of two threads at each of many device calls (stops.py), kills a few of four
+# over a folder (threads.py), and counts what calls that take no memory allocate. The gate leaves the programs built; without it, this
+# builds them. Ends with the status of the first that fails.
 set -eu
 cd "$(dirname "$0")/../crates"
 python3 ../checks/docs.py
-python3 ../checks/schedules.py --rows
 built() { [ -x "$1/out/$1" ] || (cd "$1" && rt run -- "${@:2}" < /dev/null > /dev/null); }
 built nv_sim run --noworker
 built nv_run || true
 python3 ../checks/program.py "$PWD/nv_sim/out/nv_sim"
 python3 ../checks/load.py "$PWD/nv_sim/out/nv_sim"
+python3 ../checks/schedules.py "$PWD/nv_sim/out/nv_sim"
 python3 ../checks/stops.py "$PWD/nv_sim/out/nv_sim"
 python3 ../checks/folder.py "$PWD/nv_run/out/nv_run"
 python3 ../checks/threads.py "$PWD/nv_run/out/nv_run" 8 60

@@ -1,11 +1,11 @@
 #!/usr/bin/env python3
-"""Follows schedules by the model of machine.py and by a program's command `sched`, which nv_sim lacks yet, and compares what the two report.
+"""Follows schedules by the model of machine.py and by the command `sched` of a program, and compares what the two report.
 
 First come rows whose reports are known. A schedule is drawn by its number: three threads and the cleaner over a file or two of four pages
 and a small log, with cuts and without, and each pick. What the model recovers is compared with its history and the writes that were kept.
 Closes with 'N passed, M failed', and fails where one fails.
 
-    schedules.py PROGRAM [COUNT [FIRST]]   PROGRAM has `sched`; COUNT schedules, 300 unless said, are drawn from number FIRST on
+    schedules.py PROGRAM [COUNT [FIRST]]   PROGRAM is nv_sim; COUNT schedules, 300 unless said, are drawn from number FIRST on
     schedules.py --rows                    the rows by the model alone
 """
 
@@ -200,6 +200,9 @@ PICKS = ["old", "new", "torn", *map(str, range(10))]
 TWO_THREADS = (["0 pfill 0 0 128 0", "0 pwrite 0 0 aa", "1 pwrite 0 64 bb"], "0:done 0:seize 1:done 0:pledge cut:12 0")
 IN_TWO_ENTRIES = ([f"0 pwrite 0 {k} 0{k}" for k in range(3)], "0:done w:done 0:done w:done 0:done")
 ONE = ["0 pwrite 0 0 aa"]
+# A sync makes three advances, and a call that its arguments bar one: together 100,000.
+MANY = ["0 fsync 0"] * 33_333 + ["0 pread 0 4096 1"]
+ALL_MANY = "|".join([f"{k} 0 fsync 0 = 0" for k in range(33_333)] + ["refused 0 pread 0 4096 1: too far", "file a 0 -", "end 33333 1 0"])
 LOST = "open 0 pwrite 0 0 1: lost|file a 0 -|end 0 0 1"
 KEPT = "open 0 pwrite 0 0 1: kept|file a 1 aa|end 0 0 1"
 PLACED = "0 0 pwrite 0 0 1 = 1|file a 1 aa|end 1 0 0"
@@ -229,6 +232,14 @@ ROWS = [
     ("two entries, cleaned between", {"entries": 2}, "old", *IN_TWO_ENTRIES,
      "0 0 pwrite 0 0 1 = 1|1 0 pwrite 0 1 1 = 1|2 0 pwrite 0 2 1 = 1|file a 3 000102|end 3 0 0"),
     ("turns used up", {}, "old", ["0 pwrite 0 0 01", "1 pwrite 0 0 02"], "0:place 1:done", "error turns"),
+    ("the last of a token's turns", {}, "old", MANY, "0:draw", ALL_MANY),
+    ("one turn too few", {}, "old", [*MANY, "0 pread 0 4096 1"], "0:draw", "error turns"),
+    ("two open writes, the later one committed", {}, "old", ["0 pfill 0 0 65 0", *TWO_THREADS[0][1:]], "0:done 0:seize 1:ready",
+     f"0 0 pwrite 0 0 65 = 65|open 0 pwrite 0 0 1: lost|open 1 pwrite 0 64 1: kept|file a 65 {'00' * 64}bb|end 1 0 2"),
+    ("two open writes, the earlier one committed", {}, "old", ["0 pfill 0 0 65 0", *TWO_THREADS[0][1:]], "0:done 0:seize 1:seize 0:ready",
+     f"0 0 pwrite 0 0 65 = 65|open 0 pwrite 0 0 1: kept|open 1 pwrite 0 64 1: lost|file a 65 aa{'00' * 64}|end 1 0 2"),
+    ("in mid-call", {}, "new", ["0 pwrite 0 0 11", "1 pread 0 0 1", "2 fsync 0", "3 pwrite 0 0 22", "3 fsync 0"], "2 1 0",
+     "open 0 pwrite 0 0 1: lost|open 1 pread 0 0 1: unanswered|open 2 fsync 0: unanswered|file a 0 -|end 0 0 3"),
     ("full log", {"entries": 2}, "old", IN_TWO_ENTRIES[0], "0:done 0:done 0:done",
      "0 0 pwrite 0 0 1 = 1|1 0 pwrite 0 1 1 = 1|refused 0 pwrite 0 2 1: again 2 0|file a 2 0001|end 2 1 0"),
     ("one buffer", {"cache": 1}, "old",
