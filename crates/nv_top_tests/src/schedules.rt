@@ -52,9 +52,9 @@ where
     expect_status(rt, words, trace.as_str(), DONE, report)
 }
 
-// Of two writers that race on different pages one is placed, and the other is cut between the store of its commit word and its flush: it is lost or kept, by the image.
+// Of two writers that race on different pages the second is placed, and the commit of the first is cut before the fence behind its commit word: it is lost or kept, by the image.
 #[test]
-fn a_write_is_cut_in_its_commit(rt: HostRuntime) -> Result<(), Fail> {
+fn a_write_is_cut_before_its_last_fence(rt: HostRuntime) -> Result<(), Fail> {
     let alloc = rt.alloc();
     let calls = "0 pfill 0 0 128 0\n0 pwrite 0 0 aa\n1 pwrite 0 64 bb\n";
     let tokens = "0:done 0:seize 1:done 0:pledge cut:12 0";
@@ -73,18 +73,60 @@ fn a_write_is_cut_in_its_commit(rt: HostRuntime) -> Result<(), Fail> {
     Ok(())
 }
 
+// Two writes are open, of which one has committed: each has the fate of its own number, the first one's being the lower.
+#[test]
+fn open_writes_have_fates_of_their_own(rt: HostRuntime) -> Result<(), Fail> {
+    let alloc = rt.alloc();
+    let calls = "0 pfill 0 0 65 0\n0 pwrite 0 0 aa\n1 pwrite 0 64 bb\n";
+    let placed = "0 0 pwrite 0 0 65 = 65\nopen 0 pwrite 0 0 1: ";
+    let mut first = String::from_str(alloc, placed)?;
+    first.push_str("kept\nopen 1 pwrite 0 64 1: lost\nfile a 65 aa")?;
+    let mut second = String::from_str(alloc, placed)?;
+    second.push_str("lost\nopen 1 pwrite 0 64 1: kept\nfile a 65 ")?;
+    let first = filled(alloc, first.as_str(), "00", 64, "\nend 1 0 2\n")?;
+    let second = filled(alloc, second.as_str(), "00", 64, "bb\nend 1 0 2\n")?;
+    for image in PICKS {
+        expect(&rt, image, calls, "0:done 0:seize 1:seize 0:ready", &first)?;
+        expect(&rt, image, calls, "0:done 0:seize 1:ready", &second)?;
+    }
+    Ok(())
+}
+
 #[test]
 fn schedules_by_their_reports(rt: HostRuntime) -> Result<(), Fail> {
-    let racing = "0 pwrite 0 0 11\n1 pread 0 0 1\n";
-    let read = b"0 0 pwrite 0 0 1 = 1\n1 1 pread 0 0 1 = 11\nfile a 1 11\nend 2 0 0\n";
-    expect(&rt, "old", racing, "0:place 1 0:done 1:done", read)?;
-    let cleaned = b"0 0 pwrite 0 0 1 = 1\nfile a 1 dd\nend 1 0 0\n";
-    expect(&rt, "torn", "0 pwrite 0 0 dd\n", "0:done w:free", cleaned)?;
-    let lost = b"open 0 pwrite 0 0 192: lost\nfile a 0 -\nend 0 0 1\n";
-    let tokens = "0:pledge cut:19 0";
-    expect(&rt, "new", "0 pfill 0 0 192 5\n", tokens, lost)?;
-    let kept = b"open 0 pwrite 0 0 1: kept\nfile a 1 cc\nend 0 0 1\n";
-    expect(&rt, "old", "0 pwrite 0 0 cc\n", "0:place w:done", kept)
+    for (image, calls, tokens, report) in [
+        // A read begins while a write stands before its place, finds its page held, and is made again behind it.
+        (
+            "old",
+            "0 pwrite 0 0 11\n1 pread 0 0 1\n",
+            "0:place 1 0:done 1:done",
+            "0 0 pwrite 0 0 1 = 1\n1 1 pread 0 0 1 = 11\nfile a 1 11\nend 2 0 0\n",
+        ),
+        // A write was cleaned, but its store isn't synced: what is torn there the log mends.
+        (
+            "torn",
+            "0 pwrite 0 0 dd\n",
+            "0:done w:free",
+            "0 0 pwrite 0 0 1 = 1\nfile a 1 dd\nend 1 0 0\n",
+        ),
+        // A group of three pieces, of nine device calls each, is cut at the first call of its third one.
+        (
+            "new",
+            "0 pfill 0 0 192 5\n",
+            "0:pledge cut:19 0",
+            "open 0 pwrite 0 0 192: lost\nfile a 0 -\nend 0 0 1\n",
+        ),
+        // A write is cleaned before it has its place.
+        (
+            "old",
+            "0 pwrite 0 0 cc\n",
+            "0:place w:done",
+            "open 0 pwrite 0 0 1: kept\nfile a 1 cc\nend 0 0 1\n",
+        ),
+    ] {
+        expect(&rt, image, calls, tokens, report.as_bytes())?;
+    }
+    Ok(())
 }
 
 // Calls that were begun and have neither an answer nor a place are open, those of reads and fsyncs too; and those that never began aren't listed.
