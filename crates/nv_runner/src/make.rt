@@ -1,5 +1,5 @@
 //! One call, made until it is answered for good.
-ghost use Rattle.std.specs.Prelude.{◌≡◌, ℕ, true, false, ◌&&◌, [], Option, None, is_some, IfOk, OnOk, OnErr};
+ghost use Rattle.std.specs.Prelude.{◌≡◌, ℕ, true, false, ◌&&◌, [], length, Option, None, is_some, IfOk, OnOk, OnErr};
 ghost use Rattle.nv_table.specs.invariant.Idle.{IsIdle, IsLater};
 ghost use Rattle.nv_table.specs.state.States.{IsOf};
 ghost use Rattle.nv_table.specs.state.Workspaces.{IsWorkspace};
@@ -26,7 +26,19 @@ use std::alloc::Global;
 use std::sync::Wait;
 use std::thread::yield_now;
 
-// A read, with room for its bytes; for none where it is refused by what it asks for.
+// So many bytes, in the last of `rooms` where there is one.
+fn room_for(alloc: Global, rooms: &mut Vec<Vec<u8>>, len: u64) -> Result<Vec<u8>, NoMemory>
+    ensures { IfOk result (λ room. length room.items ≡ len) }
+{
+    let mut room = match rooms.pop() {
+        Some(room) => room,
+        None => Vec::new(alloc),
+    };
+    room.resize(len as usize, 0)?;
+    Ok(room)
+}
+
+// A read, with room for its bytes, the last of `rooms` where there is one; with none where it is refused by what it asks for.
 fn make_read<R: Wait, L: Lines + Drop, B: Backing + Drop>(
     rt: &R,
     alloc: Global,
@@ -35,6 +47,7 @@ fn make_read<R: Wait, L: Lines + Drop, B: Backing + Drop>(
     fd: u64,
     at: u64,
     len: u64,
+    rooms: &mut Vec<Vec<u8>>,
 ) -> Result<Answer, NoMemory>
     requires board { IsOf mount.now.board pass.old }
     requires idle { IsIdle pass.old }
@@ -55,7 +68,7 @@ fn make_read<R: Wait, L: Lines + Drop, B: Backing + Drop>(
     if let Some(refusal) = early_read_refusal(mount, fd, at, len) {
         return Ok(Answer::Refused(refusal));
     }
-    let mut bytes = vec![in alloc; 0; len as usize]?;
+    let mut bytes = room_for(alloc, rooms, len)?;
     match pread(rt, mount, pass, fd, at, &mut bytes) {
         Ok(done) => {
             bytes.truncate(done.len as usize);
@@ -193,8 +206,8 @@ fn make_sync<L: Lines + Drop, B: Backing + Drop>(
 
 /// Makes one call, again as long as a lock is found held or another write draws its numbers, and, where `worker` tells the most entries of a batch, runs a batch of the cleaner
 /// behind each try for which the log has no room. It may wait for ever, so it returns only where the others give their locks back, and the log gets room. The answer is the
-/// call's place in the history, with the reply that plain files give after the calls before it; or why it has none, which is none of these; and a write that a device fault ended is open. A read's bytes lie in memory of `alloc`:
-/// where that is wanting nothing was done.
+/// call's place in the history, with the reply that plain files give after the calls before it; or why it has none, which is none of these; and a write that a device fault ended is open. A read's bytes
+/// lie in the last of `rooms`, which is taken out of them, and in memory of `alloc` where it is too short or there is none: where that is wanting nothing was done. No other call takes memory.
 pub fn make_call<R: Wait, L: Lines + Drop, B: Backing + Drop>(
     rt: &R,
     alloc: Global,
@@ -203,6 +216,7 @@ pub fn make_call<R: Wait, L: Lines + Drop, B: Backing + Drop>(
     workspace: &mut Workspace<L, B>,
     call: &TraceCall,
     worker: Option<u64>,
+    rooms: &mut Vec<Vec<u8>>,
 ) -> Result<Answer, NoMemory>
     requires board { IsOf mount.now.board pass.old }
     requires idle { IsIdle pass.old }
@@ -217,7 +231,9 @@ pub fn make_call<R: Wait, L: Lines + Drop, B: Backing + Drop>(
     ensures memory { OnErr result (pass.new ≡ pass.old) }
 {
     match call {
-        TraceCall::Pread { fd, at, len } => make_read(rt, alloc, mount, pass, *fd, *at, *len),
+        TraceCall::Pread { fd, at, len } => {
+            make_read(rt, alloc, mount, pass, *fd, *at, *len, rooms)
+        }
         TraceCall::Pwrite { fd, at, bytes } => Ok(make_write(
             rt,
             mount,

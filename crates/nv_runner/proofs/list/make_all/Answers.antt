@@ -1,13 +1,33 @@
 -- The calls that were made are one more.
-use Rattle.std.proofs.Common.{◌≡◌, ◌+◌, List, [], ◌∷◌, ◌++◌, drop, map, sym, ap, subst, ◌∙◌}
+use Rattle.std.proofs.Common.{◌≡◌, ℕ, ◌+◌, List, [], ◌∷◌, ◌++◌, drop, map, refl, sym, ap, subst, ◌∙◌}
+use Rattle.std.specs.Prelude.{Option}
 use Rattle.std.proofs.lemmas.List.{map-append}
 use Rattle.nv_pages.proofs.StoreLaws.{on_err}
 use Rattle.nv_table.specs.state.States.{PassState}
 use Rattle.nv_table.proofs.steps.CallLaws.{later_on}
+use Rattle.nv_mount.specs.declared.fds.Fd.{Fd}
+use Rattle.nv_trace.specs.declared.trace_call.TracedCall.{TracedCall}
+use Rattle.nv_runner.specs.declared.answer.AnsweredCall as declared
 use Rattle.nv_runner.specs.Lists.{AreMade, MadeCall, SomeWereMade, calls_made, made_call, made_calls}
 use Rattle.nv_runner.specs.Shifts.{calls_of_thread}
 use Rattle.nv_runner.proofs.ListLaws.{listed_on, made_on}
 use Rattle.nv_runner.proofs.list.make_all.Goals as goal
+
+none_made : (fds : List Fd) (worker : Option ℕ) (all : List TracedCall) (answered : List declared.AnsweredCall) (start : PassState) → answered ≡ [] → SomeWereMade fds worker all (made_calls answered) start start
+none_made fds worker all answered start none = subst (λ l. SomeWereMade fds worker all (made_calls l) start start) (sym none) record { left = all; some = refl; each = refl }
+
+pub returns-in_err-rooms-clause-memory : goal.returns-in_err-rooms-clause-memory
+returns-in_err-rooms-clause-memory g c =
+    let all = calls_of_thread c.args.thread c.args.calls.now in
+    on_err c.from_residual.result (SomeWereMade c.args.mount.now.fds c.args.worker all (made_calls c.args.answered.now.items) c.args.pass.now c.args.pass.now)
+    (none_made c.args.mount.now.fds c.args.worker all c.args.answered.now.items c.args.pass.now c.requires.none)
+
+pub returns-in_err-reserve_exact-clause-memory : goal.returns-in_err-reserve_exact-clause-memory
+returns-in_err-reserve_exact-clause-memory g c =
+    let all = calls_of_thread c.args.thread c.args.calls.now in
+    let answered = c.reserve_exact.new.self.items in
+    on_err c.from_residual-in_err-reserve_exact.result (SomeWereMade c.args.mount.now.fds c.args.worker all (made_calls answered) c.args.pass.now c.args.pass.now)
+    (none_made c.args.mount.now.fds c.args.worker all answered c.args.pass.now (c.reserve_exact.ensures.items ∙ c.requires.none))
 
 pub loop-call-preserved : goal.loop-call-preserved
 loop-call-preserved g c =
@@ -32,6 +52,17 @@ loop-call-preserved g c =
           (listed_on thread calls c.loop-call.call-index c.call-item.result made m.answer c.loop-call-test.true c.call-item.is c.if-call-thread.false c.loop-call.invariant.listed);
       each = subst (λ l. AreMade fds worker l start new) (sym items) (made_on fds worker made m start old new c.loop-call.invariant.each c.in_ok-answer.ensures.answered);
     }
+
+pub returns-in_err-reserve-clause-memory : goal.returns-in_err-reserve-clause-memory
+returns-in_err-reserve-clause-memory g c =
+    let fds = c.args.mount.now.fds in
+    let worker = c.args.worker in
+    let all = calls_of_thread c.args.thread c.args.calls.now in
+    let start = c.args.pass.now in
+    let some : SomeWereMade fds worker all (made_calls c.loop-call.answered.items) start c.loop-call.pass =
+    record { left = calls_of_thread c.args.thread (drop c.loop-call.call-index c.args.calls.now); some = c.loop-call.invariant.listed; each = c.loop-call.invariant.each } in
+    on_err c.from_residual-in_err-reserve.result (SomeWereMade fds worker all (made_calls c.reserve.new.self.items) start c.loop-call.pass)
+    (subst (λ l. SomeWereMade fds worker all (made_calls l) start c.loop-call.pass) (sym c.reserve.ensures.items) some)
 
 pub returns-in_err-answer-clause-memory : goal.returns-in_err-answer-clause-memory
 returns-in_err-answer-clause-memory g c =
