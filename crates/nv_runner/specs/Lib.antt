@@ -3,6 +3,7 @@ pub mod Runs
 pub mod Calls
 pub mod Lists
 pub mod OpenWrites
+pub mod Cleaned
 pub mod Shifts
 pub mod Rounds
 pub mod Workers

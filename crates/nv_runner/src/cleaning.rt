@@ -1,15 +1,9 @@
 //! Cleaning a log until it is empty.
-ghost use Rattle.std.specs.Prelude.{◌≡◌, false, OnOk, Ok, Err, Some};
+ghost use Rattle.std.specs.Prelude.{◌≡◌, false, OnOk, Ok, Err};
 ghost use Rattle.nv_core.specs.state.Words.{STOP};
-ghost use Rattle.nv_table.specs.invariant.BetweenSteps.{KnowsTaken};
-ghost use Rattle.nv_table.specs.invariant.Idle.{IsIdle, IsLater};
-ghost use Rattle.nv_table.specs.passes.Alone.{IsAlone};
-ghost use Rattle.nv_table.specs.state.States.{IsOf};
 ghost use Rattle.nv_mount.specs.ClosedAtRest.{HasEmptiedLog};
 ghost use Rattle.nv_mount.specs.LoneWords.{word_then};
-ghost use Rattle.nv_mirror.specs.Answers.{IsUnplaced};
-ghost use Rattle.nv_runner.specs.OpenWrites.{KeepsFaults};
-ghost use Rattle.nv_runner.specs.Runs.{GoesOn};
+ghost use Rattle.nv_runner.specs.Cleaned.{HasCleaned, IsLeftAlone};
 ghost use Rattle.nv_runner.specs.declared.run_error.RunError.TheVariants as errors;
 
 use crate::RunError;
@@ -27,19 +21,8 @@ fn clean_one<L: Lines + Drop, B: Backing + Drop>(
     pass: &mut Pass<L, B>,
     batch: u64,
 ) -> Result<bool, RunError>
-    requires board { IsOf mount.now.board pass.old }
-    requires idle { IsIdle pass.old }
-    requires taken { KnowsTaken pass.old.view }
-    requires alone { IsAlone pass.old.view }
-    ensures board { IsOf mount.now.board pass.new }
-    ensures idle { IsIdle pass.new }
-    ensures later { IsLater pass.old pass.new }
-    ensures spare { pass.new.spare ≡ pass.old.spare }
-    ensures kept { IsUnplaced pass.old.view pass.new.view }
-    ensures keeps { KeepsFaults pass.old pass.new }
-    ensures on { GoesOn (Some batch) 0 pass.old pass.new }
-    ensures taken { KnowsTaken pass.new.view }
-    ensures alone { IsAlone pass.new.view }
+    requires alone { IsLeftAlone mount.now.board pass.old }
+    ensures cleaned { HasCleaned mount.now.board batch pass.old pass.new }
     ensures emptied { result ≡ Ok false → HasEmptiedLog pass.new.view }
     ensures fault { result ≡ Err errors.Fault → word_then pass.new.view STOP ≡ 1 }
 {
@@ -59,19 +42,8 @@ pub(crate) fn clean_all<R: Wait, L: Lines + Drop, B: Backing + Drop>(
     pass: &mut Pass<L, B>,
     batch: u64,
 ) -> Result<(), RunError>
-    requires board { IsOf mount.now.board pass.old }
-    requires idle { IsIdle pass.old }
-    requires taken { KnowsTaken pass.old.view }
-    requires alone { IsAlone pass.old.view }
-    ensures board { IsOf mount.now.board pass.new }
-    ensures idle { IsIdle pass.new }
-    ensures later { IsLater pass.old pass.new }
-    ensures spare { pass.new.spare ≡ pass.old.spare }
-    ensures kept { IsUnplaced pass.old.view pass.new.view }
-    ensures keeps { KeepsFaults pass.old pass.new }
-    ensures on { GoesOn (Some batch) 0 pass.old pass.new }
-    ensures taken { KnowsTaken pass.new.view }
-    ensures alone { IsAlone pass.new.view }
+    requires alone { IsLeftAlone mount.now.board pass.old }
+    ensures cleaned { HasCleaned mount.now.board batch pass.old pass.new }
     ensures emptied { OnOk result (HasEmptiedLog pass.new.view) }
     ensures fault { result ≡ Err errors.Fault → word_then pass.new.view STOP ≡ 1 }
 {

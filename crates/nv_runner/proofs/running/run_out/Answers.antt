@@ -81,9 +81,10 @@ returns-clause-outcome g c =
     let rise : RoundsRise (calls_made made) = rises_within calls made (c.lines_keep_order.ensures.rounds calls calls c.requires.lines c.requires.well_formed.round_order (IsPermutation-refl calls)).1 within in
     let own = run_lines c.args.mount.now.fds (batch_of c.args.plan) calls made zero (subst (λ w. HasRun c.args.mount.now.fds w made zero) c.worker_batch.ensures ran.run) c.requires.lines within in
     let now = c.clean_all-cleaned.new.pass in
-    let clean = c.clean_all-cleaned.ensures in
+    let cleaning = c.clean_all-cleaned.ensures in
+    let clean = cleaning.cleaned in
     let cleaned : IsCleaned zero now = record {
-      opened = clean.board.same_mount ∙ sym ran.zero.board.same_mount;
+      opened = clean.left.board_is.same_mount ∙ sym ran.zero.board.same_mount;
       ended = clean.later.ended;
       spare = clean.spare;
       unplaced = clean.kept;
@@ -91,11 +92,11 @@ returns-clause-outcome g c =
       more = clean.on.more;
       run = clean.on.run;
       drawn = (let drew = clean.on.drawn in omega (arith, drew));
-      idle = clean.idle;
-      taken = clean.taken;
-      alone = clean.alone;
+      idle = clean.left.idle;
+      taken = clean.left.taken;
+      alone = clean.left.alone;
     } in
     outcome_is c.args.mount.now.fds c.args.plan calls made start zero c.args.mount.now.board.opened c.requires.new (ran.zero.board.same_mount ∙ sym c.requires.board.same_mount) ran.still
     (subst (λ w. HasRun c.args.mount.now.fds w made zero) c.worker_batch.ensures ran.run) c.sees_a_run.ensures.mount c.sees_a_run.ensures.run knows ran.zero.number ran.all_in now cleaned
     c.runs_are_sound.ensures.runs c.histories_go_on.ensures c.refusals_in_runs_have_causes.ensures.causes c.refusals_in_runs_have_causes.ensures.heads c.refusals_in_runs_have_causes.ensures.room c.runs_draw_in_a_row.ensures.draws c.open_calls_are_the_faults.ensures.faults within own rise ran.distinct
-    c.sees_a_run-2.ensures.run c.clean_all-cleaned.result (ok_any c.clean_all-cleaned.result (subst (λ l. IsPermutation (calls_made made) l) c.calls.ensures.calls (went_well c.run_rounds-rounds.result ran.all (sym c.is_err.ensures.value ∙ c.if-is_err.false)))) (λ going. clean.emptied) (λ is. (not_some c.args.plan.stop (sym c.is_some.ensures ∙ c.if-is_some.false), stop_was_seen c.runs_are_sound.ensures.runs c.passes_are_left_alone.ensures.own now.view c.sees_a_run-2.ensures.mount c.sees_a_run-2.ensures.run clean.alone.zero clean.taken clean.alone.all (clean.fault is)))
+    c.sees_a_run-2.ensures.run c.clean_all-cleaned.result (ok_any c.clean_all-cleaned.result (subst (λ l. IsPermutation (calls_made made) l) c.calls.ensures.calls (went_well c.run_rounds-rounds.result ran.all (sym c.is_err.ensures.value ∙ c.if-is_err.false)))) (λ going. cleaning.emptied) (λ is. (not_some c.args.plan.stop (sym c.is_some.ensures ∙ c.if-is_some.false), stop_was_seen c.runs_are_sound.ensures.runs c.passes_are_left_alone.ensures.own now.view c.sees_a_run-2.ensures.mount c.sees_a_run-2.ensures.run clean.left.alone.zero clean.left.taken clean.left.alone.all (cleaning.fault is)))
