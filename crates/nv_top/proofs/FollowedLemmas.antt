@@ -7,7 +7,7 @@ use Rattle.std.proofs.Math.ListN.{get_or-map}
 use Rattle.std.proofs.lemmas.List.{length-map, map-set}
 use Rattle.std.proofs.lemmas.Bool.{true≢false}
 use Rattle.std.proofs.lemmas.List.Elements.{All-cons, All-filter, All-head, All-nil, All-tail, All-weaker}
-use Rattle.std.proofs.lemmas.List.Sorted.{All-permutation, IsPermutation-map, IsPermutation-trans}
+use Rattle.std.proofs.lemmas.List.Sorted.{All-permutation, IsPermutation-map, IsPermutation-sym, IsPermutation-trans}
 use Rattle.nv_plain.specs.Files.{Files}
 use Rattle.nv_plain.specs.Histories.{after}
 use Rattle.nv_plain.specs.Images.{Image}
@@ -58,7 +58,7 @@ use Rattle.nv_runner.specs.declared.sorted.SortedCalls.{SortedCalls}
 use Rattle.nv_runner.proofs.OpenRunLaws.{flat_moved}
 use Rattle.nv_runner.proofs.SortedLaws.{falls_not}
 use Rattle.nv_schedule.specs.Begun.{AreBegun, AreFirstOfThread, SchedulesBegin, listed_calls, unanswered_calls}
-use Rattle.nv_schedule.specs.FaithfulSchedules.{IsAllowedThen, IsFaithfulSchedule, SchedulesAreFaithful, ShowsSchedule, WasRefusedThen}
+use Rattle.nv_schedule.specs.FaithfulSchedules.{BeginThreads, IsAllowedThen, IsFaithfulSchedule, SchedulesAreFaithful, ShowsSchedule, WasRefusedThen}
 use Rattle.nv_schedule.specs.Scheduled.{AreCallsOf, HasFollowed}
 use Rattle.nv_schedule.specs.SortedOut.{AreOfOneRound, SchedulesAreLegal, SchedulesAreTold}
 use Rattle.nv_schedule.specs.Turns.{CallerState}
@@ -185,6 +185,13 @@ begun_all P calls listed unanswered each all =
     (all_left P (calls_of_thread thread listed ++ calls_of_thread thread unanswered) first.left
     (subst (All P) first.first (All-filter (λ (call : TracedCall). eqb call.thread thread) P calls all))))
 
+-- so it is of those of a report that are each thread's first ones
+pub report_all : (P : TracedCall → Type 0) (calls some : List TracedCall) → BeginThreads calls some → All P calls → All P some
+report_all P calls some begins all =
+    All-permutation P begins.begun some (IsPermutation-sym some begins.begun begins.each_once)
+    (all_threads P begins.begun (λ thread.
+    all_left P (calls_of_thread thread begins.begun) (begins.left thread) (subst (All P) (begins.first thread) (All-filter (λ (call : TracedCall). eqb call.thread thread) P calls all))))
+
 -- ---- where devices have failed
 
 refused_more : (failed more : Type 0) (basis : Basis) (drew : List TracedCall) (call : TracedCall) (refusal : Refusal) → (failed → more) → WasRefusedThen failed basis drew call refusal
@@ -223,6 +230,12 @@ schedule_more failed more basis trace report on is = record {
 
 -- ---- the report
 
+-- a trace that may have no rounds has its calls in one
+pub one_round : (trace : Traced) → IsWellFormed trace → has_rounds trace.form ≡ false → AreOfOneRound trace.calls
+one_round trace formed no_rounds =
+    let none = formed.no_rounds no_rounds in
+    (0, All-weaker (λ (call : TracedCall). call.round ≤ trace.rounds) (λ (call : TracedCall). call.round ≡ 0) (λ call low. omega (arith, low, none)) trace.calls formed.rounds)
+
 module _ (basis : Basis) (trace : Traced) (mount : MountState) (pass zero : PassState) (part_values store_values : List Value)
     (parts : List lines.PartHistory) (held : List stores.StoreHistory) (faults placed tail : ℕ)
     (over : HasClosedOver basis trace mount pass zero part_values store_values parts held faults placed tail)
@@ -240,16 +253,11 @@ module _ (basis : Basis) (trace : Traced) (mount : MountState) (pass zero : Pass
   on_files : CallsOnFiles mount.fds (file_call descriptors)
   on_files = files_so mount.fds descriptors (ap (map (λ (fd : Fd). fd.file)) over.begins.is_mount.fds_are ∙ same_files descriptors)
 
-  one_round : AreOfOneRound trace.calls
-  one_round =
-      let none = formed.no_rounds no_rounds in
-      (0, All-weaker (λ (call : TracedCall). call.round ≤ trace.rounds) (λ (call : TracedCall). call.round ≡ 0) (λ call low. omega (arith, low, none)) trace.calls formed.rounds)
-
   begun : AreBegun trace.calls (listed_calls told) (unanswered_calls told)
   begun = begin_so mount trace.tokens trace.calls batch then_ zero told followed calls_are rise
 
   are_told : AreTold mount.fds (listed_calls told) sorted (history_then zero.view)
-  are_told = told_so mount trace.tokens trace.calls batch then_ zero told sorted part_values store_values parts held faults placed tail followed calls_are over.closed rise one_round out
+  are_told = told_so mount trace.tokens trace.calls batch then_ zero told sorted part_values store_values parts held faults placed tail followed calls_are over.closed rise (one_round trace formed no_rounds) out
 
   within : All (λ (o : Open). IsCallWithin (length descriptors) o.call.now.call) items
   within =
@@ -265,7 +273,7 @@ module _ (basis : Basis) (trace : Traced) (mount : MountState) (pass zero : Pass
 
   history_files : after (history_of descriptors (map placed_call sorted.placed.items)) basis.files ≡ files_then zero.view basis.files
   history_files =
-      (legal_so mount trace.tokens trace.calls batch then_ zero told sorted part_values store_values parts held faults placed tail followed calls_are over.closed rise one_round out (file_call descriptors) on_files
+      (legal_so mount trace.tokens trace.calls batch then_ zero told sorted part_values store_values parts held faults placed tail followed calls_are over.closed rise (one_round trace formed no_rounds) out (file_call descriptors) on_files
       basis.files zero.view.opened.next (log_opens basis trace mount pass zero part_values store_values parts held faults placed tail over)
       (files_open basis trace mount pass zero part_values store_values parts held faults placed tail over)).1
 
@@ -302,7 +310,7 @@ module _ (basis : Basis) (trace : Traced) (mount : MountState) (pass zero : Pass
         ∙ ap (λ groups. after_open descriptors (map (fated found.first groups) order.0) files) (sym (log.groups bytes))
         ∙ sym (order.2 descriptors files)
 
-    files_are : shown_files ≡ files_shown basis trace report
+    pub files_are : shown_files ≡ files_shown basis trace report
     files_are =
         stand_so version_1 version_1.header_lines image bytes left.header.readable ∙ recovered_files ∙ ap (after_open descriptors shown) (sym history_files)
 
@@ -321,5 +329,5 @@ module _ (basis : Basis) (trace : Traced) (mount : MountState) (pass zero : Pass
 
     pub is_faithful : IsFaithfulSchedule (SawStop zero.view) basis trace report
     is_faithful =
-        faithful_so basis trace mount batch then_ zero told sorted part_values store_values parts held faults placed tail report formed few rise one_round is_mount over.begins.is_mount
+        faithful_so basis trace mount batch then_ zero told sorted part_values store_values parts held faults placed tail report formed few rise (one_round trace formed no_rounds) is_mount over.begins.is_mount
         (still_opened basis trace mount pass zero part_values store_values parts held faults placed tail over) followed calls_are over.closed out shows

@@ -8,10 +8,9 @@ use Rattle.std.proofs.lemmas.List.Elements.{All-append, All-cons, All-head, All-
 use Rattle.std.proofs.lemmas.List.Sorted.{All-permutation, IsPermutation-sym}
 use Rattle.nv_plain.specs.declared.call.FileCall.{FileCall}
 use Rattle.nv_plain.specs.declared.call.FileCall.TheVariants.{Read, Write, Sync}
-use Rattle.nv_plain.specs.declared.call.Reply.TheVariants.{Bytes}
+use Rattle.nv_plain.specs.declared.call.Reply.TheVariants.{Bytes, Count}
 use Rattle.nv_plain.specs.declared.mode.Mode.TheVariants.{R}
 use Rattle.nv_plain.specs.Calls.{files_after, reply_of}
-use Rattle.nv_plain.specs.Faults.{Rose}
 use Rattle.nv_plain.specs.Files.{Files, bytes_at, contents_of, overwritten, with_contents}
 use Rattle.nv_plain.specs.Histories.{Answered, IsLegal, after}
 use Rattle.nv_plain.specs.Images.{Image, header_of}
@@ -46,15 +45,15 @@ use Rattle.nv_trace.specs.declared.trace.Descriptor.{Descriptor}
 use Rattle.nv_trace.specs.declared.trace_call.TraceCall.{TraceCall}
 use Rattle.nv_trace.specs.declared.trace_call.TraceCall.TheVariants.{Pread, Pwrite, Fsync}
 use Rattle.nv_trace.specs.declared.trace_call.TracedCall.{TracedCall}
-use Rattle.nv_runner.specs.Faithful.{Basis, IsFaithful, IsLeftOpen, IsWrite, after_fate, after_open, descriptors_in, file_call, files_shown, history_of, listed_calls, open_calls_of, placed_calls, placed_in}
+use Rattle.nv_runner.specs.Faithful.{Basis, after_fate, after_open, descriptors_in, file_call, files_shown, history_of, listed_calls, open_calls_of, placed_calls, placed_in}
 use Rattle.nv_runner.specs.Histories.{PlacedCall}
 use Rattle.nv_runner.specs.Reports.{OpenCall, Report, ShownRefusal}
 use Rattle.nv_top.specs.Commands.{IsBasis}
 use Rattle.nv_top.specs.Stopping.{next_in}
-use Rattle.nv_top.specs.NextCommands.{FindsFiles, HasOwnNames, IsReportOf, NextFindsLooked, NextFindsRecovered, NextFindsRun, NextFindsScheduled, NextFindsStopped, RunsHaveOneHistory, done_by, done_so, whole_reply}
+use Rattle.nv_top.specs.NextCommands.{FindsFiles, HasOwnNames, IsReportOf, NextFindsLooked, NextFindsRecovered, NextFindsRun, NextFindsScheduled, NextFindsShown, NextFindsStopped, RunsHaveOneHistory, done_by, done_so, done_write}
 use Rattle.nv_top.specs.declared.words.RunOptions.{RunOptions}
+use Rattle.nv_top.proofs.FollowedLemmas.{report_all}
 use Rattle.nv_top.proofs.NameLemmas.{descriptors_known, wanted_known}
-use Rattle.nv_top.proofs.StoppingLemmas.{faithful_while}
 
 -- ---- how many files there are
 
@@ -180,6 +179,10 @@ next_finds_scheduled options old new holding trace text run own =
     finds_rested run.basis.sizes.page run.basis.sizes.entries (next_in power.parts run.basis.files) names (files_named power.parts names power.stores) rests.now rests.others rests.disks rests.rest rests.stores_are rests.files_are
     (named_many power.parts names power.stores) own
 
+pub next_finds_shown : NextFindsShown
+next_finds_shown options old new holding trace text run own =
+    subst (λ files. FindsFiles run.basis.names files run.scheduled.rests.now) run.scheduled.shows (next_finds_scheduled options old new holding trace text run own)
+
 pub next_finds_recovered : NextFindsRecovered
 next_finds_recovered holding told text recovered own =
     let left = recovered.left.left in
@@ -301,14 +304,31 @@ opened_there count descriptors (o ∷ later) inside within =
     let rest = map (λ (o : OpenCall). o.call) later in
     by o.fate (call_there count descriptors o.call.call inside (All-head Within o.call rest within)) (opened_there count descriptors later inside (All-tail Within o.call rest within))
   where
+    write_there : (call : TraceCall) → IsThere count (file_call descriptors call) → AreThere count (kept_calls descriptors later) → AreThere count (done_write descriptors o.call.thread call ++ kept_calls descriptors later)
+    write_there (Pread fd at len) here rest = rest
+    write_there (Pwrite fd at bytes) here rest =
+        All-cons (λ (answered : Answered). IsThere count answered.call) (record { caller = o.call.thread; call = file_call descriptors (Pwrite fd at bytes); reply = Count (length bytes) }) (kept_calls descriptors later) here rest
+    write_there (Fsync fd) here rest = rest
+
     by : (fate : Fate) → IsThere count (file_call descriptors o.call.call) → AreThere count (kept_calls descriptors later) → AreThere count (done_so descriptors o fate ++ kept_calls descriptors later)
-    by Kept here rest = All-cons (λ (answered : Answered). IsThere count answered.call) (record { caller = o.call.thread; call = file_call descriptors o.call.call; reply = whole_reply o.call.call }) (kept_calls descriptors later) here rest
+    by Kept here rest = write_there o.call.call here rest
     by Lost here rest = rest
     by Unanswered here rest = rest
 
-done_there : (failed : Type 0) (worker : Bool) (options : RunOptions) (holding : Holding) (basis : Basis) (trace : Traced) (report : Report) → IsBasis options holding trace.names basis → IsFaithful failed worker basis trace report → IsWellFormed trace
+-- a faithful report lists calls of its trace alone, and its history is legal
+reported_within : (worker : Bool) (basis : Basis) (trace : Traced) (report : Report) → IsReportOf worker basis trace report → (P : TracedCall → Type 0) → All P trace.calls → All P (listed_calls report)
+reported_within worker basis trace report (inl faithful) P all = All-permutation P trace.calls (listed_calls report) (IsPermutation-sym (listed_calls report) trace.calls faithful.each_once) all
+reported_within worker basis trace report (inr (inl faithful)) P all = All-permutation P trace.calls (listed_calls report) (IsPermutation-sym (listed_calls report) trace.calls faithful.2.each_once) all
+reported_within worker basis trace report (inr (inr faithful)) P all = report_all P trace.calls (listed_calls report) faithful.2.begins all
+
+reported_legal : (worker : Bool) (basis : Basis) (trace : Traced) (report : Report) → IsReportOf worker basis trace report → IsLegal (history_of (descriptors_in basis.names trace) report.history) basis.files
+reported_legal worker basis trace report (inl faithful) = faithful.legal
+reported_legal worker basis trace report (inr (inl faithful)) = faithful.2.legal
+reported_legal worker basis trace report (inr (inr faithful)) = faithful.2.legal
+
+done_there : (worker : Bool) (options : RunOptions) (holding : Holding) (basis : Basis) (trace : Traced) (report : Report) → IsBasis options holding trace.names basis → IsReportOf worker basis trace report → IsWellFormed trace
     → AreThere (length basis.files.contents) (done_by basis trace report)
-done_there failed worker options holding basis trace report begun faithful formed =
+done_there worker options holding basis trace report begun reported formed =
     let names = basis.names in
     let descriptors = descriptors_in names trace in
     let Within : ℕ → TracedCall → Type 0 = λ count call. IsCallWithin count call.call in
@@ -316,7 +336,7 @@ done_there failed worker options holding basis trace report begun faithful forme
     let inside = descriptors_known names trace formed known in
     let long : length descriptors ≡ length trace.descriptors = length-map trace.descriptors (placed_in names trace) in
     let calls = subst (λ (count : ℕ). All (Within count) trace.calls) (sym long) formed.calls in
-    let listed = All-permutation (Within (length descriptors)) trace.calls (listed_calls report) (IsPermutation-sym (listed_calls report) trace.calls faithful.each_once) calls in
+    let listed = reported_within worker basis trace report reported (Within (length descriptors)) calls in
     let refused = map (λ (r : ShownRefusal). r.call) report.refused in
     let earlier = front (Within (length descriptors)) (placed_calls report ++ refused) (open_calls_of report) listed in
     let placed = front (Within (length descriptors)) (placed_calls report) refused earlier in
@@ -327,6 +347,12 @@ done_there failed worker options holding basis trace report begun faithful forme
 
 -- ---- what a run did
 
+-- a kept write leaves the files that it makes, and any other call the same ones
+write_after : (descriptors : List Descriptor) (thread : ℕ) (call : TraceCall) (files : Files) → after (done_write descriptors thread call) files ≡ files_after (file_call descriptors call) files
+write_after descriptors thread (Pread fd at len) files = refl
+write_after descriptors thread (Pwrite fd at bytes) files = refl
+write_after descriptors thread (Fsync fd) files = refl
+
 -- the open writes that were kept leave the files that are shown
 kept_after : (descriptors : List Descriptor) (calls : List OpenCall) (files : Files) → after (kept_calls descriptors calls) files ≡ after_open descriptors calls files
 kept_after descriptors [] files = refl
@@ -334,31 +360,31 @@ kept_after descriptors (o ∷ later) files = by o.fate (λ files. kept_after des
   where
     by : (fate : Fate) → ((files : Files) → after (kept_calls descriptors later) files ≡ after_open descriptors later files)
         → after (done_so descriptors o fate ++ kept_calls descriptors later) files ≡ after_open descriptors later (after_fate (file_call descriptors o.call.call) files fate)
-    by Kept rest = rest (files_after (file_call descriptors o.call.call) files)
+    by Kept rest =
+        after-append (done_write descriptors o.call.thread o.call.call) (kept_calls descriptors later) files
+        ∙ ap (after (kept_calls descriptors later)) (write_after descriptors o.call.thread o.call.call files)
+        ∙ rest (files_after (file_call descriptors o.call.call) files)
     by Lost rest = rest files
     by Unanswered rest = rest files
 
 -- a write is answered with its count, whatever the files are
-write_reply : (descriptors : List Descriptor) (call : TraceCall) (files : Files) → IsWrite call → whole_reply call ≡ reply_of (file_call descriptors call) files
-write_reply descriptors (Pread fd at len) files write = absurd write
-write_reply descriptors (Pwrite fd at bytes) files write = refl
-write_reply descriptors (Fsync fd) files write = absurd write
+write_legal : (descriptors : List Descriptor) (thread : ℕ) (call : TraceCall) (files : Files) → IsLegal (done_write descriptors thread call) files
+write_legal descriptors thread (Pread fd at len) files = tt
+write_legal descriptors thread (Pwrite fd at bytes) files = (refl, tt)
+write_legal descriptors thread (Fsync fd) files = tt
 
-kept_legal : (failed : Type 0) (basis : Basis) (descriptors : List Descriptor) (calls : List OpenCall) (files : Files) → All (IsLeftOpen failed basis descriptors) (map (λ (o : OpenCall). o.call) calls)
-    → IsLegal (kept_calls descriptors calls) files
-kept_legal failed basis descriptors [] files left = tt
-kept_legal failed basis descriptors (o ∷ later) files left =
-    let rest = map (λ (o : OpenCall). o.call) later in
-    by o.fate (write_reply descriptors o.call.call files (All-head (IsLeftOpen failed basis descriptors) o.call rest left).is_write)
-    (λ files. kept_legal failed basis descriptors later files (All-tail (IsLeftOpen failed basis descriptors) o.call rest left))
+kept_legal : (descriptors : List Descriptor) (calls : List OpenCall) (files : Files) → IsLegal (kept_calls descriptors calls) files
+kept_legal descriptors [] files = tt
+kept_legal descriptors (o ∷ later) files = by o.fate (λ files. kept_legal descriptors later files)
   where
-    by : (fate : Fate) → whole_reply o.call.call ≡ reply_of (file_call descriptors o.call.call) files → ((files : Files) → IsLegal (kept_calls descriptors later) files)
-        → IsLegal (done_so descriptors o fate ++ kept_calls descriptors later) files
-    by Kept reply legal = (reply, legal (files_after (file_call descriptors o.call.call) files))
-    by Lost reply legal = legal files
-    by Unanswered reply legal = legal files
+    by : (fate : Fate) → ((files : Files) → IsLegal (kept_calls descriptors later) files) → IsLegal (done_so descriptors o fate ++ kept_calls descriptors later) files
+    by Kept legal =
+        let write = done_write descriptors o.call.thread o.call.call in
+        IsLegal-append write (kept_calls descriptors later) files (write_legal descriptors o.call.thread o.call.call files) (legal (after write files))
+    by Lost legal = legal files
+    by Unanswered legal = legal files
 
-module _ (failed : Type 0) (worker : Bool) (basis : Basis) (trace : Traced) (report : Report) (faithful : IsFaithful failed worker basis trace report) where
+module _ (worker : Bool) (basis : Basis) (trace : Traced) (report : Report) (reported : IsReportOf worker basis trace report) where
   abbrev descriptors : List Descriptor
   descriptors = descriptors_in basis.names trace
 
@@ -366,33 +392,24 @@ module _ (failed : Type 0) (worker : Bool) (basis : Basis) (trace : Traced) (rep
   done_legal : IsLegal (done_by basis trace report) basis.files
   done_legal =
       let history = history_of descriptors report.history in
-      IsLegal-append history (kept_calls descriptors report.open_calls) basis.files faithful.legal
-      (kept_legal failed basis descriptors report.open_calls (after history basis.files) faithful.left_open)
+      IsLegal-append history (kept_calls descriptors report.open_calls) basis.files (reported_legal worker basis trace report reported) (kept_legal descriptors report.open_calls (after history basis.files))
 
   done_after : after (done_by basis trace report) basis.files ≡ files_shown basis trace report
   done_after =
       let history = history_of descriptors report.history in
       after-append history (kept_calls descriptors report.open_calls) basis.files ∙ kept_after descriptors report.open_calls (after history basis.files)
 
--- where no device failed it is as faithful as where some may have
-as_stopped : (worker : Bool) (basis : Basis) (trace : Traced) (report : Report) → IsReportOf worker basis trace report → (before : ℕ) × (now : ℕ) × IsFaithful (Rose before now) worker basis trace report
-as_stopped worker basis trace report (inl faithful) = (0, 0, faithful_while ⊥ (Rose 0 0) worker basis trace report (λ never. absurd never) faithful)
-as_stopped worker basis trace report (inr faithful) = faithful
-
 pub runs_have_one_history : RunsHaveOneHistory
 runs_have_one_history options asked holding now trace next first second report last begun reported formed finds begun_last reported_last =
-    let faithful = as_stopped options.worker first trace report reported in
-    let faithful_last = as_stopped asked.worker second next last reported_last in
     let one = done_by first trace report in
     let other = done_by second next last in
     let new = new_names first.names next.names in
     let more = (files_of (stores_named new now.stores)).contents in
     let all = joined first.files more in
     let begins = finds.begins asked next.names second begun_last in
-    let there = done_there (Rose faithful.0 faithful.1) options.worker options holding first trace report begun faithful.2 formed in
+    let there = done_there options.worker options holding first trace report begun reported formed in
     let goes_on : second.files ≡ after one all =
-    begins.files_are ∙ ap (λ files. joined files more) (sym (done_after (Rose faithful.0 faithful.1) options.worker first trace report faithful.2)) ∙ sym (after_joined one first.files more there) in (
-      IsLegal-append one other all (legal_joined one first.files more there (done_legal (Rose faithful.0 faithful.1) options.worker first trace report faithful.2))
-          (subst (IsLegal other) goes_on (done_legal (Rose faithful_last.0 faithful_last.1) asked.worker second next last faithful_last.2)),
-      sym (done_after (Rose faithful_last.0 faithful_last.1) asked.worker second next last faithful_last.2) ∙ ap (after other) goes_on ∙ sym (after-append one other all),
+    begins.files_are ∙ ap (λ files. joined files more) (sym (done_after options.worker first trace report reported)) ∙ sym (after_joined one first.files more there) in (
+      IsLegal-append one other all (legal_joined one first.files more there (done_legal options.worker first trace report reported)) (subst (IsLegal other) goes_on (done_legal asked.worker second next last reported_last)),
+      sym (done_after asked.worker second next last reported_last) ∙ ap (after other) goes_on ∙ sym (after-append one other all),
     )

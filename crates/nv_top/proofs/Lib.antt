@@ -23,3 +23,4 @@ pub mod NextLemmas
 pub mod FoundLemmas
 pub mod FollowedLemmas
 pub mod SchedulingLemmas
+pub mod ScheduleLifeLemmas

@@ -35,6 +35,7 @@ use Rattle.nv_open.proofs.Homes.{back_again}
 use Rattle.nv_open.proofs.Returns.{named_quiet}
 use Rattle.nv_open.proofs.Stands.{durable_images, names_read, own_images}
 use Rattle.nv_trace.specs.Reading.{ending_of, Whole}
+use Rattle.nv_trace.specs.declared.trace.Form.{Form}
 use Rattle.nv_trace.specs.declared.trace.Form.TheVariants as forms
 use Rattle.nv_trace.specs.Traced.{Traced}
 use Rattle.nv_top.specs.declared.words.Command.{Command}
@@ -46,7 +47,7 @@ use Rattle.nv_runner.specs.Lives.{LeaveLife, RecoversBehind}
 use Rattle.nv_open.proofs.PartlyBack.{still_left}
 use Rattle.nv_load.specs.Generated.{generated}
 use Rattle.nv_top.specs.Loads.{load_options}
-use Rattle.nv_top.specs.Lives.{AreLeftSo, HasLived, LeavesLife, LeavesRun}
+use Rattle.nv_top.specs.Lives.{AreLeftSo, HasLived, LeavesLife, LeavesRun, LeavesTrace}
 use Rattle.nv_top.specs.declared.words.RunOptions.{RunOptions}
 use Rattle.nv_top.proofs.CommandLemmas.{if_told, told_at}
 use Rattle.nv_top.proofs.HomeLemmas.{any_images}
@@ -275,22 +276,38 @@ still_run old new options trace one is quiet =
 same_trace : (one other : Traced) → Whole one ≡ Whole other → one ≡ other
 same_trace one other is = cc
 
-pub life_from : (options : RunOptions) (left : Option (List ℕ)) (old told : Option Holding) (trace : Traced) → IfSome left (λ input. ending_of forms.Run input ≡ Whole trace) → IfSome old (λ was. LeavesRun options was trace told)
-    → IfSome old (λ was. LeavesLife (Run options) left was told)
-life_from options None old told trace whole leaves = if_told old (λ was. LeavesLife (Run options) None was told) (λ was is. tt)
-life_from options (Some input) old told trace whole leaves =
-    if_told old (λ was. LeavesLife (Run options) (Some input) was told) (λ was is other ends.
+trace_from : (form : Form) (options : RunOptions) (left : Option (List ℕ)) (old told : Option Holding) (trace : Traced) → IfSome left (λ input. ending_of form input ≡ Whole trace) → IfSome old (λ was. LeavesRun options was trace told)
+    → IfSome old (λ was. LeavesTrace form options left was told)
+trace_from form options None old told trace whole leaves = if_told old (λ was. LeavesTrace form options None was told) (λ was is. tt)
+trace_from form options (Some input) old told trace whole leaves =
+    if_told old (λ was. LeavesTrace form options (Some input) was told) (λ was is other ends.
     subst (λ trace. LeavesRun options was trace told) (same_trace trace other (sym whole ∙ ends)) (told_at old (λ was. LeavesRun options was trace told) was is leaves))
 
-pub life_unopened : (options : RunOptions) (left : Option (List ℕ)) (old new : BenchState) → QuietPartHasOneImage → new ≡ with_faults new.faults old → IfSome old.told IsQuietHolding → IfSome old.told (λ was. LeavesLife (Run options) left was new.told)
-life_unopened options None old new one is quiet = if_told old.told (λ was. LeavesLife (Run options) None was new.told) (λ was told. tt)
-life_unopened options (Some input) old new one is quiet =
-    if_told old.told (λ was. LeavesLife (Run options) (Some input) was new.told) (λ was told trace ends.
+pub life_from : (options : RunOptions) (left : Option (List ℕ)) (old told : Option Holding) (trace : Traced) → IfSome left (λ input. ending_of forms.Run input ≡ Whole trace) → IfSome old (λ was. LeavesRun options was trace told)
+    → IfSome old (λ was. LeavesLife (Run options) left was told)
+life_from options left old told trace whole leaves = trace_from forms.Run options left old told trace whole leaves
+
+pub schedule_from : (options : RunOptions) (left : Option (List ℕ)) (old told : Option Holding) (trace : Traced) → IfSome left (λ input. ending_of forms.Sched input ≡ Whole trace) → IfSome old (λ was. LeavesRun options was trace told)
+    → IfSome old (λ was. LeavesLife (Sched options) left was told)
+schedule_from options left old told trace whole leaves = trace_from forms.Sched options left old told trace whole leaves
+
+trace_unopened : (form : Form) (options : RunOptions) (left : Option (List ℕ)) (old new : BenchState) → QuietPartHasOneImage → new ≡ with_faults new.faults old → IfSome old.told IsQuietHolding
+    → IfSome old.told (λ was. LeavesTrace form options left was new.told)
+trace_unopened form options None old new one is quiet = if_told old.told (λ was. LeavesTrace form options None was new.told) (λ was told. tt)
+trace_unopened form options (Some input) old new one is quiet =
+    if_told old.told (λ was. LeavesTrace form options (Some input) was new.told) (λ was told trace ends.
     told_at old.told (λ was. LeavesRun options was trace new.told) was told (still_run old new options trace one is quiet))
+
+pub life_unopened : (options : RunOptions) (left : Option (List ℕ)) (old new : BenchState) → QuietPartHasOneImage → new ≡ with_faults new.faults old → IfSome old.told IsQuietHolding → IfSome old.told (λ was. LeavesLife (Run options) left was new.told)
+life_unopened options left old new one is quiet = trace_unopened forms.Run options left old new one is quiet
+
+pub schedule_unopened : (options : RunOptions) (left : Option (List ℕ)) (old new : BenchState) → QuietPartHasOneImage → new ≡ with_faults new.faults old → IfSome old.told IsQuietHolding
+    → IfSome old.told (λ was. LeavesLife (Sched options) left was new.told)
+schedule_unopened options left old new one is quiet = trace_unopened forms.Sched options left old new one is quiet
 
 pub life_unread : (command : Command) (left : Option (List ℕ)) (old new : BenchState) → QuietPartHasOneImage → new ≡ with_faults new.faults old → IfSome old.told IsQuietHolding → IfSome old.told (λ was. LeavesLife command left was new.told)
 life_unread (Run options) left old new one is quiet = life_unopened options left old new one is quiet
-life_unread (Sched options) left old new one is quiet = if_told old.told (λ was. LeavesLife (Sched options) left was new.told) (λ was told. tt)
+life_unread (Sched options) left old new one is quiet = schedule_unopened options left old new one is quiet
 life_unread Recover left old new one is quiet = if_told old.told (λ was. LeavesLife Recover left was new.told) (λ was told readable. still_stands old new was is told quiet readable)
 life_unread (Look files) left old new one is quiet = if_told old.told (λ was. LeavesLife (Look files) left was new.told) (λ was told. tt)
 life_unread (Gen load) left old new one is quiet = still_run old new load_options (generated load) one is quiet

@@ -49,7 +49,7 @@ use Rattle.nv_top.specs.Stopping.{IsSettledStop, RestsWith, ShowsOpen, StopSettl
 use Rattle.nv_top.specs.declared.ending.Stop.{Stop}
 use Rattle.nv_top.specs.declared.ending.Stop.TheVariants as stops
 use Rattle.nv_top.specs.declared.words.RunOptions.{RunOptions}
-use Rattle.nv_top.proofs.FollowedLemmas.{is_faithful, schedule_more}
+use Rattle.nv_top.proofs.FollowedLemmas.{files_are, is_faithful, schedule_more}
 use Rattle.nv_top.proofs.NameLemmas.{names_plain}
 use Rattle.nv_top.proofs.StoppingLemmas.{HasClosedOver, each_allowed, names_read, still_opened}
 
@@ -109,6 +109,8 @@ module _ (basis : Basis) (trace : Traced) (mount : MountState) (pass zero : Pass
         power = after_power;
         power_left = power_left;
         whole = left;
+        shows = files_are basis trace mount pass zero part_values store_values parts held faults placed tail over options.batch followed.told.0 shows_so.calls shows_so.sorted followed.told.1 followed.told.2 shows_so.sorted_out
+            formed few rise no_rounds is_mount begin_so told_so legal_so faithful_so files_so kept_so stand_so after_power left found shows_so.shown.log shown.open_calls shown.are_open;
         stands = stand_so version_1 version_1.header_lines image bytes left.header.readable;
         found = found;
         log = shows_so.shown.log;

@@ -10,6 +10,7 @@ use Rattle.nv_runner.specs.Histories.{PlacedCall}
 use Rattle.nv_runner.specs.Lives.{IsHistoryOf, LeaveLife, RecoversBehind}
 use Rattle.nv_load.specs.Generated.{generated}
 use Rattle.nv_trace.specs.Reading.{ending_of, Whole}
+use Rattle.nv_trace.specs.declared.trace.Form.{Form}
 use Rattle.nv_trace.specs.declared.trace.Form.TheVariants as forms
 use Rattle.nv_trace.specs.Traced.{Traced}
 use Rattle.nv_top.specs.Commands.{IsBasis}
@@ -31,19 +32,23 @@ pub record HasLivedOn (options : RunOptions) (was : Holding) (trace : Traced) (t
   pub begun : IsBasis options was trace.names basis
   pub lived : HasLived basis trace told
 
--- What a run of a trace leaves of a bench that stood for files: no call has its place, and it stands for those, with the new stores' files maybe; or calls were made.
+-- What a run of a trace, or a schedule of it, leaves of a bench that stood for files: no call has its place, and it stands for those, with the new stores' files maybe; or calls were made.
 abbrev pub LeavesRun : RunOptions → (was : Holding) → Traced → (told : Option Holding) → Type 0
 LeavesRun options was trace told = StandForFiles was.parts → TellsOf (InEachImage (StandsWithSome was trace.names)) told ⊎ HasLivedOn options was trace told
 
--- What a command leaves of a bench that had an input, and held this: a recovery can be made again, and comes to the same; and of a look its frame says all.
+-- so does one of the trace that the input is, as a trace of this form
+abbrev pub LeavesTrace : Form → RunOptions → (input : Option (List ℕ)) → (was : Holding) → (told : Option Holding) → Type 0
+LeavesTrace form options input was told = IfSome input (λ input. (trace : Traced) → ending_of form input ≡ Whole trace → LeavesRun options was trace told)
+
+-- What a command leaves of a bench that had an input, and held this: of a schedule the same as of a run; a recovery can be made again, and comes to the same; and of a look its frame says all.
 abbrev pub LeavesLife : Command → (input : Option (List ℕ)) → (was : Holding) → (told : Option Holding) → Type 0
-LeavesLife (Run options) input was told = IfSome input (λ input. (trace : Traced) → ending_of forms.Run input ≡ Whole trace → LeavesRun options was trace told)
-LeavesLife (Sched options) input was told = Unit {0}
+LeavesLife (Run options) input was told = LeavesTrace forms.Run options input was told
+LeavesLife (Sched options) input was told = LeavesTrace forms.Sched options input was told
 LeavesLife Recover input was told = HasHeader was.parts → TellsOf (StandsAsBefore was) told
 LeavesLife (Look files) input was told = Unit {0}
 LeavesLife (Gen load) input was told = LeavesRun load_options was (generated load) told
 
--- Parts and stores tell, and were left so by a run of a trace from a basis.
+-- Parts and stores tell, and were left so by a run, or a schedule, of a trace from a basis.
 pub record AreLeftSo {X Y : Type 0} (history : X → lines.PartHistory) (held : Y → stores.StoreHistory) (basis : Basis) (trace : Traced) (parts : List X) (backing : List Y) : Type 0 where
   pub parts_tell : AllTell (map history parts)
   pub stores_tell : AllTell (map held backing)

@@ -1,8 +1,7 @@
 -- Next commands: what a command asks of a bench, and that one that ended with status 0 leaves it so for the next.
 use Rattle.std.specs.Prelude.{◌≡◌, ◌⊎◌, ℕ, ◌+◌, ◌^◌, ◌<◌, ◌≤◌, Bool, false, List, [], ◌∷◌, ◌++◌, length, Option, Some, IfSome}
 use Rattle.std.specs.List.{flat_map}
-use Rattle.nv_plain.specs.declared.call.Reply.{Reply}
-use Rattle.nv_plain.specs.declared.call.Reply.TheVariants.{Count, Done}
+use Rattle.nv_plain.specs.declared.call.Reply.TheVariants.{Count}
 use Rattle.nv_plain.specs.Faults.{Rose}
 use Rattle.nv_plain.specs.Files.{Files}
 use Rattle.nv_plain.specs.Histories.{Answered, IsLegal, after}
@@ -16,6 +15,7 @@ use Rattle.nv_open.specs.Held.{files_named, header_names}
 use Rattle.nv_open.specs.Refusals.{head_image}
 use Rattle.nv_runner.specs.Faithful.{Basis, IsFaithful, descriptors_in, file_call, files_shown, history_of}
 use Rattle.nv_runner.specs.Reports.{OpenCall, Report}
+use Rattle.nv_schedule.specs.FaithfulSchedules.{IsFaithfulSchedule}
 use Rattle.nv_trace.specs.declared.report.Fate.{Fate}
 use Rattle.nv_trace.specs.declared.report.Fate.TheVariants.{Kept, Lost, Unanswered}
 use Rattle.nv_trace.specs.declared.trace.Descriptor.{Descriptor}
@@ -133,32 +133,39 @@ NextFindsLooked =
     (files : Bool) (old new : BenchState) (holding now : Holding) → IsLookedAt files old new → old.told ≡ Some holding → new.told ≡ Some now → HasOwnNames holding
     → (options : RunOptions) (wanted : List (List ℕ)) (basis : Basis) → IsBasis options now wanted basis → IsBasis options holding wanted basis
 
--- ---- the history of two runs
+-- So the files that it finds behind a schedule are those that the schedule's report shows.
+abbrev pub NextFindsShown : Type 0
+NextFindsShown =
+    (options : RunOptions) (old new : BenchState) (holding : Holding) (trace : Traced) (text : List ℕ) (run : HasFollowed (Rose old.faults new.faults) options old.picked holding new trace text)
+    → HasOwnNames run.scheduled.rests.now → FindsFiles run.basis.names (files_shown run.basis trace run.scheduled.report) run.scheduled.rests.now
 
--- what a write is answered with that was done: the count of its bytes
-abbrev pub whole_reply : TraceCall → Reply
-whole_reply (Pread fd at len) = Done
-whole_reply (Pwrite fd at bytes) = Count (length bytes)
-whole_reply (Fsync fd) = Done
+-- ---- the history of two commands
 
--- an open write that was kept, as one that was done; a lost one is none
+-- a write that was kept, as one that was done: it is answered with the count of its bytes; any other call changes nothing
+abbrev pub done_write : List Descriptor → (thread : ℕ) → TraceCall → List Answered
+done_write descriptors thread (Pread fd at len) = []
+done_write descriptors thread (Pwrite fd at bytes) = record { caller = thread; call = file_call descriptors (Pwrite fd at bytes); reply = Count (length bytes) } ∷ []
+done_write descriptors thread (Fsync fd) = []
+
+-- an open call, if it is a write that was kept; a lost one is none
 abbrev pub done_so : List Descriptor → OpenCall → Fate → List Answered
-done_so descriptors o Kept = record { caller = o.call.thread; call = file_call descriptors o.call.call; reply = whole_reply o.call.call } ∷ []
+done_so descriptors o Kept = done_write descriptors o.call.thread o.call.call
 done_so descriptors o Lost = []
 done_so descriptors o Unanswered = []
 
--- all that a run did of its files: the calls of its history, and behind them the kept ones of its open writes
+-- all that a run, or a schedule, did of its files: the calls of its history, and behind them the kept ones of its open writes
 abbrev pub done_by : Basis → Traced → Report → List Answered
 done_by basis trace report =
     let descriptors = descriptors_in basis.names trace in
     history_of descriptors report.history ++ flat_map (λ o. done_so descriptors o o.fate) report.open_calls
 
--- A report of a run is faithful: of one by which no device failed, or of one that was stopped, where some may have.
+-- A report is faithful: of a run by which no device failed, of one that was stopped, or of a schedule, where some may have.
 abbrev pub IsReportOf : (worker : Bool) → Basis → Traced → Report → Type 0
-IsReportOf worker basis trace report = IsFaithful ⊥ worker basis trace report ⊎ ((before : ℕ) × (now : ℕ) × IsFaithful (Rose before now) worker basis trace report)
+IsReportOf worker basis trace report =
+    IsFaithful ⊥ worker basis trace report ⊎ (((before : ℕ) × (now : ℕ) × IsFaithful (Rose before now) worker basis trace report) ⊎ ((before : ℕ) × (now : ℕ) × IsFaithfulSchedule (Rose before now) basis trace report))
 
--- Two runs, one behind the other on one bench and each stopped or not, have one history: what the first did and then what the second did, legal from the files that the first began with and, behind them, those of
--- the second's new names. It leaves the files that the second shows.
+-- Two commands, one behind the other on one bench, each a run, stopped or not, or a schedule, have one history: what the first did and then what the second did, legal from the files that the first began with
+-- and, behind them, those of the second's new names. It leaves the files that the second shows.
 abbrev pub RunsHaveOneHistory : Type 0
 RunsHaveOneHistory =
     (options asked : RunOptions) (holding now : Holding) (trace next : Traced) (first second : Basis) (report last : Report)

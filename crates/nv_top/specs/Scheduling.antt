@@ -15,7 +15,7 @@ use Rattle.nv_mount.specs.Mounts.{MountState}
 use Rattle.nv_mount.specs.WholeWrites.{LeavesWholeWrites}
 use Rattle.nv_trace.specs.Traced.{Traced}
 use Rattle.nv_trace.specs.declared.token.Token.{Token}
-use Rattle.nv_runner.specs.Faithful.{Basis}
+use Rattle.nv_runner.specs.Faithful.{Basis, files_shown}
 use Rattle.nv_runner.specs.Lists.{made_calls}
 use Rattle.nv_runner.specs.Reports.{Report}
 use Rattle.nv_runner.specs.Sorted.{AreSortedOut}
@@ -84,6 +84,7 @@ pub record HasScheduledOn (failed : Type 0) (options : RunOptions) (before : Lis
   pub power : Holding
   pub power_left : bench.left ≡ Some power.parts
   pub whole : LeavesWholeWrites last.view basis.files basis.names (row_words power.parts) (files_of (stores_named basis.names power.stores))
+  pub shows : files_named power.parts basis.names power.stores ≡ files_shown basis trace report
   pub stands : files_named power.parts basis.names power.stores ≡ (recovered (row_words power.parts) (files_of (stores_named basis.names power.stores))).files
   pub found : recover.Recovered
   pub log : HasFoundAll (row_words power.parts) found

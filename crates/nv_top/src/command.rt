@@ -335,8 +335,10 @@ fn schedule_input<I: Source, B: Bench>(
         → IfErr result IsOwnStop) }
     ensures counts { OnOk result ((B.state bench.new).faults ≡ expected_faults (B.state bench.old) (B.state bench.new)) }
     ensures never_falls { (B.state bench.old).faults ≤ (B.state bench.new).faults }
+    ensures life { IfSome (B.state bench.old).told (λ was. LeavesLife (commands.Sched options) (I.left src.old) was (B.state bench.new).told) }
     ensures unopened { IfErr result (λ stop. ComesBeforeOpening stop → B.state bench.new ≡ B.state bench.old) }
 {
+    images_follow_calls();
     let trace = read_trace(alloc, Form::Sched, src)?;
     schedule(alloc, bench, options, &trace)
 }

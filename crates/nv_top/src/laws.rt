@@ -1,6 +1,6 @@
 //! Laws of reports, and of commands one behind the other.
 ghost use Rattle.nv_top.specs.Headline.{ShownIsNotRefused};
-ghost use Rattle.nv_top.specs.NextCommands.{NextBeginsBehind, NextBeginsBehindRecovery, NextBeginsBehindSchedule, NextBeginsBehindStop, NextFindsLooked, NextFindsRecovered, NextFindsRun, NextFindsScheduled, NextFindsStopped, NextIsReady, RunsHaveOneHistory};
+ghost use Rattle.nv_top.specs.NextCommands.{NextBeginsBehind, NextBeginsBehindRecovery, NextBeginsBehindSchedule, NextBeginsBehindStop, NextFindsLooked, NextFindsRecovered, NextFindsRun, NextFindsScheduled, NextFindsShown, NextFindsStopped, NextIsReady, RunsHaveOneHistory};
 ghost use Rattle.nv_top.specs.Readings.{OneNumber, OneReading, OneRecoveryReading};
 
 use nv_header::a_header_has_one_answer;
@@ -21,7 +21,8 @@ pub fn report_has_one_reading()
 /// behind a recovery with the region's sizes, at the next number that the recovery shows.
 ///
 /// A command behind a run, stopped or not, a schedule or a recovery finds the files that this one showed, under their names: a recovery and
-/// a look show them, and a run begins with them. So two runs, one behind the other, have one history.
+/// a look show them, and a run begins with them. So two runs, one behind the other, have one history; and so have a run and a schedule, or
+/// two schedules.
 pub fn a_next_command_may_follow()
     ensures ready { NextIsReady }
     ensures begins { NextBeginsBehind }
@@ -31,6 +32,7 @@ pub fn a_next_command_may_follow()
     ensures finds_run { NextFindsRun }
     ensures finds_stopped { NextFindsStopped }
     ensures finds_scheduled { NextFindsScheduled }
+    ensures finds_shown { NextFindsShown }
     ensures finds_recovered { NextFindsRecovered }
     ensures finds_looked { NextFindsLooked }
     ensures one_history { RunsHaveOneHistory }

@@ -11,6 +11,7 @@ ghost use Rattle.nv_bench.specs.Holding.{IsQuietHolding};
 ghost use Rattle.nv_header.specs.FileNames.{AreFileNames};
 ghost use Rattle.nv_recover.specs.Standing.{files_of};
 ghost use Rattle.nv_open.specs.Refusals.{IsRefusedFor};
+ghost use Rattle.nv_open.specs.Unopened.{HasHeader, StandsAsBefore, TellsOf};
 ghost use Rattle.nv_table.specs.state.States.{IsOf};
 ghost use Rattle.nv_table.specs.state.Views.{first_view};
 ghost use Rattle.nv_mount.specs.RisenCounts.{failed_before};
@@ -23,6 +24,7 @@ ghost use Rattle.nv_runner.specs.declared.running.TheConstants.{MOST_CALLS};
 ghost use Rattle.nv_schedule.specs.declared.scheduled.ScheduledCalls.{ScheduledCalls as AnyCalls};
 ghost use Rattle.nv_top.specs.Commands.{IsNotRun};
 ghost use Rattle.nv_top.specs.Headline.{HasFollowed, IsLeftNotRun, expected_faults};
+ghost use Rattle.nv_top.specs.Lives.{HasLived, LeavesRun};
 ghost use Rattle.nv_top.specs.Runs.{BeginsMount, basis_over};
 ghost use Rattle.nv_top.specs.Scheduling.{HasScheduledOn, IsArmedAt, IsArmedAtSome, IsBackPowered, ShowsOutcome};
 ghost use Rattle.nv_top.specs.Stopping.{IsAway, IsBack, IsPickedOnce, IsSettledStop};
@@ -44,7 +46,7 @@ use nv_recover::images_stand_for_files;
 use nv_runner::{history_of_threads_is_legal, open_calls_are_the_faults, sort_out};
 use nv_schedule::{
     ScheduleError, Scheduled, ScheduledCalls, run_schedule, schedules_are_faithful,
-    schedules_are_told, schedules_begin_in_order,
+    schedules_are_told, schedules_begin_in_order, schedules_leave_lives,
 };
 use nv_table::Pass;
 use nv_trace::Trace;
@@ -76,6 +78,7 @@ pub(crate) fn schedule<T: Bench>(
     ensures cause { IsSettledStop (expected_faults (T.state bench.old) (T.state bench.new)) (T.state bench.new).faults result }
     ensures turns { result ≡ Err stops.Turns → (T.state bench.new).picked ≡ options.image ∷ (T.state bench.old).picked }
     ensures never_falls { (T.state bench.old).faults ≤ (T.state bench.new).faults }
+    ensures life { IfSome (T.state bench.old).told (λ was. LeavesRun options was trace.now (T.state bench.new).told) }
     ensures followed { IfOk result (λ text. IfSome (T.state bench.old).told (λ holding.
         HasFollowed (Rose (T.state bench.old).faults (T.state bench.new).faults) options (T.state bench.old).picked holding (T.state bench.new) trace.now text.items)) }
     ensures refused { (why : _) → result ≡ Err (stops.Region why) → IfSome (T.state bench.old).told (λ holding. IsNotRun options holding trace.now.names why
@@ -128,6 +131,8 @@ fn schedule_region<T: Bench>(
         → AreNow (map T.Part.history opened.region.parts.items) parts → AreNow (map T.Store.history opened.stores.items) now
         → (T.state bench.old).told ≡ None }
     ensures turns { result ≡ Err stops.Turns → (T.state bench.new).picked ≡ options.image ∷ (T.state bench.old).picked }
+    ensures life { (parts : List Part) (now : List Store) → AreNow (map T.Part.history opened.region.parts.items) parts → AreNow (map T.Store.history opened.stores.items) now
+        → IfSome (T.state bench.old).told (λ left. IsAway opened.region.names left → HasLived (basis_over opened.region options.pages (files_of now)) trace.now (T.state bench.new).told) }
     ensures scheduled { IfOk result (λ text. (parts : List Part) (now : List Store)
         → AreNow (map T.Part.history opened.region.parts.items) parts → AreNow (map T.Store.history opened.stores.items) now
         → IfSome (T.state bench.old).told (λ left. IsAway opened.region.names left
@@ -186,6 +191,8 @@ fn schedule_mount<T: Bench>(
     ensures never { (why : _) → result ≡ Err (stops.Region why) → (basis : Basis) → BeginsMount basis trace.now mount pass
         → basis.names ≡ (T.state bench.old).lent → (T.state bench.old).told ≡ None }
     ensures turns { result ≡ Err stops.Turns → (T.state bench.new).picked ≡ options.image ∷ (T.state bench.old).picked }
+    ensures life { (basis : Basis) → BeginsMount basis trace.now mount pass → basis.names ≡ (T.state bench.old).lent
+        → IfSome (T.state bench.old).told (λ left. IsAway basis.names left → HasLived basis trace.now (T.state bench.new).told) }
     ensures scheduled { IfOk result (λ text. (basis : Basis) → BeginsMount basis trace.now mount pass → basis.names ≡ (T.state bench.old).lent
         → IfSome (T.state bench.old).told (λ left. IsAway basis.names left
         → HasScheduledOn (Rose (saturated ((T.state bench.old).faults + failed_before pass)) (T.state bench.new).faults)
@@ -200,6 +207,8 @@ fn schedule_mount<T: Bench>(
     schedules_begin_in_order();
     schedules_are_told();
     schedules_are_faithful();
+    schedules_leave_lives();
+    images_follow_calls();
     pass.sees_a_run();
     let Scheduled {
         closed,
@@ -243,6 +252,7 @@ fn show_outcome<T: Bench>(
     ensures refused { (why : _) → result ≡ Err (stops.Region why) → IfSome (T.state bench.old).told (λ holding. IsRefusedFor holding.parts why) }
     ensures followed { OnOk result ((calls : AnyCalls) × (outcome.entry ≡ Ok calls)) }
     ensures shown { IfOk result (λ text. IfSome (T.state bench.old).told (λ holding. ShowsOutcome holding outcome.entry (T.state bench.new).told text.items)) }
+    ensures standing { IfSome (T.state bench.old).told (λ was. HasHeader was.parts → TellsOf (StandsAsBefore was) (T.state bench.new).told) }
     ensures cause { IsSettledStop (T.state bench.old).faults (T.state bench.new).faults result }
     ensures never_falls { (T.state bench.old).faults ≤ (T.state bench.new).faults }
 {

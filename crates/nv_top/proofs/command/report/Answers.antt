@@ -224,7 +224,7 @@ returns-in-Sched-clause-life g c command over =
     let new = g.B.Bench.state c.schedule_input.new.bench in
     let left = g.I.Source.left c.args.src.now in
     let With : Command → Type 0 = λ command. IfSome old.told (λ was. LeavesLife command left was new.told) in
-    subst With (same_some (sym (c.in_ok-command.ensures.command ∙ ap Some c.in-Sched.is) ∙ over)) (if_told old.told (λ was. _) (λ was told. tt))
+    subst With (same_some (sym (c.in_ok-command.ensures.command ∙ ap Some c.in-Sched.is) ∙ over)) c.schedule_input.ensures.life
 
 pub returns-in-Sched-clause-complete : goal.returns-in-Sched-clause-complete
 returns-in-Sched-clause-complete g c command over =

@@ -12,6 +12,7 @@ use Rattle.nv_top.specs.Headline.{HasFollowed, IsArmedByAll, IsArmedBySome, IsSh
 use Rattle.nv_top.specs.declared.words.Command.TheVariants.{Sched}
 use Rattle.nv_top.proofs.CompleteLemmas.{settled_counts, settled_done}
 use Rattle.nv_top.proofs.HeadlineLemmas.{followed_from, schedule_refused, where_read}
+use Rattle.nv_top.proofs.LifeLemmas.{schedule_from, schedule_unopened}
 use Rattle.nv_top.proofs.StopLemmas.{settled_opened}
 use Rattle.nv_top.proofs.command.schedule_input.Goals as goal
 
@@ -81,3 +82,12 @@ returns-clause-all_cuts g c =
     on_ok_weaker c.schedule.result
     (λ (all : IsArmedAt trace.tokens old new). IfSome-weaker (g.I.Source.left c.args.src.now) (λ input. ending_of forms.Sched input ≡ Whole trace) (λ input. IsArmedByAll input old new) (λ input whole. (trace, whole, all)) c.in_ok-trace.ensures.whole)
     c.schedule.ensures.all_cuts
+
+pub returns-in_err-trace-clause-life : goal.returns-in_err-trace-clause-life
+returns-in_err-trace-clause-life g c =
+    let old = g.B.Bench.state c.args.bench.now in
+    schedule_unopened c.args.options (g.I.Source.left c.args.src.now) old old c.images_follow_calls.ensures.quiet refl c.requires.quiet
+
+pub returns-clause-life : goal.returns-clause-life
+returns-clause-life g c =
+    schedule_from c.args.options (g.I.Source.left c.args.src.now) (g.B.Bench.state c.args.bench.now).told (g.B.Bench.state c.schedule.new.bench).told c.in_ok-trace.trace c.in_ok-trace.ensures.whole c.schedule.ensures.life

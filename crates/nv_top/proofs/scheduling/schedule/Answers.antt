@@ -27,6 +27,9 @@ use Rattle.nv_top.proofs.NameLemmas.{wanted_known}
 use Rattle.nv_top.proofs.RowLemmas.{present}
 use Rattle.nv_top.proofs.SchedulingLemmas.{all_from_lent, armed_none, from_lent}
 use Rattle.nv_top.proofs.StopLemmas.{err_has, opening_refused}
+use Rattle.std.proofs.Common.{inr}
+use Rattle.nv_top.specs.Lives.{HasLived, LeavesRun}
+use Rattle.nv_top.proofs.LifeLemmas.{still_run}
 use Rattle.nv_top.proofs.scheduling.schedule.Goals as goal
 
 -- a bench that tells isn't one that doesn't
@@ -175,3 +178,40 @@ returns-clause-all_cuts g c =
     let new = g.T.Bench.state c.schedule_region.new.bench in
     on_ok_weaker c.schedule_region.result
     (all_from_lent tokens old lent new (ap (λ (s : BenchState). s.arms) c.in_ok-opened.ensures.lent) (ap (λ (s : BenchState). s.armed) c.in_ok-opened.ensures.lent)) c.schedule_region.ensures.all_cuts
+
+pub returns-in_err-wanted-clause-life : goal.returns-in_err-wanted-clause-life
+returns-in_err-wanted-clause-life g c =
+    let old = g.T.Bench.state c.args.bench.now in
+    still_run old old c.args.options c.args.trace.now c.images_follow_calls.ensures.quiet refl c.requires.quiet
+
+pub returns-clause-life : goal.returns-clause-life
+returns-clause-life g c =
+    let history = g.T.Part.Lines.history in
+    let old = g.T.Bench.state c.args.bench.now in
+    let mid = g.T.Bench.state c.open.new.bench in
+    let new = g.T.Bench.state c.schedule_region.new.bench in
+    let trace = c.args.trace.now in
+    let made = c.in_ok-opened.ensures in
+    let region = c.in_ok-opened.opened.region in
+    if_told old.told (λ was. LeavesRun c.args.options was trace new.told) (λ holding told stand.
+    let opened = told_at old.told _ holding told made.opened in
+    let parts = present (map history region.parts.items) (told_at old.told _ holding told made.tell) in
+    let basis = basis_over region c.args.options.pages (files_of opened.files.held) in
+    let left : Holding = record { parts = []; stores = without_stores region.names holding.stores } in
+    let With : List (List ℕ) → Type 0 = λ wanted. IsBasis c.args.options holding wanted basis in
+    inr (record {
+      basis = basis;
+      begun = subst With (c.in_ok-wanted.ensures ∙ c.names.ensures) (record {
+        geometry = _;
+        page_is = refl;
+        entries_are = refl;
+        known = opened.known;
+        begun = opened.begun;
+        pages_are = refl;
+        names_are = opened.names_are;
+        files_are = opened.files.files_are;
+      });
+      lived = told_at mid.told (λ left. IsAway region.names left → HasLived basis trace new.told) left (mid_told old mid region.names holding made.lent c.requires.home told)
+          (c.schedule_region.ensures.life parts.states opened.files.held parts.are opened.files.are)
+          (all_away region.names holding.stores (home_distinct old holding (g.met.T.Bench.named c.args.bench.now) told c.requires.home));
+    }))

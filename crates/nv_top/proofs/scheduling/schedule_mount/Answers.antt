@@ -19,6 +19,9 @@ use Rattle.nv_top.specs.Stopping.{IsAway, IsSettledStop}
 use Rattle.nv_top.proofs.SchedulingLemmas.{armed_at_all, armed_at_some, failed_cut, has_scheduled, of_trace, settled_memory, still_all, still_some}
 use Rattle.nv_top.proofs.StoppingLemmas.{HasClosedOver, at_some, failed_same, home_with, if_some, left_behind, none_unless, quiet_after, rose_home}
 use Rattle.nv_top.proofs.UnrefusedLemmas.{never_refused}
+use Rattle.nv_top.specs.Lives.{HasLived}
+use Rattle.nv_top.proofs.ScheduleLifeLemmas.{scheduled_home, scheduled_recovered}
+use Rattle.nv_top.proofs.SchedulingLemmas.{IfSome-weaker}
 use Rattle.nv_top.proofs.scheduling.schedule_mount.Goals as goal
 
 pub show_outcome-requires-clause-quiet : goal.show_outcome-requires-clause-quiet
@@ -236,3 +239,62 @@ returns-clause-all_cuts g c =
     (ap (λ (s : BenchState). s.arms) c.show_outcome.ensures.back ∙ ap (λ (s : BenchState). s.arms) c.in_ok-power.ensures.off ∙ ap (λ (s : BenchState). s.arms) c.give_back.ensures.taken)
     (ap (λ (s : BenchState). s.armed) c.show_outcome.ensures.back ∙ ap (λ (s : BenchState). s.armed) c.in_ok-power.ensures.off ∙ ap (λ (s : BenchState). s.armed) c.give_back.ensures.taken))
     c.show_outcome.ensures.followed
+
+pub returns-then-has_failed-clause-life : goal.returns-then-has_failed-clause-life
+returns-then-has_failed-clause-life g c basis begins named =
+    let state = g.T.Bench.state in
+    let start = state c.args.bench.now in
+    let armed = state c.run_schedule-closed.new.bench in
+    let home = state c.give_back.new.self in
+    let trace = c.args.trace.now in
+    let outcome = c.run_schedule-closed.result.outcome in
+    let came = c.run_schedule-closed.result.closed in
+    let ran = c.run_schedule-closed.ensures.ran in
+    let many = length-map came.stores.items g.T.Store.Backing.history ∙ ran.2.many_stores in
+    let scheduled =
+    of_trace c.args.mount trace c.args.options.batch c.args.pass ran.0 start armed outcome c.tokens.result.now c.calls.result.now c.tokens.ensures.tokens c.calls.ensures.calls ran.1 in
+    scheduled_home g.T.Part.Lines.history g.T.Store.Backing.history trace c.args.mount c.args.pass ran.0 _ _ came.parts.items came.stores.items _ came.placed came.tail c.args.options.batch start armed outcome home.told c.schedules_leave_lives.ensures
+    c.requires.well_formed c.requires.lines c.requires.no_rounds c.requires.new scheduled ran.3 many c.requires.names c.run_schedule-closed.ensures.armed c.give_back.ensures.told (λ holding is. g.met.T.Bench.whole c.give_back.new.self holding is)
+    basis begins named
+
+pub returns-in_err-power-clause-life : goal.returns-in_err-power-clause-life
+returns-in_err-power-clause-life g c basis begins named =
+    let state = g.T.Bench.state in
+    let start = state c.args.bench.now in
+    let armed = state c.run_schedule-closed.new.bench in
+    let home = state c.give_back.new.self in
+    let trace = c.args.trace.now in
+    let outcome = c.run_schedule-closed.result.outcome in
+    let came = c.run_schedule-closed.result.closed in
+    let ran = c.run_schedule-closed.ensures.ran in
+    let many = length-map came.stores.items g.T.Store.Backing.history ∙ ran.2.many_stores in
+    let scheduled =
+    of_trace c.args.mount trace c.args.options.batch c.args.pass ran.0 start armed outcome c.tokens.result.now c.calls.result.now c.tokens.ensures.tokens c.calls.ensures.calls ran.1 in
+    let lived =
+    scheduled_home g.T.Part.Lines.history g.T.Store.Backing.history trace c.args.mount c.args.pass ran.0 _ _ came.parts.items came.stores.items _ came.placed came.tail c.args.options.batch start armed outcome home.told c.schedules_leave_lives.ensures
+    c.requires.well_formed c.requires.lines c.requires.no_rounds c.requires.new scheduled ran.3 many c.requires.names c.run_schedule-closed.ensures.armed c.give_back.ensures.told (λ holding is. g.met.T.Bench.whole c.give_back.new.self holding is)
+    basis begins named in
+    subst (λ told. IfSome start.told (λ left. IsAway basis.names left → HasLived basis trace told)) (sym (ap (λ (s : BenchState). s.told) c.in_err-power.ensures.memory)) lived
+
+pub returns-clause-life : goal.returns-clause-life
+returns-clause-life g c basis begins named =
+    let state = g.T.Bench.state in
+    let start = state c.args.bench.now in
+    let armed = state c.run_schedule-closed.new.bench in
+    let home = state c.give_back.new.self in
+    let trace = c.args.trace.now in
+    let outcome = c.run_schedule-closed.result.outcome in
+    let came = c.run_schedule-closed.result.closed in
+    let ran = c.run_schedule-closed.ensures.ran in
+    let many = length-map came.stores.items g.T.Store.Backing.history ∙ ran.2.many_stores in
+    let scheduled =
+    of_trace c.args.mount trace c.args.options.batch c.args.pass ran.0 start armed outcome c.tokens.result.now c.calls.result.now c.tokens.ensures.tokens c.calls.ensures.calls ran.1 in
+    let off = state c.power.new.self in
+    let last = state c.show_outcome.new.bench in
+    let lived =
+    scheduled_home g.T.Part.Lines.history g.T.Store.Backing.history trace c.args.mount c.args.pass ran.0 _ _ came.parts.items came.stores.items _ came.placed came.tail c.args.options.batch start armed outcome home.told c.schedules_leave_lives.ensures
+    c.requires.well_formed c.requires.lines c.requires.no_rounds c.requires.new scheduled ran.3 many c.requires.names c.run_schedule-closed.ensures.armed c.give_back.ensures.told (λ holding is. g.met.T.Bench.whole c.give_back.new.self holding is)
+    basis begins named in
+    IfSome-weaker start.told (λ left. IsAway basis.names left → HasLived basis trace home.told) (λ left. IsAway basis.names left → HasLived basis trace last.told) (λ left on away.
+    scheduled_recovered basis trace c.args.options.image home.told off.told last.told c.images_follow_calls.ensures.quiet c.power_leaves_an_image.ensures (λ holding is. g.met.T.Bench.whole c.give_back.new.self holding is)
+    (ap (λ (s : BenchState). s.told) c.in_ok-power.ensures.off) c.show_outcome.ensures.standing (on away)) lived

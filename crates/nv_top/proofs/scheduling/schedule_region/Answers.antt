@@ -13,6 +13,16 @@ use Rattle.nv_top.specs.Scheduling.{HasScheduledOn}
 use Rattle.nv_top.specs.Stopping.{IsAway}
 use Rattle.nv_top.proofs.SchedulingLemmas.{armed_none}
 use Rattle.nv_top.proofs.StoppingLemmas.{stop_grows}
+use Rattle.std.proofs.Common.{◌∙◌, length, refl}
+use Rattle.std.specs.Prelude.{Option, Some, option_map}
+use Rattle.std.proofs.lemmas.List.{length-map}
+use Rattle.nv_bench.specs.Holding.{Holding, named_stores}
+use Rattle.nv_open.proofs.Homes.{all_behind, own_stores}
+use Rattle.nv_store.proofs.RowReads.{length_now}
+use Rattle.nv_top.specs.Lives.{AreLeftSo, HasLived}
+use Rattle.nv_top.proofs.LifeLemmas.{left_same, lived_home, rest_lives}
+use Rattle.nv_top.proofs.RunLemmas.{quiet_stores}
+use Rattle.nv_top.proofs.StoppingLemmas.{home_with, if_some}
 use Rattle.nv_top.proofs.scheduling.schedule_region.Goals as goal
 
 pub returns-in-Ok-clause-scheduled : goal.returns-in-Ok-clause-scheduled
@@ -54,3 +64,26 @@ pub returns-in-Err-clause-cuts : goal.returns-in-Err-clause-cuts
 returns-in-Err-clause-cuts g c =
     armed_none c.args.trace.now.tokens (g.T.Bench.state c.args.bench.now) (g.T.Bench.state c.give_back.new.self)
     (ap (λ (s : BenchState). s.arms) c.give_back.ensures.taken) (ap (λ (s : BenchState). s.armed) c.give_back.ensures.taken)
+
+pub returns-in-Ok-clause-life : goal.returns-in-Ok-clause-life
+returns-in-Ok-clause-life g c parts now parts_are now_are =
+    c.schedule_mount.ensures.life (basis_over c.args.opened.region c.args.options.pages (files_of now)) (c.in-Ok.ensures.begins parts now parts_are now_are) (sym c.requires.lent)
+
+pub returns-in-Err-clause-life : goal.returns-in-Err-clause-life
+returns-in-Err-clause-life g c parts now parts_are now_are =
+    let history = g.T.Part.Lines.history in
+    let held = g.T.Store.Backing.history in
+    let region = c.args.opened.region in
+    let stores = c.args.opened.stores.items in
+    let trace = c.args.trace.now in
+    let start = g.T.Bench.state c.args.bench.now in
+    let home = g.T.Bench.state c.give_back.new.self in
+    let basis = basis_over region c.args.options.pages (files_of now) in
+    let rest = rest_lives history held basis trace region.parts.items stores parts now region.geometry.page region.geometry.entries region.next parts_are now_are region.is_region.tells (quiet_stores held stores now now_are c.requires.synced) refl in
+    let left_so : AreLeftSo history held basis trace c.in-Err.field-0.parts.items c.in-Err.field-0.stores.items = left_same history held basis trace c.in-Err.field-0.parts.items region.parts.items c.in-Err.field-0.stores.items stores c.in-Err.ensures.same_parts c.in-Err.ensures.same_stores rest in
+    if_some start.told (λ left. IsAway region.names left → HasLived basis trace home.told) (λ left told_is away.
+    lived_home basis trace history held c.in-Err.field-0.parts.items c.in-Err.field-0.stores.items home.told left.stores (λ holding is. g.met.T.Bench.whole c.give_back.new.self holding is) left_so
+    (λ disks are. all_behind region.names left.stores (named_stores region.names disks) away
+    ∙ own_stores region.names disks (sym (length_now (map held c.in-Err.field-0.stores.items) disks are ∙ ap length (c.in-Err.ensures.same_stores) ∙ length-map stores held ∙ c.requires.stores)) region.is_region.names_are.distinct)
+    (λ back disks back_are disks_are. c.give_back.ensures.told back disks back_are disks_are
+    ∙ ap (λ (told : Option Holding). option_map (λ (holding : Holding). home_with holding start.lent back disks) told) told_is ∙ ap (λ names. Some (home_with left names back disks)) c.requires.lent))

@@ -1,10 +1,12 @@
-use Rattle.std.proofs.Common.{List, map, subst}
+use Rattle.std.proofs.Common.{List, map, refl, subst}
 use Rattle.std.specs.Prelude.{IfSome}
 use Rattle.std.proofs.lemmas.Result.{IfOk-weaker}
 use Rattle.nv_top.specs.Scheduling.{ShowsOutcome}
 use Rattle.nv_top.specs.Stopping.{ShowsRecovered}
 use Rattle.nv_top.proofs.SchedulingLemmas.{on_any}
 use Rattle.nv_top.proofs.StoppingLemmas.{at_some, if_some}
+use Rattle.nv_open.specs.Unopened.{HasHeader, StandsAsBefore, TellsOf}
+use Rattle.nv_open.proofs.GivenBack.{still_stands}
 use Rattle.nv_top.proofs.scheduling.show_outcome.Goals as goal
 
 pub returns-in_ok-sorted-in-Ok-clause-shown : goal.returns-in_ok-sorted-in-Ok-clause-shown
@@ -29,3 +31,13 @@ returns-in_ok-sorted-in-Ok-clause-shown g c =
 
 pub returns-in_ok-sorted-in-Ok-clause-followed : goal.returns-in_ok-sorted-in-Ok-clause-followed
 returns-in_ok-sorted-in-Ok-clause-followed g c = on_any c.show_recovered.result (c.in-Ok.calls, c.in-Ok.is)
+
+pub returns-in_err-sorted-in-Ok-clause-standing : goal.returns-in_err-sorted-in-Ok-clause-standing
+returns-in_err-sorted-in-Ok-clause-standing g c =
+    let old = g.T.Bench.state c.args.bench.now in
+    if_some old.told (λ was. HasHeader was.parts → TellsOf (StandsAsBefore was) old.told) (λ was told. still_stands old old was refl told c.requires.quiet)
+
+pub returns-in-Err-NoMemory-clause-standing : goal.returns-in-Err-NoMemory-clause-standing
+returns-in-Err-NoMemory-clause-standing g c =
+    let old = g.T.Bench.state c.args.bench.now in
+    if_some old.told (λ was. HasHeader was.parts → TellsOf (StandsAsBefore was) old.told) (λ was told. still_stands old old was refl told c.requires.quiet)
