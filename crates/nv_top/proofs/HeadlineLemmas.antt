@@ -21,7 +21,7 @@ use Rattle.nv_trace.specs.declared.trace.Form.{Form}
 use Rattle.nv_trace.specs.declared.trace.Form.TheVariants as forms
 use Rattle.nv_trace.specs.Traced.{Traced}
 use Rattle.nv_top.specs.Commands.{IsNotRun, RestsNotRun}
-use Rattle.nv_top.specs.Headline.{HasFollowed, IsCommandRefused, IsShown, IsShownOf, IsLeftNotRun, IsTraceRefused, command_over, may_stop, possible}
+use Rattle.nv_top.specs.Headline.{HasFollowed, HasUsedTurnsOn, IsCommandRefused, IsShown, IsShownOf, IsLeftNotRun, IsTraceRefused, UsesTurns, command_over, may_stop, possible}
 use Rattle.nv_top.specs.Loads.{load_options}
 use Rattle.nv_top.specs.Words.{AreInLimits, command_of}
 use Rattle.nv_top.specs.declared.words.Command.{Command}
@@ -181,6 +181,9 @@ written_so command left old new text said W same shown written =
 pub same_some : {one other : Command} → Some one ≡ Some other → one ≡ other
 same_some {one} {other} is = cc
 
+pub same_schedule : {one other : RunOptions} → Sched one ≡ Sched other → one ≡ other
+same_schedule {one} {other} is = cc
+
 -- what a schedule shows, and why it is refused
 pub followed_from : (options : RunOptions) (left : Option (List ℕ)) (old new : BenchState) (trace : Traced) (text : List ℕ)
     → IfSome left (λ input. ending_of forms.Sched input ≡ Whole trace)
@@ -202,6 +205,13 @@ schedule_refused options left old new trace why whole refused =
     let both = if_told old.told (λ holding. IsNotRun options holding trace.names why × IsLeftNotRun options holding trace.names old new why) (λ holding told.
     let here = told_at old.told Refused holding told refused in (here.0, here.1)) in
     (told_at old.told (λ holding. IsTraceRefused forms.Sched options left old new holding why) holding told (refused_from forms.Sched options left old new trace why whole both), all.2))
+
+-- so was a schedule followed whose trace was read
+pub used_from : (options : RunOptions) (left : Option (List ℕ)) (told : Option Holding) (trace : Traced)
+    → IfSome left (λ input. ending_of forms.Sched input ≡ Whole trace) → IfSome told (λ holding. HasUsedTurnsOn options holding trace) → IfSome told (UsesTurns options left)
+used_from options None told trace whole used = if_told told (UsesTurns options None) (λ holding is. tt)
+used_from options (Some input) told trace whole used =
+    if_told told (UsesTurns options (Some input)) (λ holding is. (trace, whole, told_at told (λ holding. HasUsedTurnsOn options holding trace) holding is used))
 
 -- why a recovery is refused
 pub recovery_refused : (left : Option (List ℕ)) (old new : BenchState) (why : Refusal)

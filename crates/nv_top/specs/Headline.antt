@@ -19,7 +19,7 @@ use Rattle.nv_load.specs.Generated.{generated}
 use Rattle.nv_top.specs.Loads.{HasGenerated, load_options}
 use Rattle.nv_top.specs.declared.show.Show.TheVariants.{Report}
 use Rattle.nv_top.specs.Endings.{IsTrace}
-use Rattle.nv_top.specs.Scheduling.{HasScheduledOn, IsArmedAt, IsArmedAtSome, IsBackPowered}
+use Rattle.nv_top.specs.Scheduling.{HasScheduledOn, HasUsedTurns, IsArmedAt, IsArmedAtSome, IsBackPowered}
 use Rattle.nv_top.specs.Stopping.{HasStoppedOn, IsPickedOnce, IsPoweredBack}
 use Rattle.nv_top.specs.Words.{command_of}
 use Rattle.nv_top.specs.declared.words.Command.{Command}
@@ -100,6 +100,16 @@ pub record HasFollowed (failed : Type 0) (options : RunOptions) (before : List P
   pub basis : Basis
   pub begun : IsBasis options holding trace.names basis
   pub scheduled : HasScheduledOn failed options before basis trace bench text
+
+-- The schedule of a trace was followed so far on a bench that held this.
+pub record HasUsedTurnsOn (options : RunOptions) (holding : Holding) (trace : Traced) : Type 0 where
+  pub basis : Basis
+  pub begun : IsBasis options holding trace.names basis
+  pub used : HasUsedTurns options basis trace
+
+-- so was that of the trace that was read
+abbrev pub UsesTurns : RunOptions → (input : Option (List ℕ)) → Holding → Type 0
+UsesTurns options input holding = IfSome input (λ input. (trace : Traced) × (ending_of forms.Sched input ≡ Whole trace) × HasUsedTurnsOn options holding trace)
 
 -- what the report of a command shows of a bench that held this, and of the input that it had
 abbrev pub IsShown : Command → (input : Option (List ℕ)) → (old new : BenchState) → Holding → (text : List ℕ) → Type 0

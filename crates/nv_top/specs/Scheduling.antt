@@ -1,5 +1,5 @@
 -- Scheduling: a schedule that is followed over a bench, and what it leaves.
-use Rattle.std.specs.Prelude.{◌≡◌, ℕ, false, List, [], ◌∷◌, ◌++◌, map, Option, Some, Result, Ok}
+use Rattle.std.specs.Prelude.{◌≡◌, ℕ, false, List, [], ◌∷◌, ◌++◌, map, Option, Some, Result, Ok, Err}
 use Rattle.nv_plain.specs.Recovered.{recovered}
 use Rattle.nv_pmem.specs.Rows.{row_words}
 use Rattle.nv_pmem.specs.declared.picker.Pick.{Pick}
@@ -24,6 +24,7 @@ use Rattle.nv_schedule.specs.Cuts.{armed_by, cuts_of}
 use Rattle.nv_schedule.specs.FaithfulSchedules.{IsFaithfulSchedule}
 use Rattle.nv_schedule.specs.Scheduled.{HasScheduled}
 use Rattle.nv_schedule.specs.declared.schedule_error.ScheduleError.{ScheduleError}
+use Rattle.nv_schedule.specs.declared.schedule_error.ScheduleError.TheVariants.{TurnsUsed}
 use Rattle.nv_schedule.specs.declared.scheduled.ScheduledCalls.{ScheduledCalls}
 use Rattle.nv_top.specs.Readings.{HavePlainNames}
 use Rattle.nv_top.specs.Reports.{report_text}
@@ -61,6 +62,16 @@ pub record ShowsOutcome (holding : Holding) (outcome : Result ScheduledCalls Sch
   pub sorted : SortedCalls
   pub sorted_out : AreSortedOut (made_calls calls.answered.items) sorted
   pub shown : ShowsRecovered holding sorted (map (λ call. call.now) calls.unanswered.items) told text
+
+-- The schedule of a trace was followed over a mount of this basis, on a bench that was lent meanwhile, up to a token that made 100,000 advances and didn't come to its point.
+pub record HasUsedTurns (options : RunOptions) (basis : Basis) (trace : Traced) : Type 0 where
+  pub mount : MountState
+  pub start : PassState
+  pub begins : BeginsMount basis trace mount start
+  pub last : PassState
+  pub lent : BenchState
+  pub armed : BenchState
+  pub followed : HasScheduled mount trace.tokens trace.calls options.batch start last lent armed (Err TurnsUsed)
 
 -- The text is that of a report of a trace whose schedule was followed over a mount of this basis, on a bench that was lent meanwhile, and armed at its cuts. The calls that it lists are those that were
 -- begun. Power went off once more than with those picks, with that of the options, and left the bench with an image that recovers to the files after the history of all callers and then the kept ones of

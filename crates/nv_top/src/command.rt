@@ -13,7 +13,7 @@ ghost use Rattle.nv_trace.specs.Shape.{IsWellFormed};
 ghost use Rattle.nv_trace.specs.Streams.{Appends};
 ghost use Rattle.nv_top.specs.Commands.{IsGivenBack, IsNotRun, RestsNotRun};
 ghost use Rattle.nv_top.specs.Endings.{IsErrorLine, AppendsFront, usage_line, read_line, device_line, memory_line, input_line, region_line, turns_line, IsTrace};
-ghost use Rattle.nv_top.specs.Headline.{HasInput, HasRefusal, HasStopped, IsArmedByAll, IsArmedBySome, IsLeftBy, IsCommandRefused, IsUnhindered, IsShown, IsShownOf, command_over, expected_faults, form_over, possible};
+ghost use Rattle.nv_top.specs.Headline.{HasInput, HasRefusal, HasStopped, IsArmedByAll, IsArmedBySome, IsLeftBy, IsCommandRefused, IsUnhindered, IsShown, IsShownOf, UsesTurns, command_over, expected_faults, form_over, possible};
 ghost use Rattle.nv_trace.specs.Traced.{lines_in};
 ghost use Rattle.nv_top.specs.Lives.{LeavesLife, LeavesRun};
 ghost use Rattle.nv_top.specs.Stopping.{IsPickedOnce, IsPoweredBack, IsSettledStop};
@@ -115,6 +115,9 @@ pub fn nv_main<R: Threads + Wait + Sync, I: Source, O: Sink, B: Bench, G: Gate +
     // Only a schedule ends with status 8. Power went off then, with its pick.
     ensures turns { result ≡ TURNS_USED → (options : RunOptions) × (command_over B.can_lose_power (map string_bytes words.now) ≡ Some (commands.Sched options))
         × ((B.state bench.new).picked ≡ options.image ∷ (B.state bench.old).picked) }
+    // Then its tokens were followed up to one that made 100,000 advances short of its point; with status 0 they were to the end (`report`).
+    ensures turns_used { result ≡ TURNS_USED → (options : RunOptions) → command_over B.can_lose_power (map string_bytes words.now) ≡ Some (commands.Sched options)
+        → IfSome (B.state bench.old).told (UsesTurns options (I.left src.old)) }
 
     // With status 7 the line says why the region is refused. It is refused at entry, never after a stop's power failure. It is as it was then, or, where there would be too many files, at rest.
     ensures region { result ≡ BAD_REGION → (why : Refusal) × Appends (O.written out.old) (O.written out.new) (region_line why)
@@ -197,6 +200,8 @@ fn report<R: Threads + Wait + Sync, I: Source, B: Bench, G: Gate + Sync>(
         → IsFollowed result → IfSome (I.left src.old) (λ input. IsTrace forms.Sched input × (I.left src.new ≡ Some [])) }
     ensures turns { result ≡ Err stops.Turns → (options : RunOptions) × (command_over B.can_lose_power (map string_bytes words.now) ≡ Some (commands.Sched options))
         × ((B.state bench.new).picked ≡ options.image ∷ (B.state bench.old).picked) }
+    ensures turns_used { result ≡ Err stops.Turns → (options : RunOptions) → command_over B.can_lose_power (map string_bytes words.now) ≡ Some (commands.Sched options)
+        → IfSome (B.state bench.old).told (UsesTurns options (I.left src.old)) }
     ensures unread { command_over B.can_lose_power (map string_bytes words.now) ≡ Some commands.Recover → I.left src.new ≡ I.left src.old }
     ensures unread_look { (files : _) → command_over B.can_lose_power (map string_bytes words.now) ≡ Some (commands.Look files)
         → I.left src.new ≡ I.left src.old }
@@ -324,6 +329,7 @@ fn schedule_input<I: Source, B: Bench>(
         → (B.state bench.new).faults ≤ expected_faults (B.state bench.old) (B.state bench.new) }
     ensures good_input { IsFollowed result → IfSome (I.left src.old) (λ input. IsTrace forms.Sched input × (I.left src.new ≡ Some [])) }
     ensures turns { result ≡ Err stops.Turns → (B.state bench.new).picked ≡ options.image ∷ (B.state bench.old).picked }
+    ensures turns_used { result ≡ Err stops.Turns → IfSome (B.state bench.old).told (UsesTurns options (I.left src.old)) }
     ensures report { IfOk result (λ text. IfSome (B.state bench.old).told (λ holding.
         IsShown (commands.Sched options) (I.left src.old) (B.state bench.old) (B.state bench.new) holding text.items)) }
     ensures region { (why : _) → result ≡ Err (stops.Region why) → IfSome (B.state bench.old).told (λ holding.

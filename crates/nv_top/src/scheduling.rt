@@ -21,12 +21,13 @@ ghost use Rattle.nv_trace.specs.Shape.{IsWellFormed};
 ghost use Rattle.nv_trace.specs.Traced.{lines_in};
 ghost use Rattle.nv_runner.specs.Faithful.{Basis};
 ghost use Rattle.nv_runner.specs.declared.running.TheConstants.{MOST_CALLS};
+ghost use Rattle.nv_schedule.specs.declared.schedule_error.ScheduleError.TheVariants as schedule_errors;
 ghost use Rattle.nv_schedule.specs.declared.scheduled.ScheduledCalls.{ScheduledCalls as AnyCalls};
 ghost use Rattle.nv_top.specs.Commands.{IsNotRun};
-ghost use Rattle.nv_top.specs.Headline.{HasFollowed, IsLeftNotRun, expected_faults};
+ghost use Rattle.nv_top.specs.Headline.{HasFollowed, IsLeftNotRun, expected_faults, HasUsedTurnsOn};
 ghost use Rattle.nv_top.specs.Lives.{HasLived, LeavesRun};
 ghost use Rattle.nv_top.specs.Runs.{BeginsMount, basis_over};
-ghost use Rattle.nv_top.specs.Scheduling.{HasScheduledOn, IsArmedAt, IsArmedAtSome, IsBackPowered, ShowsOutcome};
+ghost use Rattle.nv_top.specs.Scheduling.{HasScheduledOn, HasUsedTurns, IsArmedAt, IsArmedAtSome, IsBackPowered, ShowsOutcome};
 ghost use Rattle.nv_top.specs.Stopping.{IsAway, IsBack, IsPickedOnce, IsSettledStop};
 ghost use Rattle.nv_top.specs.Words.{AreInLimits};
 ghost use Rattle.nv_top.specs.declared.ending.Stop.TheVariants as stops;
@@ -77,6 +78,7 @@ pub(crate) fn schedule<T: Bench>(
     ensures picked { IsPickedOnce options.image (T.state bench.old) (T.state bench.new) }
     ensures cause { IsSettledStop (expected_faults (T.state bench.old) (T.state bench.new)) (T.state bench.new).faults result }
     ensures turns { result ≡ Err stops.Turns → (T.state bench.new).picked ≡ options.image ∷ (T.state bench.old).picked }
+    ensures used { result ≡ Err stops.Turns → IfSome (T.state bench.old).told (λ holding. HasUsedTurnsOn options holding trace.now) }
     ensures never_falls { (T.state bench.old).faults ≤ (T.state bench.new).faults }
     ensures life { IfSome (T.state bench.old).told (λ was. LeavesRun options was trace.now (T.state bench.new).told) }
     ensures followed { IfOk result (λ text. IfSome (T.state bench.old).told (λ holding.
@@ -133,6 +135,9 @@ fn schedule_region<T: Bench>(
     ensures turns { result ≡ Err stops.Turns → (T.state bench.new).picked ≡ options.image ∷ (T.state bench.old).picked }
     ensures life { (parts : List Part) (now : List Store) → AreNow (map T.Part.history opened.region.parts.items) parts → AreNow (map T.Store.history opened.stores.items) now
         → IfSome (T.state bench.old).told (λ left. IsAway opened.region.names left → HasLived (basis_over opened.region options.pages (files_of now)) trace.now (T.state bench.new).told) }
+    ensures used { result ≡ Err stops.Turns → (parts : List Part) (now : List Store)
+        → AreNow (map T.Part.history opened.region.parts.items) parts → AreNow (map T.Store.history opened.stores.items) now
+        → HasUsedTurns options (basis_over opened.region options.pages (files_of now)) trace.now }
     ensures scheduled { IfOk result (λ text. (parts : List Part) (now : List Store)
         → AreNow (map T.Part.history opened.region.parts.items) parts → AreNow (map T.Store.history opened.stores.items) now
         → IfSome (T.state bench.old).told (λ left. IsAway opened.region.names left
@@ -193,6 +198,7 @@ fn schedule_mount<T: Bench>(
     ensures turns { result ≡ Err stops.Turns → (T.state bench.new).picked ≡ options.image ∷ (T.state bench.old).picked }
     ensures life { (basis : Basis) → BeginsMount basis trace.now mount pass → basis.names ≡ (T.state bench.old).lent
         → IfSome (T.state bench.old).told (λ left. IsAway basis.names left → HasLived basis trace.now (T.state bench.new).told) }
+    ensures used { result ≡ Err stops.Turns → (basis : Basis) → BeginsMount basis trace.now mount pass → HasUsedTurns options basis trace.now }
     ensures scheduled { IfOk result (λ text. (basis : Basis) → BeginsMount basis trace.now mount pass → basis.names ≡ (T.state bench.old).lent
         → IfSome (T.state bench.old).told (λ left. IsAway basis.names left
         → HasScheduledOn (Rose (saturated ((T.state bench.old).faults + failed_before pass)) (T.state bench.new).faults)
@@ -251,6 +257,7 @@ fn show_outcome<T: Bench>(
     ensures back { IsBack (T.state bench.old) (T.state bench.new) }
     ensures refused { (why : _) → result ≡ Err (stops.Region why) → IfSome (T.state bench.old).told (λ holding. IsRefusedFor holding.parts why) }
     ensures followed { OnOk result ((calls : AnyCalls) × (outcome.entry ≡ Ok calls)) }
+    ensures used { result ≡ Err stops.Turns → outcome.entry ≡ Err schedule_errors.TurnsUsed }
     ensures shown { IfOk result (λ text. IfSome (T.state bench.old).told (λ holding. ShowsOutcome holding outcome.entry (T.state bench.new).told text.items)) }
     ensures standing { IfSome (T.state bench.old).told (λ was. HasHeader was.parts → TellsOf (StandsAsBefore was) (T.state bench.new).told) }
     ensures cause { IsSettledStop (T.state bench.old).faults (T.state bench.new).faults result }

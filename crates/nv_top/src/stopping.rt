@@ -198,6 +198,7 @@ pub(crate) fn show_recovered<T: Bench>(
     ensures refused { (why : _) → result ≡ Err (stops.Region why) → IfSome (T.state bench.old).told (λ holding. IsRefusedFor holding.parts why) }
     ensures standing { IfSome (T.state bench.old).told (λ was. HasHeader was.parts → TellsOf (StandsAsBefore was) (T.state bench.new).told) }
     ensures cause { CountHasCause (T.state bench.old).faults (T.state bench.new).faults result }
+    ensures turns { result ≢ Err stops.Turns }
     ensures never_falls { (T.state bench.old).faults ≤ (T.state bench.new).faults }
 {
     images_stand_for_files();

@@ -62,3 +62,7 @@ returns-in-Err-clause-good_schedule g c options over is = elim is [
   | inl done ↦ absurd (never_done c.say_stop.result c.in-Err.stop (TakesMemory c.in-Err.stop) c.say_stop.ensures.status done)
   | inr turns ↦ c.in-Err.ensures.good_schedule options over (said_turns c.say_stop.result c.in-Err.stop (TakesMemory c.in-Err.stop) c.say_stop.ensures.status turns)
 ]
+
+pub returns-in-Err-clause-turns_used : goal.returns-in-Err-clause-turns_used
+returns-in-Err-clause-turns_used g c is =
+    c.in-Err.ensures.turns_used (ap Err (said_turns c.say_stop.result c.in-Err.stop (TakesMemory c.in-Err.stop) c.say_stop.ensures.status is))

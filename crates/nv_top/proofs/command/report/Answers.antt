@@ -1,8 +1,9 @@
 use Rattle.std.proofs.Common.{◌∙◌, Err, Some, map, sym, subst, ap}
 use Rattle.std.specs.Prelude.{IfSome, string_bytes}
-use Rattle.nv_top.specs.Headline.{IsCommandRefused}
+use Rattle.nv_top.specs.Headline.{IsCommandRefused, UsesTurns}
 use Rattle.nv_top.specs.declared.words.Command.{Command}
-use Rattle.nv_top.proofs.HeadlineLemmas.{load_limits, load_refused, recovery_refused, run_limits, same_some, schedule_limits, stop_possible}
+use Rattle.nv_top.specs.declared.words.RunOptions.{RunOptions}
+use Rattle.nv_top.proofs.HeadlineLemmas.{load_limits, load_refused, recovery_refused, run_limits, same_schedule, same_some, schedule_limits, stop_possible}
 use Rattle.std.proofs.Common.{◌≡◌, ◌≤◌, arith}
 use Rattle.nv_bench.specs.Benches.{BenchState}
 use Rattle.nv_top.specs.declared.words.Command.TheVariants.{Recover, Look, Gen}
@@ -234,3 +235,8 @@ returns-in-Sched-clause-complete g c command over =
     let With : Command → Type 0 = λ command. IfSome old.told (λ holding. IsUnhindered command left holding (Rose (g.I.Source.fault_count c.args.src.now) (g.I.Source.fault_count c.schedule_input.new.src)) (Rose (expected_faults old new) new.faults)
     → IfErr c.schedule_input.result IsOwnStop) in
     subst With (same_some (sym (c.in_ok-command.ensures.command ∙ ap Some c.in-Sched.is) ∙ over)) c.schedule_input.ensures.complete
+
+pub returns-in-Sched-clause-turns_used : goal.returns-in-Sched-clause-turns_used
+returns-in-Sched-clause-turns_used g c is options over =
+    let With : RunOptions → Type 0 = λ options. IfSome (g.B.Bench.state c.args.bench.now).told (UsesTurns options (g.I.Source.left c.args.src.now)) in
+    subst With (same_schedule (same_some (sym (c.in_ok-command.ensures.command ∙ ap Some c.in-Sched.is) ∙ over))) (c.schedule_input.ensures.turns_used is)

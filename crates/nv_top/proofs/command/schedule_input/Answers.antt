@@ -11,7 +11,7 @@ use Rattle.nv_top.proofs.StoppingLemmas.{if_some}
 use Rattle.nv_top.specs.Headline.{HasFollowed, IsArmedByAll, IsArmedBySome, IsShown, expected_faults}
 use Rattle.nv_top.specs.declared.words.Command.TheVariants.{Sched}
 use Rattle.nv_top.proofs.CompleteLemmas.{settled_counts, settled_done}
-use Rattle.nv_top.proofs.HeadlineLemmas.{followed_from, schedule_refused, where_read}
+use Rattle.nv_top.proofs.HeadlineLemmas.{followed_from, schedule_refused, where_read, used_from}
 use Rattle.nv_top.proofs.LifeLemmas.{schedule_from, schedule_unopened}
 use Rattle.nv_top.proofs.StopLemmas.{settled_opened}
 use Rattle.nv_top.proofs.command.schedule_input.Goals as goal
@@ -91,3 +91,7 @@ returns-in_err-trace-clause-life g c =
 pub returns-clause-life : goal.returns-clause-life
 returns-clause-life g c =
     schedule_from c.args.options (g.I.Source.left c.args.src.now) (g.B.Bench.state c.args.bench.now).told (g.B.Bench.state c.schedule.new.bench).told c.in_ok-trace.trace c.in_ok-trace.ensures.whole c.schedule.ensures.life
+
+pub returns-clause-turns_used : goal.returns-clause-turns_used
+returns-clause-turns_used g c is =
+    used_from c.args.options (g.I.Source.left c.args.src.now) (g.B.Bench.state c.args.bench.now).told c.in_ok-trace.trace c.in_ok-trace.ensures.whole (c.schedule.ensures.used is)

@@ -15,7 +15,7 @@ use Rattle.nv_open.proofs.Homes.{all_away}
 use Rattle.nv_recover.specs.Standing.{files_of}
 use Rattle.nv_trace.specs.Said.{said_place}
 use Rattle.nv_top.specs.Commands.{IsBasis, IsNotRun, RestsNotRun}
-use Rattle.nv_top.specs.Headline.{HasFollowed, IsLeftNotRun}
+use Rattle.nv_top.specs.Headline.{HasFollowed, HasUsedTurnsOn, IsLeftNotRun}
 use Rattle.nv_top.specs.Runs.{basis_over}
 use Rattle.nv_top.specs.Scheduling.{HasScheduledOn}
 use Rattle.nv_top.specs.Stopping.{IsAway}
@@ -215,3 +215,29 @@ returns-clause-life g c =
           (c.schedule_region.ensures.life parts.states opened.files.held parts.are opened.files.are)
           (all_away region.names holding.stores (home_distinct old holding (g.met.T.Bench.named c.args.bench.now) told c.requires.home));
     }))
+
+pub returns-clause-used : goal.returns-clause-used
+returns-clause-used g c is =
+    let old = g.T.Bench.state c.args.bench.now in
+    let trace = c.args.trace.now in
+    let options = c.args.options in
+    let made = c.in_ok-opened.ensures in
+    let region = c.in_ok-opened.opened.region in
+    if_told old.told (λ holding. HasUsedTurnsOn options holding trace) (λ holding told.
+    let opened = told_at old.told _ holding told made.opened in
+    let parts = present (map g.T.Part.Lines.history region.parts.items) (told_at old.told _ holding told made.tell) in
+    let With : List (List ℕ) → Type 0 = λ wanted. IsBasis options holding wanted (basis_over region options.pages (files_of opened.files.held)) in
+    record {
+      basis = _;
+      begun = subst With (c.in_ok-wanted.ensures ∙ c.names.ensures) (record {
+        geometry = _;
+        page_is = refl;
+        entries_are = refl;
+        known = opened.known;
+        begun = opened.begun;
+        pages_are = refl;
+        names_are = opened.names_are;
+        files_are = opened.files.files_are;
+      });
+      used = c.schedule_region.ensures.used is parts.states opened.files.held parts.are opened.files.are;
+    })

@@ -13,6 +13,7 @@ use Rattle.nv_mount.specs.RisenCounts.{SawStop, failed_before}
 use Rattle.nv_runner.specs.Faithful.{Basis}
 use Rattle.nv_top.specs.Runs.{BeginsMount}
 use Rattle.nv_schedule.specs.Cuts.{CutTells}
+use Rattle.nv_schedule.specs.Scheduled.{HasScheduled}
 use Rattle.nv_schedule.specs.declared.scheduled.ScheduledCalls.{ScheduledCalls}
 use Rattle.nv_top.specs.Scheduling.{HasScheduledOn, IsArmedAt, ShowsOutcome}
 use Rattle.nv_top.specs.Stopping.{IsAway, IsSettledStop}
@@ -298,3 +299,20 @@ returns-clause-life g c basis begins named =
     IfSome-weaker start.told (λ left. IsAway basis.names left → HasLived basis trace home.told) (λ left. IsAway basis.names left → HasLived basis trace last.told) (λ left on away.
     scheduled_recovered basis trace c.args.options.image home.told off.told last.told c.images_follow_calls.ensures.quiet c.power_leaves_an_image.ensures (λ holding is. g.met.T.Bench.whole c.give_back.new.self holding is)
     (ap (λ (s : BenchState). s.told) c.in_ok-power.ensures.off) c.show_outcome.ensures.standing (on away)) lived
+
+pub returns-clause-used : goal.returns-clause-used
+returns-clause-used g c is basis begins =
+    let start = g.T.Bench.state c.args.bench.now in
+    let armed = g.T.Bench.state c.run_schedule-closed.new.bench in
+    let trace = c.args.trace.now in
+    let ran = c.run_schedule-closed.ensures.ran in
+    record {
+      mount = c.args.mount;
+      start = c.args.pass;
+      begins = begins;
+      last = ran.0;
+      lent = start;
+      armed = armed;
+      followed = subst (HasScheduled c.args.mount trace.tokens trace.calls c.args.options.batch c.args.pass ran.0 start armed) (c.show_outcome.ensures.used is)
+          (of_trace c.args.mount trace c.args.options.batch c.args.pass ran.0 start armed c.run_schedule-closed.result.outcome c.tokens.result.now c.calls.result.now c.tokens.ensures.tokens c.calls.ensures.calls ran.1);
+    }

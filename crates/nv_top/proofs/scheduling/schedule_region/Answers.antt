@@ -87,3 +87,7 @@ returns-in-Err-clause-life g c parts now parts_are now_are =
     ∙ own_stores region.names disks (sym (length_now (map held c.in-Err.field-0.stores.items) disks are ∙ ap length (c.in-Err.ensures.same_stores) ∙ length-map stores held ∙ c.requires.stores)) region.is_region.names_are.distinct)
     (λ back disks back_are disks_are. c.give_back.ensures.told back disks back_are disks_are
     ∙ ap (λ (told : Option Holding). option_map (λ (holding : Holding). home_with holding start.lent back disks) told) told_is ∙ ap (λ names. Some (home_with left names back disks)) c.requires.lent))
+
+pub returns-in-Ok-clause-used : goal.returns-in-Ok-clause-used
+returns-in-Ok-clause-used g c is parts now parts_are now_are =
+    c.schedule_mount.ensures.used is (basis_over c.args.opened.region c.args.options.pages (files_of now)) (c.in-Ok.ensures.begins parts now parts_are now_are)
