@@ -1,13 +1,13 @@
 -- Commands that nothing stands in the way of: they are followed to their end.
-use Rattle.std.proofs.Common.{◌≡◌, ◌⊎◌, ℕ, ◌≤◌, Bool, true, false, List, Option, Some, None, Result, Ok, Err, inl, inr, refl, sym, ap, subst, ◌∙◌, arith}
-use Rattle.std.specs.Prelude.{IfErr, IfSome, OnOk, max}
+use Rattle.std.proofs.Common.{◌≡◌, ◌⊎◌, ℕ, Bool, true, false, List, Option, Some, None, Result, Ok, Err, inl, inr, refl, ap, subst}
+use Rattle.std.specs.Prelude.{IfErr, IfSome, OnOk}
 use Rattle.nv_plain.specs.Faults.{Rose}
 use Rattle.nv_bench.specs.Benches.{BenchState}
 use Rattle.nv_bench.specs.Holding.{Holding}
 use Rattle.nv_open.specs.declared.error.Refusal.{Refusal}
 use Rattle.nv_top.specs.Commands.{IsLookedAt}
 use Rattle.nv_top.specs.Headline.{HasRefusal, IsCommandRefused, IsUnhindered}
-use Rattle.nv_top.specs.Stops.{CountHasCause, IsOwnStop, SaidAs, TakesMemory, stop_status}
+use Rattle.nv_top.specs.Stops.{IsOwnStop, SaidAs, TakesMemory, stop_status}
 use Rattle.nv_top.specs.Stopping.{IsSettledStop}
 use Rattle.nv_top.specs.declared.ending.Stop.{Stop}
 use Rattle.nv_top.specs.declared.ending.Stop.TheVariants.{Usage, BadLine as BadLineStop, InputLong, Read, Device, Region, NoMemory, Turns}
@@ -19,12 +19,12 @@ use Rattle.nv_top.proofs.CommandLemmas.{if_told, told_at}
 -- what a refusal of a command is
 refusal_of : (command : Command) (left : Option (List ℕ)) (old new : BenchState) (holding : Holding) (why : Refusal) → IsCommandRefused command left old new holding why → HasRefusal command left holding why
 refusal_of (Run options) None old new holding why is = tt
-refusal_of (Run options) (Some input) old new holding why is = (is.0, is.1, is.2)
+refusal_of (Run options) (Some input) old new holding why is = (is.0, is.1, is.2.not_run)
 refusal_of (Sched options) None old new holding why is = tt
-refusal_of (Sched options) (Some input) old new holding why (is, unpowered) = (is.0, is.1, is.2)
+refusal_of (Sched options) (Some input) old new holding why (is, unpowered) = (is.0, is.1, is.2.not_run)
 refusal_of Recover left old new holding why is = is.0
 refusal_of (Look files) left old new holding why is = is
-refusal_of (Gen load) left old new holding why is = is.0
+refusal_of (Gen load) left old new holding why is = is.not_run
 
 -- a run, or a schedule
 pub settled_done : {T : Type 0} (command : Command) (left : Option (List ℕ)) (old new : BenchState) (read_failed : Type 0) (settled now : ℕ) (result : Result T Stop) → IsSettledStop settled now result
@@ -46,42 +46,20 @@ settled_done {T} command left old new read_failed settled now result cause regio
     by (Err NoMemory) cause region holding told free = inl refl
     by (Err Turns) cause region holding told free = inr refl
 
--- a recovery, or a look
-pub other_done : {T : Type 0} (command : Command) (left : Option (List ℕ)) (old : BenchState) (now : ℕ) (read_failed device_failed : Type 0) (result : Result T Stop)
-    → CountHasCause old.faults now result → (Rose old.faults now → device_failed) → ((why : Refusal) → result ≡ Err (Region why) → IfSome old.told (λ holding. HasRefusal command left holding why))
-    → IfSome old.told (λ holding. IsUnhindered command left holding read_failed device_failed → IfErr result IsOwnStop)
-other_done {T} command left old now read_failed device_failed result cause rose region =
-    if_told old.told (λ holding. IsUnhindered command left holding read_failed device_failed → IfErr result IsOwnStop) (λ holding told free. by result cause region holding told free)
-  where
-    by : (result : Result T Stop) → CountHasCause old.faults now result → ((why : Refusal) → result ≡ Err (Region why) → IfSome old.told (λ holding. HasRefusal command left holding why))
-        → (holding : Holding) → old.told ≡ Some holding → IsUnhindered command left holding read_failed device_failed → IfErr result IsOwnStop
-    by (Ok value) cause region holding told free = tt
-    by (Err Usage) cause region holding told free = absurd cause
-    by (Err (BadLineStop bad)) cause region holding told free = absurd cause
-    by (Err InputLong) cause region holding told free = absurd cause
-    by (Err Read) cause region holding told free = absurd cause
-    by (Err Device) cause region holding told free = absurd (free.devices (rose cause))
-    by (Err (Region why)) cause region holding told free = absurd (free.not_refused why (told_at old.told (λ holding. HasRefusal command left holding why) holding told (region why refl)))
-    by (Err NoMemory) cause region holding told free = inl refl
-    by (Err Turns) cause region holding told free = absurd cause
-
 -- ---- counts
 
--- a look leaves the count of when power went off
+-- a look leaves the count of when power went off, and doesn't arm
 pub look_settled : (files : Bool) (old new : BenchState) → IsLookedAt files old new → new.settled ≡ old.settled
 look_settled false old new left = ap (λ (state : BenchState). state.settled) left
 look_settled true old new left = ap (λ (state : BenchState). state.settled) left.0
 
-pub rose_above : (before now settled : ℕ) → settled ≤ before → Rose before now → Rose (max before settled) now
-rose_above before now settled low rose = record { never_falls = omega (arith, low, rose.never_falls); more = omega (arith, low, rose.more) }
+pub look_unarmed : (files : Bool) (old new : BenchState) → IsLookedAt files old new → new.arms ≡ old.arms
+look_unarmed false old new left = ap (λ (state : BenchState). state.arms) left
+look_unarmed true old new left = ap (λ (state : BenchState). state.arms) left.0
 
 pub settled_counts : {T : Type 0} (settled now : ℕ) (result : Result T Stop) → IsSettledStop settled now result → OnOk result (now ≡ settled)
 settled_counts settled now (Ok value) cause = cause
 settled_counts settled now (Err stop) cause = tt
-
-pub counted_counts : {T : Type 0} (before now settled : ℕ) (result : Result T Stop) → CountHasCause before now result → settled ≤ before → OnOk result (now ≡ max before settled)
-counted_counts before now settled (Ok value) cause low = omega (arith, cause, low)
-counted_counts before now settled (Err stop) cause low = tt
 
 -- ---- what is said
 

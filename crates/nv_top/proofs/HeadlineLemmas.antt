@@ -14,15 +14,13 @@ use Rattle.nv_open.specs.declared.error.Refusal.{Refusal}
 use Rattle.nv_open.specs.declared.error.Refusal.TheVariants as refusals
 use Rattle.nv_pmem.specs.Laws.{BlankIsQuiet}
 use Rattle.nv_store.specs.Store.{IsQuietStore}
-use Rattle.nv_load.specs.Generated.{IsLoad, generated}
+use Rattle.nv_load.specs.Generated.{IsLoad}
 use Rattle.nv_load.specs.declared.load.Load.{Load}
 use Rattle.nv_trace.specs.Reading.{ending_of, Whole}
 use Rattle.nv_trace.specs.declared.trace.Form.{Form}
 use Rattle.nv_trace.specs.declared.trace.Form.TheVariants as forms
 use Rattle.nv_trace.specs.Traced.{Traced}
-use Rattle.nv_top.specs.Commands.{IsNotRun, RestsNotRun}
-use Rattle.nv_top.specs.Headline.{HasFollowed, HasUsedTurnsOn, IsCommandRefused, IsShown, IsShownOf, IsLeftNotRun, IsTraceRefused, UsesTurns, command_over, may_stop, possible}
-use Rattle.nv_top.specs.Loads.{load_options}
+use Rattle.nv_top.specs.Headline.{HasFollowed, HasUsedTurnsOn, IsCommandRefused, IsRunRefused, IsShown, IsShownOf, IsTraceRefused, UsesTurns, command_over, may_stop, possible}
 use Rattle.nv_top.specs.Words.{AreInLimits, command_of}
 use Rattle.nv_top.specs.declared.words.Command.{Command}
 use Rattle.nv_top.specs.declared.words.Command.TheVariants.{Run, Sched, Recover, Look, Gen}
@@ -121,35 +119,16 @@ shown_from options (Some input) old new trace text whole ran =
 
 pub refused_from : (form : Form) (options : RunOptions) (left : Option (List ℕ)) (old new : BenchState) (trace : Traced) (why : Refusal)
     → IfSome left (λ input. ending_of form input ≡ Whole trace)
-    → IfSome old.told (λ holding. IsNotRun options holding trace.names why × IsLeftNotRun options holding trace.names old new why)
+    → IfSome old.told (λ holding. IsRunRefused options holding trace.names old new why)
     → IfSome old.told (λ holding. IsTraceRefused form options left old new holding why)
 refused_from form options None old new trace why whole refused = if_told old.told (λ holding. IsTraceRefused form options None old new holding why) (λ holding told. tt)
 refused_from form options (Some input) old new trace why whole refused =
     if_told old.told (λ holding. IsTraceRefused form options (Some input) old new holding why) (λ holding told.
-    let both = told_at old.told (λ holding. IsNotRun options holding trace.names why × IsLeftNotRun options holding trace.names old new why) holding told refused in
-    (trace, whole, both.0, both.1))
-
-pub both_told : (options : RunOptions) (old new : BenchState) (names : List (List ℕ)) (why : Refusal) → IfSome old.told (λ holding. IsNotRun options holding names why)
-    → (¬ (why ≡ refusals.TooManyFiles) → IfSome old.told (λ holding. new.told ≡ told_after why old.told))
-    → (why ≡ refusals.TooManyFiles → IfSome old.told (λ holding. RestsNotRun options holding names new.told))
-    → IfSome old.told (λ holding. IsNotRun options holding names why × IsLeftNotRun options holding names old new why)
-both_told options old new names why refused unwritten rests =
-    if_told old.told (λ holding. IsNotRun options holding names why × IsLeftNotRun options holding names old new why) (λ holding told. (
-      told_at old.told (λ holding. IsNotRun options holding names why) holding told refused,
-      (
-        λ other. told_at old.told (λ holding. new.told ≡ told_after why old.told) holding told (unwritten other),
-        λ same. told_at old.told (λ holding. RestsNotRun options holding names new.told) holding told (rests same),
-      ),
-    ))
+    (trace, whole, told_at old.told (λ holding. IsRunRefused options holding trace.names old new why) holding told refused))
 
 pub where_read : (form : Form) (left : Option (List ℕ)) (trace : Traced) (P : Type 0) → IfSome left (λ input. ending_of form input ≡ Whole trace) → P → IfSome left (λ input. P)
 where_read form None trace P whole holds = tt
 where_read form (Some input) trace P whole holds = holds
-
--- what holds of a bench that wasn't armed
-pub where_unarmed : (old new : BenchState) (P : Holding → Type 0) → IfSome old.told (λ holding. new.arms ≡ old.arms) → (new.arms ≡ old.arms → IfSome old.told P) → IfSome old.told P
-where_unarmed old new P unarmed holds =
-    if_told old.told P (λ holding told. told_at old.told P holding told (holds (told_at old.told (λ holding. new.arms ≡ old.arms) holding told unarmed)))
 
 -- ---- stores that are away
 
@@ -181,9 +160,6 @@ written_so command left old new text said W same shown written =
 pub same_some : {one other : Command} → Some one ≡ Some other → one ≡ other
 same_some {one} {other} is = cc
 
-pub same_schedule : {one other : RunOptions} → Sched one ≡ Sched other → one ≡ other
-same_schedule {one} {other} is = cc
-
 -- what a schedule shows, and why it is refused
 pub followed_from : (options : RunOptions) (left : Option (List ℕ)) (old new : BenchState) (trace : Traced) (text : List ℕ)
     → IfSome left (λ input. ending_of forms.Sched input ≡ Whole trace)
@@ -196,15 +172,14 @@ followed_from options (Some input) old new trace text whole ran =
 
 pub schedule_refused : (options : RunOptions) (left : Option (List ℕ)) (old new : BenchState) (trace : Traced) (why : Refusal)
     → IfSome left (λ input. ending_of forms.Sched input ≡ Whole trace)
-    → IfSome old.told (λ holding. IsNotRun options holding trace.names why × IsLeftNotRun options holding trace.names old new why × (new.picked ≡ old.picked))
+    → IfSome old.told (λ holding. IsRunRefused options holding trace.names old new why × (new.picked ≡ old.picked))
     → IfSome old.told (λ holding. IsCommandRefused (Sched options) left old new holding why)
 schedule_refused options left old new trace why whole refused =
-    let Refused : Holding → Type 0 = λ holding. IsNotRun options holding trace.names why × IsLeftNotRun options holding trace.names old new why × (new.picked ≡ old.picked) in
+    let Refused : Holding → Type 0 = λ holding. IsRunRefused options holding trace.names old new why × (new.picked ≡ old.picked) in
     if_told old.told (λ holding. IsCommandRefused (Sched options) left old new holding why) (λ holding told.
     let all = told_at old.told Refused holding told refused in
-    let both = if_told old.told (λ holding. IsNotRun options holding trace.names why × IsLeftNotRun options holding trace.names old new why) (λ holding told.
-    let here = told_at old.told Refused holding told refused in (here.0, here.1)) in
-    (told_at old.told (λ holding. IsTraceRefused forms.Sched options left old new holding why) holding told (refused_from forms.Sched options left old new trace why whole both), all.2))
+    let run = if_told old.told (λ holding. IsRunRefused options holding trace.names old new why) (λ holding told. (told_at old.told Refused holding told refused).0) in
+    (told_at old.told (λ holding. IsTraceRefused forms.Sched options left old new holding why) holding told (refused_from forms.Sched options left old new trace why whole run), all.1))
 
 -- so was a schedule followed whose trace was read
 pub used_from : (options : RunOptions) (left : Option (List ℕ)) (told : Option Holding) (trace : Traced)
@@ -220,10 +195,3 @@ pub recovery_refused : (left : Option (List ℕ)) (old new : BenchState) (why : 
 recovery_refused left old new why refused unwritten =
     if_told old.told (λ holding. IsCommandRefused Recover left old new holding why) (λ holding told.
     (told_at old.told (λ holding. IsRefusedFor holding.parts why) holding told refused, λ not_many. unwritten))
-
--- why a run of generated calls is refused
-pub load_refused : (load : Load) (left : Option (List ℕ)) (old new : BenchState) (why : Refusal) → IfSome old.told (λ holding. IsNotRun load_options holding (generated load).names why)
-    → (¬ (why ≡ refusals.TooManyFiles) → IfSome old.told (λ holding. new.told ≡ told_after why old.told))
-    → (why ≡ refusals.TooManyFiles → IfSome old.told (λ holding. RestsNotRun load_options holding (generated load).names new.told))
-    → IfSome old.told (λ holding. IsCommandRefused (Gen load) left old new holding why)
-load_refused load left old new why refused unwritten rests = both_told load_options old new (generated load).names why refused unwritten rests

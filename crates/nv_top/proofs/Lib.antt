@@ -8,6 +8,7 @@ pub mod LoadLemmas
 pub mod NameLemmas
 pub mod NumberLemmas
 pub mod ReadingLemmas
+pub mod ReportedLemmas
 pub mod RestLemmas
 pub mod RowLemmas
 pub mod RunLemmas

@@ -7,7 +7,7 @@ use Rattle.nv_open.specs.declared.error.OpenError.TheVariants as open_errors
 use Rattle.nv_open.specs.declared.error.Refusal.{Refusal}
 use Rattle.nv_recover.specs.declared.error.RecoverError.{RecoverError}
 use Rattle.nv_recover.specs.declared.error.RecoverError.TheVariants as recover_errors
-use Rattle.nv_top.specs.Stops.{ComesBeforeOpening, CountHasCause, SaidAs, stop_of_opening, stop_of_recovery, stop_status}
+use Rattle.nv_top.specs.Stops.{ComesBeforeOpening, SaidAs, stop_of_opening, stop_of_recovery, stop_status}
 use Rattle.nv_top.specs.Stopping.{IsSettledStop}
 use Rattle.nv_top.specs.declared.ending.Stop.{Stop}
 use Rattle.nv_top.specs.declared.ending.TheConstants.{DONE, USAGE, BAD_INPUT, READ_FAULT, WRITE_FAULT, DEVICE_FAULT, NO_MEMORY, BAD_REGION, TURNS_USED}
@@ -53,17 +53,6 @@ settled_opened settled now (Err Device) P cause = λ none. absurd none
 settled_opened settled now (Err (Region refusal)) P cause = λ none. absurd none
 settled_opened settled now (Err NoMemory) P cause = λ none. absurd none
 settled_opened settled now (Err Turns) P cause = λ none. absurd none
-
-pub counted_opened : {T : Type 0} (before now : ℕ) (result : Result T Stop) (P : Type 0) → CountHasCause before now result → IfErr result (λ stop. ComesBeforeOpening stop → P)
-counted_opened before now (Ok value) P cause = tt
-counted_opened before now (Err Usage) P cause = absurd cause
-counted_opened before now (Err (BadLine bad)) P cause = absurd cause
-counted_opened before now (Err InputLong) P cause = absurd cause
-counted_opened before now (Err Read) P cause = absurd cause
-counted_opened before now (Err Device) P cause = λ none. absurd none
-counted_opened before now (Err (Region refusal)) P cause = λ none. absurd none
-counted_opened before now (Err NoMemory) P cause = λ none. absurd none
-counted_opened before now (Err Turns) P cause = absurd cause
 
 -- the statuses of those that come before it
 pub said_before : (result : ℕ) (stop : Stop) (takes : Type 0) → SaidAs result (stop_status stop) takes → (result ≡ USAGE) ⊎ ((result ≡ BAD_INPUT) ⊎ (result ≡ READ_FAULT)) → ComesBeforeOpening stop

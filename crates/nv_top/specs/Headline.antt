@@ -158,14 +158,16 @@ ShownIsNotRefused =
 abbrev pub IsRegionUnwritten : (old new : BenchState) → Refusal → Type 0
 IsRegionUnwritten old new why = ¬ (why ≡ refusals.TooManyFiles) → new.told ≡ told_after why old.told
 
--- What a run leaves that isn't made: a region that was refused as it is, and at rest one of too many files.
-abbrev pub IsLeftNotRun : RunOptions → (was : Holding) → (wanted : List (List ℕ)) → (old new : BenchState) → Refusal → Type 0
-IsLeftNotRun options was wanted old new why = IsRegionUnwritten old new why × (why ≡ refusals.TooManyFiles → RestsNotRun options was wanted new.told)
+-- A run of a trace that names these files isn't made on a bench that held that, for this refusal: a region that was refused is left as it is, and at rest one of too many files.
+pub record IsRunRefused (options : RunOptions) (was : Holding) (wanted : List (List ℕ)) (old new : BenchState) (why : Refusal) : Type 0 where
+  pub not_run : IsNotRun options was wanted why
+  pub unwritten : IsRegionUnwritten old new why
+  pub rests : why ≡ refusals.TooManyFiles → RestsNotRun options was wanted new.told
 
 -- why the calls of a trace that is read for this aren't made on a bench that held that, and what is left of its region
 abbrev pub IsTraceRefused : Form → RunOptions → (input : Option (List ℕ)) → (old new : BenchState) → Holding → Refusal → Type 0
 IsTraceRefused form options input old new holding why =
-    IfSome input (λ input. (trace : Traced) × (ending_of form input ≡ Whole trace) × IsNotRun options holding trace.names why × IsLeftNotRun options holding trace.names old new why)
+    IfSome input (λ input. (trace : Traced) × (ending_of form input ≡ Whole trace) × IsRunRefused options holding trace.names old new why)
 
 -- why a command is refused by the region of a bench that held this, and what it leaves of it; a schedule is refused before power goes off
 abbrev pub IsCommandRefused : Command → (input : Option (List ℕ)) → (old new : BenchState) → Holding → Refusal → Type 0
@@ -173,4 +175,4 @@ IsCommandRefused (Run options) input old new holding why = IsTraceRefused forms.
 IsCommandRefused (Sched options) input old new holding why = IsTraceRefused forms.Sched options input old new holding why × (new.picked ≡ old.picked)
 IsCommandRefused Recover input old new holding why = IsRefusedFor holding.parts why × IsRegionUnwritten old new why
 IsCommandRefused (Look files) input old new holding why = IsNotShown files holding why
-IsCommandRefused (Gen load) input old new holding why = IsNotRun load_options holding (generated load).names why × IsLeftNotRun load_options holding (generated load).names old new why
+IsCommandRefused (Gen load) input old new holding why = IsRunRefused load_options holding (generated load).names old new why

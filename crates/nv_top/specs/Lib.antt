@@ -1,4 +1,5 @@
 pub mod Words
+pub mod Ready
 pub mod RegionTexts
 pub mod Endings
 pub mod Reports
@@ -15,4 +16,5 @@ pub mod Commands
 pub mod Loads
 pub mod Headline
 pub mod Lives
+pub mod Reported
 pub mod NextCommands

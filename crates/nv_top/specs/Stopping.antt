@@ -33,10 +33,6 @@ use Rattle.nv_top.specs.declared.ending.Stop.{Stop}
 use Rattle.nv_top.specs.declared.ending.Stop.TheVariants.{Usage, BadLine, InputLong, Read, Device, Region, NoMemory, Turns}
 use Rattle.nv_runner.specs.declared.sorted.SortedCalls.{SortedCalls}
 
--- the bench is as it was, but for what it tells and its count of faults
-abbrev pub IsBack : (old new : BenchState) → Type 0
-IsBack old new = new ≡ record old { told = new.told; faults = new.faults }
-
 -- All that was lent came back to a bench that was armed with this number once more; and it is as it was, but for what it tells, its
 -- counts, and what power left, with which picks.
 abbrev pub IsPoweredBack : ℕ → (old new : BenchState) → Type 0

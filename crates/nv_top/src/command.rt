@@ -1,25 +1,17 @@
 //! The command: what a program does, whole.
-ghost use Rattle.std.specs.Prelude.{◌≡◌, ◌≢◌, ◌≤◌, ◌<◌, ◌⊎◌, ◌+◌, ◌-◌, ◌^◌, ℕ, List, [], ◌∷◌, length, map, string_bytes, false, true, None, Some, IfSome, IfOk, IfErr, OnOk, Err};
-ghost use Rattle.std.specs.List.Sorted.{IsStrictlyIncreasing};
+ghost use Rattle.std.specs.Prelude.{◌≡◌, ◌≢◌, ◌≤◌, ◌<◌, ◌⊎◌, ◌+◌, ◌-◌, ◌^◌, ℕ, List, [], ◌∷◌, map, string_bytes, false, true, None, Some, IfSome, IfOk, Err};
 ghost use Rattle.nv_plain.specs.Faults.{Rose};
 ghost use Rattle.nv_bench.specs.Holding.{IsQuietHolding};
-ghost use Rattle.nv_open.specs.Held.{told_after};
 ghost use Rattle.nv_open.specs.declared.error.Refusal.{Refusal};
-ghost use Rattle.nv_open.specs.declared.error.Refusal.TheVariants as refusals;
-ghost use Rattle.nv_runner.specs.declared.running.TheConstants.{MOST_CALLS};
 ghost use Rattle.nv_trace.specs.Reading.{ending_of};
 ghost use Rattle.nv_trace.specs.declared.trace.Form.TheVariants as forms;
-ghost use Rattle.nv_trace.specs.Shape.{IsWellFormed};
 ghost use Rattle.nv_trace.specs.Streams.{Appends};
-ghost use Rattle.nv_top.specs.Commands.{IsGivenBack, IsNotRun, RestsNotRun};
 ghost use Rattle.nv_top.specs.Endings.{IsErrorLine, AppendsFront, usage_line, read_line, device_line, memory_line, input_line, region_line, turns_line, IsTrace};
-ghost use Rattle.nv_top.specs.Headline.{HasInput, HasRefusal, HasStopped, IsArmedByAll, IsArmedBySome, IsLeftBy, IsCommandRefused, IsUnhindered, IsShown, IsShownOf, UsesTurns, command_over, expected_faults, form_over, possible};
-ghost use Rattle.nv_trace.specs.Traced.{lines_in};
-ghost use Rattle.nv_top.specs.Lives.{LeavesLife, LeavesRun};
-ghost use Rattle.nv_top.specs.Stopping.{IsPickedOnce, IsPoweredBack, IsSettledStop};
-ghost use Rattle.nv_top.specs.Stops.{ComesBeforeOpening, IsCauseOf, IsFollowed, IsOwnStop};
+ghost use Rattle.nv_top.specs.Headline.{HasInput, HasRefusal, IsArmedByAll, IsArmedBySome, IsLeftBy, IsCommandRefused, IsUnhindered, IsShown, UsesTurns, command_over, expected_faults, form_over, possible};
+ghost use Rattle.nv_top.specs.Lives.{LeavesLife};
+ghost use Rattle.nv_top.specs.Ready.{IsReady, IsRunnable};
+ghost use Rattle.nv_top.specs.Reported.{HasReported, HasRunTrace};
 ghost use Rattle.nv_top.specs.Words.{AreInLimits};
-ghost use Rattle.nv_top.specs.declared.ending.Stop.TheVariants as stops;
 ghost use Rattle.nv_top.specs.declared.ending.TheConstants.{DONE, USAGE, BAD_INPUT, READ_FAULT, WRITE_FAULT, DEVICE_FAULT, NO_MEMORY, BAD_REGION, TURNS_USED};
 ghost use Rattle.nv_top.specs.declared.words.Command.{Command};
 ghost use Rattle.nv_top.specs.declared.words.RunOptions.{RunOptions};
@@ -30,16 +22,14 @@ use crate::ending::{DONE, Stop, say, say_stop};
 use crate::laws::a_refused_region_shows_nothing;
 use crate::loading::run_load;
 use crate::looking::look;
-use crate::names::copy_names;
 use crate::recovery::recover;
-use crate::run::run;
+use crate::run::run_to_end;
 use crate::scheduling::schedule;
 use crate::show::Show;
 use crate::stopping::run_to_stop;
 use crate::words::{Command, RunOptions, WordsError, parse_command};
 use nv_bench::Bench;
-use nv_open::open;
-use nv_pmem::{Geometry, images_follow_calls};
+use nv_pmem::images_follow_calls;
 use nv_runner::Gate;
 use nv_trace::{Form, Sink, Source, Trace, read_trace};
 use std::alloc::Global;
@@ -173,57 +163,9 @@ fn report<R: Threads + Wait + Sync, I: Source, B: Bench, G: Gate + Sync>(
     bench: &mut B,
     gate: &G,
 ) -> Result<Vec<u8>, Stop>
-    requires closed { (B.state bench.old).is_open ≡ false }
-    requires home { (B.state bench.old).lent ≡ [] }
-    requires quiet { IfSome (B.state bench.old).told IsQuietHolding }
-    requires arms { (B.state bench.old).arms < 2 ^ 63 }
-    requires settled { (B.state bench.old).settled ≤ (B.state bench.old).faults }
-    ensures back { (command : Command) → command_over B.can_lose_power (map string_bytes words.now) ≡ Some command
-        → IsLeftBy command (B.state bench.old) (B.state bench.new) }
-    ensures cuts { (options : _) → command_over B.can_lose_power (map string_bytes words.now) ≡ Some (commands.Sched options)
-        → IfSome (I.left src.old) (λ input. IsArmedBySome input (B.state bench.old) (B.state bench.new)) }
-    ensures all_cuts { (options : _) → command_over B.can_lose_power (map string_bytes words.now) ≡ Some (commands.Sched options)
-        → OnOk result (IfSome (I.left src.old) (λ input. IsArmedByAll input (B.state bench.old) (B.state bench.new))) }
-    ensures usage { result ≡ Err stops.Usage → command_over B.can_lose_power (map string_bytes words.now) ≡ None }
-    ensures command { command_over B.can_lose_power (map string_bytes words.now) ≡ None
-        → ((result ≡ Err stops.Usage) ⊎ (result ≡ Err stops.NoMemory)) × (I.left src.new ≡ I.left src.old) × (B.state bench.new ≡ B.state bench.old) }
-    ensures bad_line { IfErr result (λ stop. IfSome (I.left src.old) (IsCauseOf (form_over B.can_lose_power (map string_bytes words.now)) stop)) }
-    ensures read_fault { result ≡ Err stops.Read → Rose (I.fault_count src.old) (I.fault_count src.new) }
-    ensures read_sound { result ≢ Err stops.Read → I.fault_count src.new ≡ I.fault_count src.old }
-    ensures device_fault { result ≡ Err stops.Device
-        → Rose (expected_faults (B.state bench.old) (B.state bench.new)) (B.state bench.new).faults }
-    ensures device_sound { result ≢ Err stops.Device
-        → (B.state bench.new).faults ≤ expected_faults (B.state bench.old) (B.state bench.new) }
-    ensures good_input { (options : _) → command_over B.can_lose_power (map string_bytes words.now) ≡ Some (commands.Run options)
-        → OnOk result (IfSome (I.left src.old) (λ input. IsTrace forms.Run input × (I.left src.new ≡ Some []))) }
-    ensures good_schedule { (options : _) → command_over B.can_lose_power (map string_bytes words.now) ≡ Some (commands.Sched options)
-        → IsFollowed result → IfSome (I.left src.old) (λ input. IsTrace forms.Sched input × (I.left src.new ≡ Some [])) }
-    ensures turns { result ≡ Err stops.Turns → (options : RunOptions) × (command_over B.can_lose_power (map string_bytes words.now) ≡ Some (commands.Sched options))
-        × ((B.state bench.new).picked ≡ options.image ∷ (B.state bench.old).picked) }
-    ensures turns_used { result ≡ Err stops.Turns → (options : RunOptions) → command_over B.can_lose_power (map string_bytes words.now) ≡ Some (commands.Sched options)
-        → IfSome (B.state bench.old).told (UsesTurns options (I.left src.old)) }
-    ensures unread { command_over B.can_lose_power (map string_bytes words.now) ≡ Some commands.Recover → I.left src.new ≡ I.left src.old }
-    ensures unread_look { (files : _) → command_over B.can_lose_power (map string_bytes words.now) ≡ Some (commands.Look files)
-        → I.left src.new ≡ I.left src.old }
-    ensures unread_load { (load : _) → command_over B.can_lose_power (map string_bytes words.now) ≡ Some (commands.Gen load)
-        → I.left src.new ≡ I.left src.old }
-    ensures region { (why : _) → result ≡ Err (stops.Region why)
-        → (command : Command) → command_over B.can_lose_power (map string_bytes words.now) ≡ Some command
-        → IfSome (B.state bench.old).told (λ holding.
-        IsCommandRefused command (I.left src.old) (B.state bench.old) (B.state bench.new) holding why) }
-    ensures unarmed { (why : _) → result ≡ Err (stops.Region why) → IfSome (I.left src.old) (λ input.
-        IfSome (B.state bench.old).told (λ holding. (B.state bench.new).arms ≡ (B.state bench.old).arms)) }
-    ensures complete { (command : Command) → command_over B.can_lose_power (map string_bytes words.now) ≡ Some command → IfSome (B.state bench.old).told (λ holding. IsUnhindered command (I.left src.old) holding (Rose (I.fault_count src.old) (I.fault_count src.new))
-        (Rose (expected_faults (B.state bench.old) (B.state bench.new)) (B.state bench.new).faults)
-        → IfErr result IsOwnStop) }
-    ensures counts { OnOk result ((B.state bench.new).faults ≡ expected_faults (B.state bench.old) (B.state bench.new)) }
-    ensures never_falls { (B.state bench.old).faults ≤ (B.state bench.new).faults }
-    ensures life { (command : Command) → command_over B.can_lose_power (map string_bytes words.now) ≡ Some command
-        → IfSome (B.state bench.old).told (λ was. LeavesLife command (I.left src.old) was (B.state bench.new).told) }
-    ensures unopened { IfErr result (λ stop. ComesBeforeOpening stop → B.state bench.new ≡ B.state bench.old) }
-    ensures report { IfOk result (λ text. (command : Command) → command_over B.can_lose_power (map string_bytes words.now) ≡ Some command
-        → IfSome (B.state bench.old).told (λ holding.
-        IsShown command (I.left src.old) (B.state bench.old) (B.state bench.new) holding text.items)) }
+    requires ready { IsReady (B.state bench.old) }
+    ensures { HasReported (command_over B.can_lose_power (map string_bytes words.now)) (I.left src.old) (I.left src.new) (I.fault_count src.old) (I.fault_count src.new)
+        (B.state bench.old) (B.state bench.new) result }
 {
     images_follow_calls();
     let command = command_over::<B>(alloc, words)?;
@@ -265,37 +207,11 @@ fn run_input<R: Threads + Wait + Sync, I: Source, B: Bench, G: Gate + Sync>(
     bench: &mut B,
     options: RunOptions,
 ) -> Result<Vec<u8>, Stop>
-    requires closed { (B.state bench.old).is_open ≡ false }
-    requires home { (B.state bench.old).lent ≡ [] }
-    requires quiet { IfSome (B.state bench.old).told IsQuietHolding }
-    requires arms { (B.state bench.old).arms < 2 ^ 63 }
-    requires settled { (B.state bench.old).settled ≤ (B.state bench.old).faults }
+    requires ready { IsReady (B.state bench.old) }
     requires limits { AreInLimits options }
     requires stop { IfSome options.stop (λ k. (1 ≤ k) × (B.can_lose_power ≡ true)) }
-    ensures back { IsLeftBy (commands.Run options) (B.state bench.old) (B.state bench.new) }
-    ensures words { result ≢ Err stops.Usage }
-    ensures turns { result ≢ Err stops.Turns }
-    ensures bad_line { IfErr result (λ stop. IfSome (I.left src.old) (IsCauseOf forms.Run stop)) }
-    ensures read_fault { result ≡ Err stops.Read → Rose (I.fault_count src.old) (I.fault_count src.new) }
-    ensures read_sound { result ≢ Err stops.Read → I.fault_count src.new ≡ I.fault_count src.old }
-    ensures device_fault { result ≡ Err stops.Device
-        → Rose (expected_faults (B.state bench.old) (B.state bench.new)) (B.state bench.new).faults }
-    ensures device_sound { result ≢ Err stops.Device
-        → (B.state bench.new).faults ≤ expected_faults (B.state bench.old) (B.state bench.new) }
-    ensures good_input { OnOk result (IfSome (I.left src.old) (λ input. IsTrace forms.Run input × (I.left src.new ≡ Some []))) }
-    ensures region { (why : _) → result ≡ Err (stops.Region why) → IfSome (B.state bench.old).told (λ holding.
-        IsCommandRefused (commands.Run options) (I.left src.old) (B.state bench.old) (B.state bench.new) holding why) }
-    ensures unarmed { (why : _) → result ≡ Err (stops.Region why) → IfSome (I.left src.old) (λ input.
-        IfSome (B.state bench.old).told (λ holding. (B.state bench.new).arms ≡ (B.state bench.old).arms)) }
-    ensures complete { IfSome (B.state bench.old).told (λ holding. IsUnhindered (commands.Run options) (I.left src.old) holding (Rose (I.fault_count src.old) (I.fault_count src.new))
-        (Rose (expected_faults (B.state bench.old) (B.state bench.new)) (B.state bench.new).faults)
-        → IfErr result IsOwnStop) }
-    ensures counts { OnOk result ((B.state bench.new).faults ≡ expected_faults (B.state bench.old) (B.state bench.new)) }
-    ensures never_falls { (B.state bench.old).faults ≤ (B.state bench.new).faults }
-    ensures life { IfSome (B.state bench.old).told (λ was. LeavesLife (commands.Run options) (I.left src.old) was (B.state bench.new).told) }
-    ensures unopened { IfErr result (λ stop. ComesBeforeOpening stop → B.state bench.new ≡ B.state bench.old) }
-    ensures report { IfOk result (λ text. IfSome (B.state bench.old).told (λ holding.
-        IsShown (commands.Run options) (I.left src.old) (B.state bench.old) (B.state bench.new) holding text.items)) }
+    ensures { HasReported (Some (commands.Run options)) (I.left src.old) (I.left src.new) (I.fault_count src.old) (I.fault_count src.new)
+        (B.state bench.old) (B.state bench.new) result }
 {
     images_follow_calls();
     let trace = read_trace(alloc, Form::Run, src)?;
@@ -309,40 +225,11 @@ fn schedule_input<I: Source, B: Bench>(
     bench: &mut B,
     options: RunOptions,
 ) -> Result<Vec<u8>, Stop>
-    requires closed { (B.state bench.old).is_open ≡ false }
-    requires home { (B.state bench.old).lent ≡ [] }
-    requires quiet { IfSome (B.state bench.old).told IsQuietHolding }
-    requires arms { (B.state bench.old).arms < 2 ^ 63 }
-    requires settled { (B.state bench.old).settled ≤ (B.state bench.old).faults }
+    requires ready { IsReady (B.state bench.old) }
     requires limits { AreInLimits options }
     requires images { B.can_lose_power ≡ true }
-    ensures back { IsLeftBy (commands.Sched options) (B.state bench.old) (B.state bench.new) }
-    ensures cuts { IfSome (I.left src.old) (λ input. IsArmedBySome input (B.state bench.old) (B.state bench.new)) }
-    ensures all_cuts { OnOk result (IfSome (I.left src.old) (λ input. IsArmedByAll input (B.state bench.old) (B.state bench.new))) }
-    ensures words { result ≢ Err stops.Usage }
-    ensures bad_line { IfErr result (λ stop. IfSome (I.left src.old) (IsCauseOf forms.Sched stop)) }
-    ensures read_fault { result ≡ Err stops.Read → Rose (I.fault_count src.old) (I.fault_count src.new) }
-    ensures read_sound { result ≢ Err stops.Read → I.fault_count src.new ≡ I.fault_count src.old }
-    ensures device_fault { result ≡ Err stops.Device
-        → Rose (expected_faults (B.state bench.old) (B.state bench.new)) (B.state bench.new).faults }
-    ensures device_sound { result ≢ Err stops.Device
-        → (B.state bench.new).faults ≤ expected_faults (B.state bench.old) (B.state bench.new) }
-    ensures good_input { IsFollowed result → IfSome (I.left src.old) (λ input. IsTrace forms.Sched input × (I.left src.new ≡ Some [])) }
-    ensures turns { result ≡ Err stops.Turns → (B.state bench.new).picked ≡ options.image ∷ (B.state bench.old).picked }
-    ensures turns_used { result ≡ Err stops.Turns → IfSome (B.state bench.old).told (UsesTurns options (I.left src.old)) }
-    ensures report { IfOk result (λ text. IfSome (B.state bench.old).told (λ holding.
-        IsShown (commands.Sched options) (I.left src.old) (B.state bench.old) (B.state bench.new) holding text.items)) }
-    ensures region { (why : _) → result ≡ Err (stops.Region why) → IfSome (B.state bench.old).told (λ holding.
-        IsCommandRefused (commands.Sched options) (I.left src.old) (B.state bench.old) (B.state bench.new) holding why) }
-    ensures unarmed { (why : _) → result ≡ Err (stops.Region why) → IfSome (I.left src.old) (λ input.
-        IfSome (B.state bench.old).told (λ holding. (B.state bench.new).arms ≡ (B.state bench.old).arms)) }
-    ensures complete { IfSome (B.state bench.old).told (λ holding. IsUnhindered (commands.Sched options) (I.left src.old) holding (Rose (I.fault_count src.old) (I.fault_count src.new))
-        (Rose (expected_faults (B.state bench.old) (B.state bench.new)) (B.state bench.new).faults)
-        → IfErr result IsOwnStop) }
-    ensures counts { OnOk result ((B.state bench.new).faults ≡ expected_faults (B.state bench.old) (B.state bench.new)) }
-    ensures never_falls { (B.state bench.old).faults ≤ (B.state bench.new).faults }
-    ensures life { IfSome (B.state bench.old).told (λ was. LeavesLife (commands.Sched options) (I.left src.old) was (B.state bench.new).told) }
-    ensures unopened { IfErr result (λ stop. ComesBeforeOpening stop → B.state bench.new ≡ B.state bench.old) }
+    ensures { HasReported (Some (commands.Sched options)) (I.left src.old) (I.left src.new) (I.fault_count src.old) (I.fault_count src.new)
+        (B.state bench.old) (B.state bench.new) result }
 {
     images_follow_calls();
     let trace = read_trace(alloc, Form::Sched, src)?;
@@ -358,82 +245,14 @@ fn run_trace<R: Threads + Wait + Sync, T: Bench, G: Gate + Sync>(
     options: RunOptions,
     trace: &Trace,
 ) -> Result<Vec<u8>, Stop>
-    requires closed { (T.state bench.old).is_open ≡ false }
-    requires home { (T.state bench.old).lent ≡ [] }
-    requires quiet { IfSome (T.state bench.old).told IsQuietHolding }
-    requires arms { (T.state bench.old).arms < 2 ^ 63 }
-    requires settled { (T.state bench.old).settled ≤ (T.state bench.old).faults }
+    requires ready { IsReady (T.state bench.old) }
     requires limits { AreInLimits options }
     requires stop { IfSome options.stop (λ k. (1 ≤ k) × (T.can_lose_power ≡ true)) }
-    requires well_formed { IsWellFormed trace.now }
-    requires lines { IsStrictlyIncreasing (lines_in trace.now) }
-    requires few { length trace.now.calls ≤ MOST_CALLS }
-    ensures back { IsLeftBy (commands.Run options) (T.state bench.old) (T.state bench.new) }
-    ensures cause { IsSettledStop (expected_faults (T.state bench.old) (T.state bench.new)) (T.state bench.new).faults result }
-    ensures turns { result ≢ Err stops.Turns }
-    ensures never_falls { (T.state bench.old).faults ≤ (T.state bench.new).faults }
-    ensures life { IfSome (T.state bench.old).told (λ was. LeavesRun options was trace.now (T.state bench.new).told) }
-    ensures ran { IfOk result (λ text. IfSome (T.state bench.old).told (λ holding.
-        IsShownOf options.stop options (T.state bench.old) (T.state bench.new) holding trace.now text.items)) }
-    ensures refused { (why : _) → result ≡ Err (stops.Region why)
-        → IfSome (T.state bench.old).told (λ holding. IsNotRun options holding trace.now.names why) }
-    ensures unwritten { (why : _) → result ≡ Err (stops.Region why) → ¬ (why ≡ refusals.TooManyFiles)
-        → IfSome (T.state bench.old).told (λ holding. (T.state bench.new).told ≡ told_after why (T.state bench.old).told) }
-    ensures rests { result ≡ Err (stops.Region refusals.TooManyFiles)
-        → IfSome (T.state bench.old).told (λ holding. RestsNotRun options holding trace.now.names (T.state bench.new).told) }
-    ensures unarmed { (why : _) → result ≡ Err (stops.Region why)
-        → IfSome (T.state bench.old).told (λ holding. (T.state bench.new).arms ≡ (T.state bench.old).arms) }
+    requires trace { IsRunnable trace.now }
+    ensures { HasRunTrace options.stop options trace.now (T.state bench.old) (T.state bench.new) result }
 {
     match options.stop {
-        None => run(rt, alloc, gate, bench, options, Show::Report, trace),
-        Some(k) => stop_run(rt, alloc, gate, bench, options, trace, k),
+        None => run_to_end(rt, alloc, gate, bench, options, Show::Report, trace),
+        Some(k) => run_to_stop(rt, alloc, gate, bench, options, trace, k),
     }
-}
-
-// The report of a run of a trace that is stopped at a device call.
-fn stop_run<R: Threads + Wait + Sync, T: Bench, G: Gate + Sync>(
-    rt: &R,
-    alloc: Global,
-    gate: &G,
-    bench: &mut T,
-    options: RunOptions,
-    trace: &Trace,
-    k: u64,
-) -> Result<Vec<u8>, Stop>
-    requires closed { (T.state bench.old).is_open ≡ false }
-    requires home { (T.state bench.old).lent ≡ [] }
-    requires quiet { IfSome (T.state bench.old).told IsQuietHolding }
-    requires arms { (T.state bench.old).arms < 2 ^ 63 }
-    requires settled { (T.state bench.old).settled ≤ (T.state bench.old).faults }
-    requires images { T.can_lose_power ≡ true }
-    requires limits { AreInLimits options }
-    requires k { 1 ≤ k }
-    requires well_formed { IsWellFormed trace.now }
-    requires lines { IsStrictlyIncreasing (lines_in trace.now) }
-    requires few { length trace.now.calls ≤ MOST_CALLS }
-    ensures back { IsPoweredBack k (T.state bench.old) (T.state bench.new) ⊎ IsGivenBack (T.state bench.old) (T.state bench.new) }
-    ensures picked { IsPickedOnce options.image (T.state bench.old) (T.state bench.new) }
-    ensures cause { IsSettledStop (expected_faults (T.state bench.old) (T.state bench.new)) (T.state bench.new).faults result }
-    ensures turns { result ≢ Err stops.Turns }
-    ensures never_falls { (T.state bench.old).faults ≤ (T.state bench.new).faults }
-    ensures life { IfSome (T.state bench.old).told (λ was. LeavesRun options was trace.now (T.state bench.new).told) }
-    ensures ran { IfOk result (λ text. IfSome (T.state bench.old).told (λ holding.
-        HasStopped (Rose (T.state bench.old).faults (T.state bench.new).faults) options (T.state bench.old).picked holding (T.state bench.new) trace.now text.items)) }
-    ensures refused { (why : _) → result ≡ Err (stops.Region why) → (T.state bench.new).arms ≡ (T.state bench.old).arms
-        → IfSome (T.state bench.old).told (λ holding. IsNotRun options holding trace.now.names why) }
-    ensures unwritten { (why : _) → result ≡ Err (stops.Region why) → (T.state bench.new).arms ≡ (T.state bench.old).arms
-        → ¬ (why ≡ refusals.TooManyFiles) → (T.state bench.new).told ≡ told_after why (T.state bench.old).told }
-    ensures rests { result ≡ Err (stops.Region refusals.TooManyFiles) → (T.state bench.new).arms ≡ (T.state bench.old).arms
-        → IfSome (T.state bench.old).told (λ holding. RestsNotRun options holding trace.now.names (T.state bench.new).told) }
-    ensures unarmed { (why : _) → result ≡ Err (stops.Region why)
-        → IfSome (T.state bench.old).told (λ holding. (T.state bench.new).arms ≡ (T.state bench.old).arms) }
-{
-    images_follow_calls();
-    let geometry = Geometry {
-        page: options.page,
-        entries: options.entries,
-    };
-    let wanted = copy_names(alloc, trace.names())?;
-    let opened = open(alloc, bench, geometry, &wanted)?;
-    run_to_stop(rt, alloc, gate, bench, opened, options, trace, k)
 }

@@ -1,17 +1,16 @@
 //! A run of generated calls.
-ghost use Rattle.std.specs.Prelude.{◌≡◌, [], false, Err, IfOk, IfSome};
-ghost use Rattle.nv_bench.specs.Holding.{IsQuietHolding};
+ghost use Rattle.std.specs.Prelude.{◌≡◌, [], Err, IfOk, IfSome};
 ghost use Rattle.nv_load.specs.Generated.{IsLoad, generated};
-ghost use Rattle.nv_open.specs.Held.{told_after};
-ghost use Rattle.nv_open.specs.declared.error.Refusal.TheVariants as refusals;
-ghost use Rattle.nv_top.specs.Commands.{IsGivenBack, IsNotRun, RestsNotRun};
+ghost use Rattle.nv_top.specs.Commands.{IsGivenBack};
+ghost use Rattle.nv_top.specs.Headline.{IsRunRefused};
 ghost use Rattle.nv_top.specs.Lives.{LeavesRun};
 ghost use Rattle.nv_top.specs.Loads.{HasGenerated, load_options};
+ghost use Rattle.nv_top.specs.Ready.{IsAtHome};
 ghost use Rattle.nv_top.specs.Stops.{CountHasCause};
 ghost use Rattle.nv_top.specs.declared.ending.Stop.TheVariants as stops;
 
 use crate::ending::Stop;
-use crate::run::run;
+use crate::run::run_to_end;
 use crate::show::Show;
 use crate::words::RunOptions;
 use nv_bench::Bench;
@@ -30,25 +29,19 @@ pub(crate) fn run_load<R: Threads + Wait + Sync, T: Bench, G: Gate + Sync>(
     bench: &mut T,
     load: Load,
 ) -> Result<Vec<u8>, Stop>
-    requires closed { (T.state bench.old).is_open ≡ false }
-    requires home { (T.state bench.old).lent ≡ [] }
-    requires quiet { IfSome (T.state bench.old).told IsQuietHolding }
+    requires at_home { IsAtHome (T.state bench.old) }
     requires load { IsLoad load }
     ensures back { IsGivenBack (T.state bench.old) (T.state bench.new) }
     ensures ran { IfOk result (λ text. IfSome (T.state bench.old).told (λ holding. HasGenerated load holding (T.state bench.new).told text.items)) }
     ensures refused { (why : _) → result ≡ Err (stops.Region why)
-        → IfSome (T.state bench.old).told (λ holding. IsNotRun load_options holding (generated load).names why) }
-    ensures unwritten { (why : _) → result ≡ Err (stops.Region why) → ¬ (why ≡ refusals.TooManyFiles)
-        → IfSome (T.state bench.old).told (λ holding. (T.state bench.new).told ≡ told_after why (T.state bench.old).told) }
-    ensures rests { result ≡ Err (stops.Region refusals.TooManyFiles)
-        → IfSome (T.state bench.old).told (λ holding. RestsNotRun load_options holding (generated load).names (T.state bench.new).told) }
+        → IfSome (T.state bench.old).told (λ holding. IsRunRefused load_options holding (generated load).names (T.state bench.old) (T.state bench.new) why) }
     ensures life { IfSome (T.state bench.old).told (λ was. LeavesRun load_options was (generated load) (T.state bench.new).told) }
     ensures cause { CountHasCause (T.state bench.old).faults (T.state bench.new).faults result }
 {
     images_follow_calls();
     fresh_summaries_are_of_the_load();
     let trace = generate(alloc, load)?;
-    run(
+    run_to_end(
         rt,
         alloc,
         gate,

@@ -1,7 +1,7 @@
 //! A look at the region of a bench, and its report.
-ghost use Rattle.std.specs.Prelude.{◌≡◌, [], false, Err, IfOk, IfSome};
-ghost use Rattle.nv_bench.specs.Holding.{IsQuietHolding};
+ghost use Rattle.std.specs.Prelude.{◌≡◌, [], Err, IfOk, IfSome};
 ghost use Rattle.nv_top.specs.Commands.{HasLooked, IsLookedAt, IsNotShown};
+ghost use Rattle.nv_top.specs.Ready.{IsAtHome};
 ghost use Rattle.nv_top.specs.Stops.{CountHasCause};
 ghost use Rattle.nv_top.specs.declared.ending.Stop.TheVariants as stops;
 
@@ -12,9 +12,7 @@ use std::alloc::Global;
 
 /// Looks at the region of a bench, and at its files where these are asked for. The text that shows it.
 pub(crate) fn look<T: Bench>(alloc: Global, bench: &mut T, files: bool) -> Result<Vec<u8>, Stop>
-    requires closed { (T.state bench.old).is_open ≡ false }
-    requires home { (T.state bench.old).lent ≡ [] }
-    requires quiet { IfSome (T.state bench.old).told IsQuietHolding }
+    requires at_home { IsAtHome (T.state bench.old) }
     ensures left { IsLookedAt files (T.state bench.old) (T.state bench.new) }
     ensures shown { IfOk result (λ text. IfSome (T.state bench.old).told (λ holding. HasLooked files holding text.items)) }
     ensures refused { (why : _) → result ≡ Err (stops.Region why) → IfSome (T.state bench.old).told (λ holding. IsNotShown files holding why) }

@@ -1,13 +1,13 @@
 //! The recovery of a region, and its report.
-ghost use Rattle.std.specs.Prelude.{◌≡◌, [], false, List, length, map, sum_by, Err, IfOk, IfSome};
+ghost use Rattle.std.specs.Prelude.{◌≡◌, [], List, length, map, sum_by, Err, IfOk, IfSome};
 ghost use Rattle.nv_pmem.specs.RowStates.{AreNow};
 ghost use Rattle.nv_store.specs.Store.{Store};
-ghost use Rattle.nv_bench.specs.Holding.{IsQuietHolding};
 ghost use Rattle.nv_recover.specs.Standing.{files_of};
 ghost use Rattle.nv_open.specs.Held.{told_after};
 ghost use Rattle.nv_open.specs.Refusals.{IsRefusedFor};
 ghost use Rattle.nv_open.specs.Unopened.{HasHeader, StandsAsBefore, TellsOf};
 ghost use Rattle.nv_top.specs.Commands.{HasRecovered, IsGivenBack};
+ghost use Rattle.nv_top.specs.Ready.{IsAtHome};
 ghost use Rattle.nv_runner.specs.Faithful.{named};
 ghost use Rattle.nv_top.specs.Reports.{recovery_text};
 ghost use Rattle.nv_top.specs.Stops.{CountHasCause};
@@ -25,9 +25,7 @@ use std::alloc::Global;
 
 /// Recovers the region of a bench, and gives all back. The text of the report.
 pub(crate) fn recover<T: Bench>(alloc: Global, bench: &mut T) -> Result<Vec<u8>, Stop>
-    requires closed { (T.state bench.old).is_open ≡ false }
-    requires home { (T.state bench.old).lent ≡ [] }
-    requires quiet { IfSome (T.state bench.old).told IsQuietHolding }
+    requires at_home { IsAtHome (T.state bench.old) }
     ensures back { IsGivenBack (T.state bench.old) (T.state bench.new) }
     ensures recovered { IfOk result (λ text. IfSome (T.state bench.old).told (λ holding.
         HasRecovered holding (T.state bench.new).told text.items)) }

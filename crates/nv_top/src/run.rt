@@ -1,28 +1,22 @@
 //! A run of a trace, and its report.
-ghost use Rattle.std.specs.Prelude.{◌≡◌, ◌+◌, ◌<◌, ◌≤◌, [], List, None, false, length, map, sum_by, All, Err, IfOk, IfSome};
-ghost use Rattle.std.specs.List.Sorted.{IsStrictlyIncreasing};
+ghost use Rattle.std.specs.Prelude.{◌≡◌, ◌+◌, ◌<◌, [], List, None, length, map, sum_by, All, Err, IfOk, IfSome};
 ghost use Rattle.nv_plain.specs.Layouts.{version_1};
 ghost use Rattle.nv_pmem.specs.Moments.{Tells};
 ghost use Rattle.nv_pmem.specs.Part.{Part};
 ghost use Rattle.nv_pmem.specs.RowStates.{AreNow};
 ghost use Rattle.nv_store.specs.Store.{IsQuietStore, Store};
-ghost use Rattle.nv_bench.specs.Holding.{IsQuietHolding};
 ghost use Rattle.nv_recover.specs.Standing.{files_of};
 ghost use Rattle.nv_header.specs.FileNames.{AreFileNames};
 ghost use Rattle.nv_table.specs.state.States.{IsOf};
 ghost use Rattle.nv_table.specs.state.Views.{first_view};
 ghost use Rattle.nv_mount.specs.RisenCounts.{failed_before};
-ghost use Rattle.nv_open.specs.Held.{told_after};
-ghost use Rattle.nv_open.specs.declared.error.Refusal.TheVariants as refusals;
 ghost use Rattle.nv_runner.specs.Faithful.{Basis};
-ghost use Rattle.nv_runner.specs.Sorted.{placed_call};
-ghost use Rattle.nv_runner.specs.declared.running.TheConstants.{MOST_CALLS};
 ghost use Rattle.nv_trace.specs.Said.{said_place};
-ghost use Rattle.nv_trace.specs.Shape.{IsWellFormed};
-ghost use Rattle.nv_trace.specs.Traced.{lines_in};
-ghost use Rattle.nv_top.specs.Commands.{HasRunOn, IsGivenBack, IsNotRun, RestsNotRun};
+ghost use Rattle.nv_top.specs.Commands.{HasRunOn, IsGivenBack};
+ghost use Rattle.nv_top.specs.Headline.{IsRunRefused};
 ghost use Rattle.nv_top.specs.Lives.{AreLeftSo, LeavesRun};
 ghost use Rattle.nv_top.specs.Outcomes.{shown_report};
+ghost use Rattle.nv_top.specs.Ready.{IsAtHome, IsRunnable};
 ghost use Rattle.nv_top.specs.Runs.{BeginsMount, HasRunOver, IsQuietSpare, basis_over};
 ghost use Rattle.nv_top.specs.Shows.{text_as};
 ghost use Rattle.nv_top.specs.Stops.{CountHasCause, RunHasCause};
@@ -58,9 +52,9 @@ use std::alloc::Global;
 use std::sync::Wait;
 use std::thread::Threads;
 
-/// Runs a trace over a bench: opens its region, of these sizes where it is blank, with the files of the trace, has its threads make their calls over a mount of
+/// Runs a trace over a bench to its end: opens its region, of these sizes where it is blank, with the files of the trace, has its threads make their calls over a mount of
 /// them, brings the stores to the files, and gives all back. The text that shows it, unless a device failed meanwhile.
-pub(crate) fn run<R: Threads + Wait + Sync, T: Bench, G: Gate + Sync>(
+pub(crate) fn run_to_end<R: Threads + Wait + Sync, T: Bench, G: Gate + Sync>(
     rt: &R,
     alloc: Global,
     gate: &G,
@@ -69,22 +63,14 @@ pub(crate) fn run<R: Threads + Wait + Sync, T: Bench, G: Gate + Sync>(
     show: Show,
     trace: &Trace,
 ) -> Result<Vec<u8>, Stop>
-    requires closed { (T.state bench.old).is_open ≡ false }
-    requires home { (T.state bench.old).lent ≡ [] }
-    requires quiet { IfSome (T.state bench.old).told IsQuietHolding }
+    requires at_home { IsAtHome (T.state bench.old) }
     requires limits { AreInLimits options }
-    requires well_formed { IsWellFormed trace.now }
-    requires lines { IsStrictlyIncreasing (lines_in trace.now) }
-    requires few { length trace.now.calls ≤ MOST_CALLS }
+    requires trace { IsRunnable trace.now }
     ensures back { IsGivenBack (T.state bench.old) (T.state bench.new) }
     ensures ran { IfOk result (λ text. IfSome (T.state bench.old).told (λ holding.
         HasRunOn show options holding (T.state bench.new).told trace.now text.items)) }
     ensures refused { (why : _) → result ≡ Err (stops.Region why)
-        → IfSome (T.state bench.old).told (λ holding. IsNotRun options holding trace.now.names why) }
-    ensures unwritten { (why : _) → result ≡ Err (stops.Region why) → ¬ (why ≡ refusals.TooManyFiles)
-        → IfSome (T.state bench.old).told (λ holding. (T.state bench.new).told ≡ told_after why (T.state bench.old).told) }
-    ensures rests { result ≡ Err (stops.Region refusals.TooManyFiles)
-        → IfSome (T.state bench.old).told (λ holding. RestsNotRun options holding trace.now.names (T.state bench.new).told) }
+        → IfSome (T.state bench.old).told (λ holding. IsRunRefused options holding trace.now.names (T.state bench.old) (T.state bench.new) why) }
     ensures life { IfSome (T.state bench.old).told (λ was. LeavesRun options was trace.now (T.state bench.new).told) }
     ensures cause { CountHasCause (T.state bench.old).faults (T.state bench.new).faults result }
 {
@@ -100,7 +86,7 @@ pub(crate) fn run<R: Threads + Wait + Sync, T: Bench, G: Gate + Sync>(
         parts,
         stores,
         report,
-    } = run_over(rt, alloc, gate, region, stores, options, show, trace);
+    } = run_region(rt, alloc, gate, region, stores, options, show, trace);
     bench.give_back(parts, stores);
     if bench.faults() > before {
         return Err(Stop::Device);
@@ -117,7 +103,7 @@ struct Ended<L, B> {
 }
 
 // Runs a trace over a region whose log is empty, with a store for each of its names.
-fn run_over<
+fn run_region<
     R: Threads + Wait + Sync,
     G: Gate + Sync,
     L: Lines + Drop + Send,
@@ -135,9 +121,7 @@ fn run_over<
     requires limits { AreInLimits options }
     requires stores { length stores.items ≡ length region.names }
     requires quiet { All (λ store. Tells (B.history store) IsQuietStore) stores.items }
-    requires well_formed { IsWellFormed trace.now }
-    requires lines { IsStrictlyIncreasing (lines_in trace.now) }
-    requires few { length trace.now.calls ≤ MOST_CALLS }
+    requires trace { IsRunnable trace.now }
     requires known { All (λ name. said_place name region.names < length region.names) trace.now.names }
     ensures count { length result.stores.items ≡ length stores.items }
     ensures many { length result.parts.items ≡ length region.parts.items }
@@ -201,9 +185,7 @@ fn run_mount<
     requires stop { plan.stop ≡ None }
     requires names { AreFileNames version_1 names.now }
     requires files { length names.now ≡ mount.board.opened.sizes.files }
-    requires well_formed { IsWellFormed trace.now }
-    requires lines { IsStrictlyIncreasing (lines_in trace.now) }
-    requires few { length trace.now.calls ≤ MOST_CALLS }
+    requires trace { IsRunnable trace.now }
     ensures count { length result.stores.items ≡ mount.board.opened.sizes.files }
     ensures many { length result.parts.items ≡ 1 + mount.board.opened.sizes.entries + length pass.spare }
     ensures ran { IfOk result.report (λ text. (basis : Basis) → BeginsMount basis trace.now mount pass → basis.names ≡ names.now → All IsQuietSpare pass.spare

@@ -1,6 +1,5 @@
 //! A schedule of a trace, the loss of power behind it, and the recovery.
 ghost use Rattle.std.specs.Prelude.{◌≡◌, ◌+◌, ◌^◌, ◌<◌, ◌≤◌, max, [], ◌∷◌, List, None, true, false, length, map, sum_by, All, Ok, Err, IfOk, IfSome, OnOk};
-ghost use Rattle.std.specs.List.Sorted.{IsStrictlyIncreasing};
 ghost use Rattle.nv_plain.specs.Faults.{Rose, saturated};
 ghost use Rattle.nv_plain.specs.Layouts.{version_1};
 ghost use Rattle.nv_pmem.specs.Moments.{Tells};
@@ -17,18 +16,16 @@ ghost use Rattle.nv_table.specs.state.Views.{first_view};
 ghost use Rattle.nv_mount.specs.RisenCounts.{failed_before};
 ghost use Rattle.nv_trace.specs.Forms.{has_rounds};
 ghost use Rattle.nv_trace.specs.Said.{said_place};
-ghost use Rattle.nv_trace.specs.Shape.{IsWellFormed};
-ghost use Rattle.nv_trace.specs.Traced.{lines_in};
 ghost use Rattle.nv_runner.specs.Faithful.{Basis};
-ghost use Rattle.nv_runner.specs.declared.running.TheConstants.{MOST_CALLS};
 ghost use Rattle.nv_schedule.specs.declared.schedule_error.ScheduleError.TheVariants as schedule_errors;
 ghost use Rattle.nv_schedule.specs.declared.scheduled.ScheduledCalls.{ScheduledCalls as AnyCalls};
-ghost use Rattle.nv_top.specs.Commands.{IsNotRun};
-ghost use Rattle.nv_top.specs.Headline.{HasFollowed, IsLeftNotRun, expected_faults, HasUsedTurnsOn};
+ghost use Rattle.nv_top.specs.Commands.{IsGivenBack};
+ghost use Rattle.nv_top.specs.Headline.{HasFollowed, expected_faults, HasUsedTurnsOn, IsRunRefused};
 ghost use Rattle.nv_top.specs.Lives.{HasLived, LeavesRun};
 ghost use Rattle.nv_top.specs.Runs.{BeginsMount, basis_over};
 ghost use Rattle.nv_top.specs.Scheduling.{HasScheduledOn, HasUsedTurns, IsArmedAt, IsArmedAtSome, IsBackPowered, ShowsOutcome};
-ghost use Rattle.nv_top.specs.Stopping.{IsAway, IsBack, IsPickedOnce, IsSettledStop};
+ghost use Rattle.nv_top.specs.Stopping.{IsAway, IsPickedOnce, IsSettledStop};
+ghost use Rattle.nv_top.specs.Ready.{IsAtHome, IsReady, IsRunnable};
 ghost use Rattle.nv_top.specs.Words.{AreInLimits};
 ghost use Rattle.nv_top.specs.declared.ending.Stop.TheVariants as stops;
 
@@ -61,16 +58,10 @@ pub(crate) fn schedule<T: Bench>(
     options: RunOptions,
     trace: &Trace,
 ) -> Result<Vec<u8>, Stop>
-    requires closed { (T.state bench.old).is_open ≡ false }
-    requires home { (T.state bench.old).lent ≡ [] }
-    requires quiet { IfSome (T.state bench.old).told IsQuietHolding }
-    requires arms { (T.state bench.old).arms < 2 ^ 63 }
-    requires settled { (T.state bench.old).settled ≤ (T.state bench.old).faults }
+    requires ready { IsReady (T.state bench.old) }
     requires images { T.can_lose_power ≡ true }
     requires limits { AreInLimits options }
-    requires well_formed { IsWellFormed trace.now }
-    requires lines { IsStrictlyIncreasing (lines_in trace.now) }
-    requires few { length trace.now.calls ≤ MOST_CALLS }
+    requires trace { IsRunnable trace.now }
     requires no_rounds { has_rounds trace.now.form ≡ false }
     ensures back { IsBackPowered (T.state bench.old) (T.state bench.new) }
     ensures cuts { IsArmedAtSome trace.now.tokens (T.state bench.old) (T.state bench.new) }
@@ -83,8 +74,8 @@ pub(crate) fn schedule<T: Bench>(
     ensures life { IfSome (T.state bench.old).told (λ was. LeavesRun options was trace.now (T.state bench.new).told) }
     ensures followed { IfOk result (λ text. IfSome (T.state bench.old).told (λ holding.
         HasFollowed (Rose (T.state bench.old).faults (T.state bench.new).faults) options (T.state bench.old).picked holding (T.state bench.new) trace.now text.items)) }
-    ensures refused { (why : _) → result ≡ Err (stops.Region why) → IfSome (T.state bench.old).told (λ holding. IsNotRun options holding trace.now.names why
-        × IsLeftNotRun options holding trace.now.names (T.state bench.old) (T.state bench.new) why × ((T.state bench.new).picked ≡ (T.state bench.old).picked)) }
+    ensures refused { (why : _) → result ≡ Err (stops.Region why) → IfSome (T.state bench.old).told (λ holding. IsRunRefused options holding trace.now.names (T.state bench.old) (T.state bench.new) why
+        × ((T.state bench.new).picked ≡ (T.state bench.old).picked)) }
     ensures unarmed { (why : _) → result ≡ Err (stops.Region why) → IfSome (T.state bench.old).told (λ holding. (T.state bench.new).arms ≡ (T.state bench.old).arms) }
 {
     images_follow_calls();
@@ -115,9 +106,7 @@ fn schedule_region<T: Bench>(
     requires quiet { IfSome (T.state bench.old).told IsQuietHolding }
     requires stores { length opened.stores.items ≡ length opened.region.names }
     requires synced { All (λ store. Tells (T.Store.history store) IsQuietStore) opened.stores.items }
-    requires well_formed { IsWellFormed trace.now }
-    requires lines { IsStrictlyIncreasing (lines_in trace.now) }
-    requires few { length trace.now.calls ≤ MOST_CALLS }
+    requires trace { IsRunnable trace.now }
     requires no_rounds { has_rounds trace.now.form ≡ false }
     requires known { All (λ name. said_place name opened.region.names < length opened.region.names) trace.now.names }
     requires before { before ≡ saturated ((T.state bench.old).faults
@@ -181,9 +170,7 @@ fn schedule_mount<T: Bench>(
     requires bare { pass.now ≡ [] }
     requires names { AreFileNames version_1 (T.state bench.old).lent }
     requires lent { length (T.state bench.old).lent ≡ mount.board.opened.sizes.files }
-    requires well_formed { IsWellFormed trace.now }
-    requires lines { IsStrictlyIncreasing (lines_in trace.now) }
-    requires few { length trace.now.calls ≤ MOST_CALLS }
+    requires trace { IsRunnable trace.now }
     requires no_rounds { has_rounds trace.now.form ≡ false }
     requires before { before ≡ saturated ((T.state bench.old).faults + failed_before pass) }
     requires settled { (T.state bench.old).settled ≤ before }
@@ -251,10 +238,8 @@ fn show_outcome<T: Bench>(
     bench: &mut T,
     outcome: Result<ScheduledCalls<'_>, ScheduleError>,
 ) -> Result<Vec<u8>, Stop>
-    requires closed { (T.state bench.old).is_open ≡ false }
-    requires home { (T.state bench.old).lent ≡ [] }
-    requires quiet { IfSome (T.state bench.old).told IsQuietHolding }
-    ensures back { IsBack (T.state bench.old) (T.state bench.new) }
+    requires at_home { IsAtHome (T.state bench.old) }
+    ensures back { IsGivenBack (T.state bench.old) (T.state bench.new) }
     ensures refused { (why : _) → result ≡ Err (stops.Region why) → IfSome (T.state bench.old).told (λ holding. IsRefusedFor holding.parts why) }
     ensures followed { OnOk result ((calls : AnyCalls) × (outcome.entry ≡ Ok calls)) }
     ensures used { result ≡ Err stops.Turns → outcome.entry ≡ Err schedule_errors.TurnsUsed }

@@ -1,6 +1,5 @@
 //! A run that power ends, and its recovery.
-ghost use Rattle.std.specs.Prelude.{◌≡◌, ◌≢◌, ◌⊎◌, ◌+◌, ◌-◌, ◌^◌, ◌<◌, ◌≤◌, [], List, true, false, length, map, sum_by, All, None, Some, Err, IfOk, IfSome, OnOk};
-ghost use Rattle.std.specs.List.Sorted.{IsStrictlyIncreasing};
+ghost use Rattle.std.specs.Prelude.{◌≡◌, ◌≢◌, ◌⊎◌, ◌+◌, ◌-◌, ◌^◌, ◌<◌, ◌≤◌, [], List, true, length, map, sum_by, All, None, Some, Err, IfOk, IfSome, OnOk};
 ghost use Rattle.nv_plain.specs.Faults.{Rose, saturated};
 ghost use Rattle.nv_plain.specs.Layouts.{version_1};
 ghost use Rattle.nv_pmem.specs.Moments.{Tells};
@@ -16,13 +15,13 @@ ghost use Rattle.nv_table.specs.state.States.{IsOf};
 ghost use Rattle.nv_table.specs.state.Views.{first_view};
 ghost use Rattle.nv_mount.specs.RisenCounts.{failed_before};
 ghost use Rattle.nv_trace.specs.Said.{said_place};
-ghost use Rattle.nv_trace.specs.Shape.{IsWellFormed};
-ghost use Rattle.nv_trace.specs.Traced.{lines_in};
 ghost use Rattle.nv_runner.specs.Faithful.{Basis};
-ghost use Rattle.nv_runner.specs.declared.running.TheConstants.{MOST_CALLS};
+ghost use Rattle.nv_top.specs.Commands.{IsGivenBack};
 ghost use Rattle.nv_top.specs.Lives.{HasLived};
+ghost use Rattle.nv_top.specs.Ready.{IsAtHome, IsReady, IsRunnable};
+ghost use Rattle.nv_top.specs.Reported.{HasRunTrace};
 ghost use Rattle.nv_top.specs.Runs.{BeginsMount, basis_over};
-ghost use Rattle.nv_top.specs.Stopping.{HasStoppedOn, IsAway, IsBack, IsBackUnarmed, IsPickedOnce, IsPoweredBack, IsSettledStop, ShowsOpen, ShowsRecovered};
+ghost use Rattle.nv_top.specs.Stopping.{HasStoppedOn, IsAway, IsBackUnarmed, IsPickedOnce, IsPoweredBack, IsSettledStop, ShowsOpen, ShowsRecovered};
 ghost use Rattle.nv_top.specs.Stops.{CountHasCause};
 ghost use Rattle.nv_top.specs.Words.{AreInLimits};
 ghost use Rattle.nv_top.specs.declared.ending.Stop.TheVariants as stops;
@@ -31,13 +30,14 @@ use crate::ending::Stop;
 use crate::fates::open_fates;
 use crate::files::read_files;
 use crate::mounting::{Unmounted, mount_over};
+use crate::names::copy_names;
 use crate::text::text_of;
 use crate::words::RunOptions;
 use nv_bench::{Bench, power_leaves_an_image};
 use nv_header::{Names, a_header_has_one_answer};
 use nv_mount::Mount;
-use nv_open::{Opened, recover_region};
-use nv_pmem::{images_follow_calls, rows_have_states};
+use nv_open::{Opened, open, recover_region};
+use nv_pmem::{Geometry, images_follow_calls, rows_have_states};
 use nv_recover::{Recovered, images_stand_for_files};
 use nv_runner::{
     Gate, Plan, SortedCalls, history_of_threads_is_legal, open_calls_are_the_faults, run_calls,
@@ -50,9 +50,37 @@ use std::alloc::Global;
 use std::sync::Wait;
 use std::thread::Threads;
 
-/// Runs a trace over a region whose log is empty, with a store for each of its names, that are lent by a bench: it is armed once the
-/// mount is open, makes the calls, gives all back, powers off, recovers, and shows what became of each call, and the files.
+/// Runs a trace over a bench to its stop at a device call: opens its region, of these sizes where it is blank, with the files of the trace, and has power end the run over it. The text that shows what became
+/// of each call.
 pub(crate) fn run_to_stop<R: Threads + Wait + Sync, T: Bench, G: Gate + Sync>(
+    rt: &R,
+    alloc: Global,
+    gate: &G,
+    bench: &mut T,
+    options: RunOptions,
+    trace: &Trace,
+    k: u64,
+) -> Result<Vec<u8>, Stop>
+    requires ready { IsReady (T.state bench.old) }
+    requires images { T.can_lose_power ≡ true }
+    requires limits { AreInLimits options }
+    requires k { 1 ≤ k }
+    requires trace { IsRunnable trace.now }
+    ensures { HasRunTrace (Some k) options trace.now (T.state bench.old) (T.state bench.new) result }
+{
+    images_follow_calls();
+    let geometry = Geometry {
+        page: options.page,
+        entries: options.entries,
+    };
+    let wanted = copy_names(alloc, trace.names())?;
+    let opened = open(alloc, bench, geometry, &wanted)?;
+    stop_region(rt, alloc, gate, bench, opened, options, trace, k)
+}
+
+// Runs a trace over a region whose log is empty, with a store for each of its names, that are lent by a bench: it is armed once the
+// mount is open, makes the calls, gives all back, powers off, recovers, and shows what became of each call, and the files.
+fn stop_region<R: Threads + Wait + Sync, T: Bench, G: Gate + Sync>(
     rt: &R,
     alloc: Global,
     gate: &G,
@@ -71,9 +99,7 @@ pub(crate) fn run_to_stop<R: Threads + Wait + Sync, T: Bench, G: Gate + Sync>(
     requires quiet { IfSome (T.state bench.old).told IsQuietHolding }
     requires stores { length opened.stores.items ≡ length opened.region.names }
     requires synced { All (λ store. Tells (T.Store.history store) IsQuietStore) opened.stores.items }
-    requires well_formed { IsWellFormed trace.now }
-    requires lines { IsStrictlyIncreasing (lines_in trace.now) }
-    requires few { length trace.now.calls ≤ MOST_CALLS }
+    requires trace { IsRunnable trace.now }
     requires known { All (λ name. said_place name opened.region.names < length opened.region.names) trace.now.names }
     ensures back { IsPoweredBack k (T.state bench.old) (T.state bench.new) ⊎ IsBackUnarmed (T.state bench.old) (T.state bench.new) }
     ensures picked { IsPickedOnce options.image (T.state bench.old) (T.state bench.new) }
@@ -146,9 +172,7 @@ fn stop_mount<R: Threads + Wait + Sync, T: Bench, G: Gate + Sync>(
     requires bare { pass.now ≡ [] }
     requires names { AreFileNames version_1 (T.state bench.old).lent }
     requires lent { length (T.state bench.old).lent ≡ mount.board.opened.sizes.files }
-    requires well_formed { IsWellFormed trace.now }
-    requires lines { IsStrictlyIncreasing (lines_in trace.now) }
-    requires few { length trace.now.calls ≤ MOST_CALLS }
+    requires trace { IsRunnable trace.now }
     ensures back { IsPoweredBack k (T.state bench.old) (T.state bench.new) }
     ensures picked { IsPickedOnce plan.image (T.state bench.old) (T.state bench.new) }
     ensures turns { result ≢ Err stops.Turns }
@@ -190,10 +214,8 @@ pub(crate) fn show_recovered<T: Bench>(
     sorted: SortedCalls<'_>,
     begun: &[&TracedCall],
 ) -> Result<Vec<u8>, Stop>
-    requires closed { (T.state bench.old).is_open ≡ false }
-    requires home { (T.state bench.old).lent ≡ [] }
-    requires quiet { IfSome (T.state bench.old).told IsQuietHolding }
-    ensures back { IsBack (T.state bench.old) (T.state bench.new) }
+    requires at_home { IsAtHome (T.state bench.old) }
+    ensures back { IsGivenBack (T.state bench.old) (T.state bench.new) }
     ensures shown { IfOk result (λ text. IfSome (T.state bench.old).told (λ holding. ShowsRecovered holding sorted.entry (map (λ call. call.now) begun.now) (T.state bench.new).told text.items)) }
     ensures refused { (why : _) → result ≡ Err (stops.Region why) → IfSome (T.state bench.old).told (λ holding. IsRefusedFor holding.parts why) }
     ensures standing { IfSome (T.state bench.old).told (λ was. HasHeader was.parts → TellsOf (StandsAsBefore was) (T.state bench.new).told) }

@@ -3,7 +3,8 @@ use Rattle.std.specs.Prelude.{IfOk, IfSome}
 use Rattle.std.proofs.lemmas.Result.{IfOk-weaker}
 use Rattle.nv_trace.specs.Traced.{Traced}
 use Rattle.nv_load.specs.Generated.{generated}
-use Rattle.nv_top.specs.Commands.{HasRunOn, IsNotRun, RestsNotRun}
+use Rattle.nv_top.specs.Commands.{HasRunOn}
+use Rattle.nv_top.specs.Headline.{IsRunRefused}
 use Rattle.nv_top.specs.Lives.{LeavesRun}
 use Rattle.nv_top.specs.Loads.{HasGenerated, load_options}
 use Rattle.nv_top.specs.declared.show.Show.TheVariants.{Summary}
@@ -16,11 +17,11 @@ use Rattle.nv_top.proofs.loading.run_load.Goals as goal
 pub returns-clause-ran : goal.returns-clause-ran
 returns-clause-ran g c =
     let old = g.T.Bench.state c.args.bench.now in
-    let new = g.T.Bench.state c.run.new.bench in
+    let new = g.T.Bench.state c.run_to_end.new.bench in
     let load = c.args.load in
-    let Ran : RunOptions → Traced → Type 0 = λ options trace. IfOk c.run.result (λ text. IfSome old.told (λ holding. HasRunOn (Summary load) options holding new.told trace text.items)) in
-    let ran : Ran load_options (generated load) = subst (Ran load_options) c.in_ok-trace.ensures.trace (subst (λ (options : RunOptions). Ran options c.in_ok-trace.trace) c.options.ensures c.run.ensures.ran) in
-    IfOk-weaker c.run.result
+    let Ran : RunOptions → Traced → Type 0 = λ options trace. IfOk c.run_to_end.result (λ text. IfSome old.told (λ holding. HasRunOn (Summary load) options holding new.told trace text.items)) in
+    let ran : Ran load_options (generated load) = subst (Ran load_options) c.in_ok-trace.ensures.trace (subst (λ (options : RunOptions). Ran options c.in_ok-trace.trace) c.options.ensures c.run_to_end.ensures.ran) in
+    IfOk-weaker c.run_to_end.result
     (λ text. IfSome old.told (λ holding. HasRunOn (Summary load) load_options holding new.told (generated load) text.items))
     (λ text. IfSome old.told (λ holding. HasGenerated load holding new.told text.items))
     (λ text over.
@@ -32,26 +33,19 @@ returns-clause-ran g c =
 pub returns-clause-refused : goal.returns-clause-refused
 returns-clause-refused g c why is =
     let old = g.T.Bench.state c.args.bench.now in
-    let Refused : RunOptions → List (List ℕ) → Type 0 = λ options names. IfSome old.told (λ holding. IsNotRun options holding names why) in
+    let new = g.T.Bench.state c.run_to_end.new.bench in
+    let Refused : RunOptions → List (List ℕ) → Type 0 = λ options names. IfSome old.told (λ holding. IsRunRefused options holding names old new why) in
     subst (Refused load_options) (ap (λ (trace : Traced). trace.names) c.in_ok-trace.ensures.trace)
-    (subst (λ (options : RunOptions). Refused options c.in_ok-trace.trace.names) c.options.ensures (c.run.ensures.refused why is))
+    (subst (λ (options : RunOptions). Refused options c.in_ok-trace.trace.names) c.options.ensures (c.run_to_end.ensures.refused why is))
 
 pub returns-in_err-trace-clause-life : goal.returns-in_err-trace-clause-life
 returns-in_err-trace-clause-life g c =
     let old = g.T.Bench.state c.args.bench.now in
-    still_run old old load_options (generated c.args.load) c.images_follow_calls.ensures.quiet refl c.requires.quiet
+    still_run old old load_options (generated c.args.load) c.images_follow_calls.ensures.quiet refl c.requires.at_home.quiet
 
 pub returns-clause-life : goal.returns-clause-life
 returns-clause-life g c =
     let old = g.T.Bench.state c.args.bench.now in
-    let new = g.T.Bench.state c.run.new.bench in
+    let new = g.T.Bench.state c.run_to_end.new.bench in
     let Left : RunOptions → Traced → Type 0 = λ options trace. IfSome old.told (λ was. LeavesRun options was trace new.told) in
-    subst (Left load_options) c.in_ok-trace.ensures.trace (subst (λ (options : RunOptions). Left options c.in_ok-trace.trace) c.options.ensures c.run.ensures.life)
-
-pub returns-clause-rests : goal.returns-clause-rests
-returns-clause-rests g c is =
-    let old = g.T.Bench.state c.args.bench.now in
-    let new = g.T.Bench.state c.run.new.bench in
-    let Rests : RunOptions → List (List ℕ) → Type 0 = λ options names. IfSome old.told (λ holding. RestsNotRun options holding names new.told) in
-    subst (Rests load_options) (ap (λ (trace : Traced). trace.names) c.in_ok-trace.ensures.trace)
-    (subst (λ (options : RunOptions). Rests options c.in_ok-trace.trace.names) c.options.ensures (c.run.ensures.rests is))
+    subst (Left load_options) c.in_ok-trace.ensures.trace (subst (λ (options : RunOptions). Left options c.in_ok-trace.trace) c.options.ensures c.run_to_end.ensures.life)

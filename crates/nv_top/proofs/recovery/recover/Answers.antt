@@ -74,7 +74,7 @@ returns-clause-recovered g c =
     let log = recovered (row_words holding.parts) base in
     let shown_names = named names (files_named holding.parts names holding.stores) in
     let leaving =
-    leaves old mid region.names holding made.lent c.requires.home told None history held (files_named holding.parts region.names holding.stores) parts_back stores_back _ (ap length same_parts ∙ told_at old.told _ holding told made.many) left c.give_back.ensures.told in
+    leaves old mid region.names holding made.lent c.requires.at_home.home told None history held (files_named holding.parts region.names holding.stores) parts_back stores_back _ (ap length same_parts ∙ told_at old.told _ holding told made.many) left c.give_back.ensures.told in
     let left_so =
     leaves_by holding.parts holding.stores region.geometry.page region.geometry.entries region.next recovery.names_are (leaving, refl, refl, refl) in
     record {
@@ -119,10 +119,10 @@ returns-clause-standing g c =
       now = record { parts = now.states; stores = without_stores region.names was.stores ++ named_stores region.names files.held };
       told_is =
           c.give_back.ensures.told now.states files.held now_are (subst (λ row. AreNow row files.held) (sym c.show-report.ensures.histories) files.are)
-          ∙ back_is old mid region.names was made.lent c.requires.home told now.states files.held;
+          ∙ back_is old mid region.names was made.lent c.requires.at_home.home told now.states files.held;
       is_so =
           recovered_stands c.images_stand_for_files.ensures.files was region.geometry.page region.geometry.entries region.next region.names c.in_ok-opened.found now.states files.held recovery
           (row_tells_at (map history back) (IsAtRest version_1 region.geometry.page region.geometry.entries region.names region.next) now.states now_are c.into_parts.ensures.region.tells) files.files_are files.quiet
-          (home_distinct old was (g.met.T.Bench.named c.args.bench.now) told c.requires.home) (sym (states_many (map held backing) files.held files.are ∙ length-map backing held ∙ made.one_each))
+          (home_distinct old was (g.met.T.Bench.named c.args.bench.now) told c.requires.at_home.home) (sym (states_many (map held backing) files.held files.are ∙ length-map backing held ∙ made.one_each))
           c.into_parts.ensures.region.names_are.distinct readable;
     })

@@ -75,7 +75,7 @@ returns-clause-ran g c =
           c.runs_are_sound.ensures.runs c.passes_are_left_alone.ensures.own c.runs_keep_the_log.ensures.runs c.crashes_leave_whole_writes.ensures.region c.empty_logs_rest.ensures.rest
           c.unstopped_runs_leave_nothing_open.ensures
           same_board (c.requires.new ∙ ap first_view (sym c.requires.board.same_mount)) (subst (λ (o : Opened). IsMount (mount_of o)) (sym out.run_out.mount) c.sees_a_run.ensures.mount) c.requires.stop
-          c.requires.well_formed c.requires.few c.requires.lines (subst (λ these. AreFileNames version_1 these) (sym named) c.requires.names)
+          c.requires.trace.well_formed c.requires.trace.few c.requires.trace.lines (subst (λ these. AreFileNames version_1 these) (sym named) c.requires.names)
           (subst (λ (o : Opened). IsMountOf basis trace o mount.fds) (sym c.requires.board.same_mount) begins.is_mount)
           (subst (λ (o : Opened). OpensRegion (mount_of o) basis.names) (sym same_board) begins.region)
           (subst (λ (values : List Value). All IsQuietSpare values) (sym out.run_out.spare) spare)
@@ -125,7 +125,7 @@ returns-clause-life g c basis begins =
     let here = sym c.requires.board.same_mount in
     let there : mount.board.opened ≡ ran.0.view.opened = here ∙ sym out.mount in
     let life =
-    c.runs_leave_lives.ensures basis trace mount.fds c.args.plan pass ran.0 c.run_calls-ended.result.outcome _ _ (map history came.parts.items) (map held came.stores.items) _ _ _ c.requires.well_formed c.requires.lines
+    c.runs_leave_lives.ensures basis trace mount.fds c.args.plan pass ran.0 c.run_calls-ended.result.outcome _ _ (map history came.parts.items) (map held came.stores.items) _ _ _ c.requires.trace.well_formed c.requires.trace.lines
     (subst (λ (o : Opened). IsMountOf basis trace o mount.fds) here begins.is_mount) (subst (λ (o : Opened). OpensRegion (mount_of o) basis.names) here begins.region) (c.requires.new ∙ ap first_view here) ran.1 by in
     let tell = by.telling basis.files (subst (λ (o : Opened). OpensLog (mount_of o) o.next) there begins.is_mount.log) (subst (λ (o : Opened). Opens (mount_of o) basis.files) there begins.is_mount.files)
     (subst (λ (values : List Value). All IsTelling values) (sym out.spare) begins.spare) in

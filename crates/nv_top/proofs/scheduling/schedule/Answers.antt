@@ -14,8 +14,7 @@ use Rattle.nv_open.specs.declared.error.OpenError.TheVariants.{Refused}
 use Rattle.nv_open.proofs.Homes.{all_away}
 use Rattle.nv_recover.specs.Standing.{files_of}
 use Rattle.nv_trace.specs.Said.{said_place}
-use Rattle.nv_top.specs.Commands.{IsBasis, IsNotRun, RestsNotRun}
-use Rattle.nv_top.specs.Headline.{HasFollowed, HasUsedTurnsOn, IsLeftNotRun}
+use Rattle.nv_top.specs.Headline.{HasFollowed, HasUsedTurnsOn, IsRunRefused}
 use Rattle.nv_top.specs.Runs.{basis_over}
 use Rattle.nv_top.specs.Scheduling.{HasScheduledOn}
 use Rattle.nv_top.specs.Stopping.{IsAway}
@@ -24,6 +23,7 @@ use Rattle.nv_top.specs.declared.ending.Stop.TheVariants.{Region}
 use Rattle.nv_top.proofs.CommandLemmas.{if_told, mid_told, told_at}
 use Rattle.nv_top.proofs.HeadlineLemmas.{home_distinct, quiet_left}
 use Rattle.nv_top.proofs.NameLemmas.{wanted_known}
+use Rattle.nv_top.proofs.ReportedLemmas.{opened_basis, run_refused}
 use Rattle.nv_top.proofs.RowLemmas.{present}
 use Rattle.nv_top.proofs.SchedulingLemmas.{all_from_lent, armed_none, from_lent}
 use Rattle.nv_top.proofs.StopLemmas.{err_has, opening_refused}
@@ -40,7 +40,7 @@ pub schedule_region-requires-clause-quiet : goal.schedule_region-requires-clause
 schedule_region-requires-clause-quiet g c κs within =
     let old = g.T.Bench.state c.args.bench.now in
     let With : BenchState → Type 0 = λ bench. IfSome bench.told IsQuietHolding in
-    subst With (sym c.in_ok-opened.ensures.lent) (quiet_left c.images_follow_calls.ensures.blank c.in_ok-opened.opened.region.names old.told c.requires.quiet)
+    subst With (sym c.in_ok-opened.ensures.lent) (quiet_left c.images_follow_calls.ensures.blank c.in_ok-opened.opened.region.names old.told c.requires.ready.at_home.quiet)
 
 pub schedule_region-requires-clause-known : goal.schedule_region-requires-clause-known
 schedule_region-requires-clause-known g c κs within =
@@ -74,23 +74,13 @@ returns-clause-followed g c =
     let left : Holding = record { parts = []; stores = without_stores region.names holding.stores } in
     let Over : ℕ → List Pick → Type 0 = λ count before. HasScheduledOn (Rose count new.faults) options before basis trace new text.items in
     let same : lent ≡ old.faults = omega (arith, made.counts) in
-    let With : List (List ℕ) → Type 0 = λ wanted. IsBasis options holding wanted basis in
     record {
       basis = basis;
-      begun = subst With (c.in_ok-wanted.ensures ∙ c.names.ensures) (record {
-        geometry = _;
-        page_is = refl;
-        entries_are = refl;
-        known = opened.known;
-        begun = opened.begun;
-        pages_are = refl;
-        names_are = opened.names_are;
-        files_are = opened.files.files_are;
-      });
+      begun = opened_basis options holding _ _ trace.names _ _ _ _ _ opened refl refl (c.in_ok-wanted.ensures ∙ c.names.ensures);
       scheduled = subst (λ before. Over old.faults before) (ap (λ (state : BenchState). state.picked) made.lent) (subst (λ count. Over count mid.picked) same
-          (told_at mid.told (λ left. IsAway region.names left → Over lent mid.picked) left (mid_told old mid region.names holding made.lent c.requires.home told)
+          (told_at mid.told (λ left. IsAway region.names left → Over lent mid.picked) left (mid_told old mid region.names holding made.lent c.requires.ready.at_home.home told)
           (ran parts.states opened.files.held parts.are opened.files.are)
-          (all_away region.names holding.stores (home_distinct old holding (g.met.T.Bench.named c.args.bench.now) told c.requires.home))));
+          (all_away region.names holding.stores (home_distinct old holding (g.met.T.Bench.named c.args.bench.now) told c.requires.ready.at_home.home))));
     }))
     c.schedule_region.ensures.scheduled
 
@@ -102,10 +92,10 @@ returns-clause-refused g c why is =
     let made = c.in_ok-opened.ensures in
     let region = c.in_ok-opened.opened.region in
     let names = c.args.trace.now.names in
-    if_told old.told (λ holding. IsNotRun c.args.options holding names why × IsLeftNotRun c.args.options holding names old new why × (new.picked ≡ old.picked)) (λ holding told.
+    if_told old.told (λ holding. IsRunRefused c.args.options holding names old new why × (new.picked ≡ old.picked)) (λ holding told.
     let opened = told_at old.told _ holding told made.opened in
     let parts = present (map g.T.Part.Lines.history region.parts.items) (told_at old.told _ holding told made.tell) in
-    let some = mid_told old mid region.names holding made.lent c.requires.home told in
+    let some = mid_told old mid region.names holding made.lent c.requires.ready.at_home.home told in
     let none = c.schedule_region.ensures.never why is parts.states opened.files.held parts.are opened.files.are in
     absurd (not_both (sym some ∙ none)))
 
@@ -119,7 +109,7 @@ returns-clause-unarmed g c why is =
     if_told old.told (λ holding. new.arms ≡ old.arms) (λ holding told.
     let opened = told_at old.told _ holding told made.opened in
     let parts = present (map g.T.Part.Lines.history region.parts.items) (told_at old.told _ holding told made.tell) in
-    let some = mid_told old mid region.names holding made.lent c.requires.home told in
+    let some = mid_told old mid region.names holding made.lent c.requires.ready.at_home.home told in
     absurd (not_both (sym some ∙ c.schedule_region.ensures.never why is parts.states opened.files.held parts.are opened.files.are)))
 
 pub returns-in_err-opened-clause-unarmed : goal.returns-in_err-opened-clause-unarmed
@@ -136,24 +126,10 @@ returns-in_err-opened-clause-refused g c why is =
     let names = c.args.trace.now.names in
     let stop : Region why ≡ stop_of_opening error = err_has c.from_residual-in_err-opened.result (λ stop. stop ≡ stop_of_opening error) (Region why) is c.from_residual-in_err-opened.ensures.1 in
     let error_is = opening_refused error why (sym stop) in
-    if_told old.told (λ holding. IsNotRun options holding names why × IsLeftNotRun options holding names old new why × (new.picked ≡ old.picked)) (λ holding told.
-    let NotRun : List (List ℕ) → Type 0 = λ wanted. IsNotRun options holding wanted why in
-    let Rests : List (List ℕ) → Type 0 = λ wanted. RestsNotRun options holding wanted new.told in (
-      subst NotRun (c.in_ok-wanted.ensures ∙ c.names.ensures) (record {
-        geometry = _;
-        page_is = refl;
-        entries_are = refl;
-        not_opened = told_at old.told _ holding told (c.in_err-opened.ensures.refused why (ap Err error_is));
-      }),
-      (
-        λ other. c.in_err-opened.ensures.unwritten why (ap Err error_is) other,
-        λ same. subst Rests (c.in_ok-wanted.ensures ∙ c.names.ensures) (record {
-          geometry = _;
-          page_is = refl;
-          entries_are = refl;
-          rests = told_at old.told _ holding told (c.in_err-opened.ensures.rests (ap Err (error_is ∙ ap Refused same)));
-        }),
-      ),
+    let refused = run_refused options _ names old new (c.in_ok-wanted.ensures ∙ c.names.ensures) why _ (c.in_err-opened.ensures.refused why (ap Err error_is))
+    (c.in_err-opened.ensures.unwritten why (ap Err error_is)) (λ many. c.in_err-opened.ensures.rests (ap Err (error_is ∙ ap Refused many))) refl refl in
+    if_told old.told (λ holding. IsRunRefused options holding names old new why × (new.picked ≡ old.picked)) (λ holding told. (
+      told_at old.told (λ holding. IsRunRefused options holding names old new why) holding told refused,
       ap (λ (state : BenchState). state.picked) c.in_err-opened.ensures.back,
     ))
 
@@ -182,7 +158,7 @@ returns-clause-all_cuts g c =
 pub returns-in_err-wanted-clause-life : goal.returns-in_err-wanted-clause-life
 returns-in_err-wanted-clause-life g c =
     let old = g.T.Bench.state c.args.bench.now in
-    still_run old old c.args.options c.args.trace.now c.images_follow_calls.ensures.quiet refl c.requires.quiet
+    still_run old old c.args.options c.args.trace.now c.images_follow_calls.ensures.quiet refl c.requires.ready.at_home.quiet
 
 pub returns-clause-life : goal.returns-clause-life
 returns-clause-life g c =
@@ -198,22 +174,12 @@ returns-clause-life g c =
     let parts = present (map history region.parts.items) (told_at old.told _ holding told made.tell) in
     let basis = basis_over region c.args.options.pages (files_of opened.files.held) in
     let left : Holding = record { parts = []; stores = without_stores region.names holding.stores } in
-    let With : List (List ℕ) → Type 0 = λ wanted. IsBasis c.args.options holding wanted basis in
     inr (record {
       basis = basis;
-      begun = subst With (c.in_ok-wanted.ensures ∙ c.names.ensures) (record {
-        geometry = _;
-        page_is = refl;
-        entries_are = refl;
-        known = opened.known;
-        begun = opened.begun;
-        pages_are = refl;
-        names_are = opened.names_are;
-        files_are = opened.files.files_are;
-      });
-      lived = told_at mid.told (λ left. IsAway region.names left → HasLived basis trace new.told) left (mid_told old mid region.names holding made.lent c.requires.home told)
+      begun = opened_basis c.args.options holding _ _ trace.names _ _ _ _ _ opened refl refl (c.in_ok-wanted.ensures ∙ c.names.ensures);
+      lived = told_at mid.told (λ left. IsAway region.names left → HasLived basis trace new.told) left (mid_told old mid region.names holding made.lent c.requires.ready.at_home.home told)
           (c.schedule_region.ensures.life parts.states opened.files.held parts.are opened.files.are)
-          (all_away region.names holding.stores (home_distinct old holding (g.met.T.Bench.named c.args.bench.now) told c.requires.home));
+          (all_away region.names holding.stores (home_distinct old holding (g.met.T.Bench.named c.args.bench.now) told c.requires.ready.at_home.home));
     }))
 
 pub returns-clause-used : goal.returns-clause-used
@@ -226,18 +192,8 @@ returns-clause-used g c is =
     if_told old.told (λ holding. HasUsedTurnsOn options holding trace) (λ holding told.
     let opened = told_at old.told _ holding told made.opened in
     let parts = present (map g.T.Part.Lines.history region.parts.items) (told_at old.told _ holding told made.tell) in
-    let With : List (List ℕ) → Type 0 = λ wanted. IsBasis options holding wanted (basis_over region options.pages (files_of opened.files.held)) in
     record {
-      basis = _;
-      begun = subst With (c.in_ok-wanted.ensures ∙ c.names.ensures) (record {
-        geometry = _;
-        page_is = refl;
-        entries_are = refl;
-        known = opened.known;
-        begun = opened.begun;
-        pages_are = refl;
-        names_are = opened.names_are;
-        files_are = opened.files.files_are;
-      });
+      basis = basis_over region options.pages (files_of opened.files.held);
+      begun = opened_basis options holding _ _ trace.names _ _ _ _ _ opened refl refl (c.in_ok-wanted.ensures ∙ c.names.ensures);
       used = c.schedule_region.ensures.used is parts.states opened.files.held parts.are opened.files.are;
     })

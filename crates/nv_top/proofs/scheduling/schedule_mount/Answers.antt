@@ -1,4 +1,4 @@
-use Rattle.std.proofs.Common.{◌≡◌, ◌∷◌, ◌+◌, ◌-◌, ◌^◌, ◌≤◌, Bool, true, false, Ok, Some, refl, IfSome, length, map, max, option_map, sum_by, sym, ap, subst, ◌∙◌, arith}
+use Rattle.std.proofs.Common.{◌≡◌, ◌∷◌, ◌+◌, ◌-◌, ◌^◌, ◌≤◌, true, false, Ok, Some, IfSome, length, map, max, option_map, sum_by, sym, ap, subst, ◌∙◌, arith}
 use Rattle.std.proofs.lemmas.List.{length-map}
 use Rattle.std.proofs.lemmas.Result.{IfOk-weaker, on_ok_weaker}
 use Rattle.nv_plain.specs.Faults.{Rose, saturated}
@@ -15,7 +15,7 @@ use Rattle.nv_top.specs.Runs.{BeginsMount}
 use Rattle.nv_schedule.specs.Cuts.{CutTells}
 use Rattle.nv_schedule.specs.Scheduled.{HasScheduled}
 use Rattle.nv_schedule.specs.declared.scheduled.ScheduledCalls.{ScheduledCalls}
-use Rattle.nv_top.specs.Scheduling.{HasScheduledOn, IsArmedAt, ShowsOutcome}
+use Rattle.nv_top.specs.Scheduling.{HasScheduledOn, ShowsOutcome}
 use Rattle.nv_top.specs.Stopping.{IsAway, IsSettledStop}
 use Rattle.nv_top.proofs.SchedulingLemmas.{armed_at_all, armed_at_some, failed_cut, has_scheduled, of_trace, settled_memory, still_all, still_some}
 use Rattle.nv_top.proofs.StoppingLemmas.{HasClosedOver, at_some, failed_same, home_with, if_some, left_behind, none_unless, quiet_after, rose_home}
@@ -25,12 +25,17 @@ use Rattle.nv_top.proofs.ScheduleLifeLemmas.{scheduled_home, scheduled_recovered
 use Rattle.nv_top.proofs.SchedulingLemmas.{IfSome-weaker}
 use Rattle.nv_top.proofs.scheduling.schedule_mount.Goals as goal
 
-pub show_outcome-requires-clause-quiet : goal.show_outcome-requires-clause-quiet
-show_outcome-requires-clause-quiet g c κs within =
+pub show_outcome-requires-clause-at_home : goal.show_outcome-requires-clause-at_home
+show_outcome-requires-clause-at_home g c κs within =
     let state = g.T.Bench.state in
     let Quiet : BenchState → Type 0 = λ s. IfSome s.told IsQuietHolding in
-    subst Quiet (sym c.in_ok-power.ensures.off)
-    (quiet_after c.args.options.image (state c.give_back.new.self).told c.power_leaves_an_image.ensures (λ holding is. g.met.T.Bench.whole c.give_back.new.self holding is))
+    record {
+      closed = ap (λ (s : BenchState). s.is_open) c.in_ok-power.ensures.off ∙ ap (λ (s : BenchState). s.is_open) c.give_back.ensures.taken;
+      home = ap (λ (s : BenchState). s.lent) c.in_ok-power.ensures.off ∙ ap (λ (s : BenchState). s.lent) c.give_back.ensures.taken;
+      quiet =
+          subst Quiet (sym c.in_ok-power.ensures.off)
+          (quiet_after c.args.options.image (state c.give_back.new.self).told c.power_leaves_an_image.ensures (λ holding is. g.met.T.Bench.whole c.give_back.new.self holding is));
+    }
 
 pub returns-clause-scheduled : goal.returns-clause-scheduled
 returns-clause-scheduled g c =
@@ -82,7 +87,7 @@ returns-clause-scheduled g c =
     ∙ ap (λ names. Some (home_with left names now disks)) (sym named))
     (ap (λ (s : BenchState). s.told) c.in_ok-power.ensures.off) (λ holding is. g.met.T.Bench.whole c.give_back.new.self holding is) away in
     has_scheduled basis trace mount pass zero _ _ parts held sums came.placed came.tail over options start armed outcome
-    (of_trace c.args.mount c.args.trace.now c.args.options.batch c.args.pass ran.0 start armed c.run_schedule-closed.result.outcome c.tokens.result.now c.calls.result.now c.tokens.ensures.tokens c.calls.ensures.calls ran.1) failed saw allowed c.requires.well_formed (omega (arith, c.requires.few)) c.requires.lines c.requires.no_rounds (subst (λ (o : Opened). IsMount (mount_of o)) c.requires.board.same_mount c.sees_a_run.ensures.mount)
+    (of_trace c.args.mount c.args.trace.now c.args.options.batch c.args.pass ran.0 start armed c.run_schedule-closed.result.outcome c.tokens.result.now c.calls.result.now c.tokens.ensures.tokens c.calls.ensures.calls ran.1) failed saw allowed c.requires.trace.well_formed (omega (arith, c.requires.trace.few)) c.requires.trace.lines c.requires.no_rounds (subst (λ (o : Opened). IsMount (mount_of o)) c.requires.board.same_mount c.sees_a_run.ensures.mount)
     c.schedules_begin_in_order.ensures c.schedules_are_told.ensures.told c.schedules_are_told.ensures.legal c.schedules_are_faithful.ensures c.history_of_threads_is_legal.ensures.files c.open_calls_are_the_faults.ensures.kept
     c.images_stand_for_files.ensures.files start.picked last text.items behind.after
     (at_some off.told (λ holding. ShowsOutcome holding outcome last.told text.items) behind.after behind.off_is shown)
@@ -255,7 +260,7 @@ returns-then-has_failed-clause-life g c basis begins named =
     let scheduled =
     of_trace c.args.mount trace c.args.options.batch c.args.pass ran.0 start armed outcome c.tokens.result.now c.calls.result.now c.tokens.ensures.tokens c.calls.ensures.calls ran.1 in
     scheduled_home g.T.Part.Lines.history g.T.Store.Backing.history trace c.args.mount c.args.pass ran.0 _ _ came.parts.items came.stores.items _ came.placed came.tail c.args.options.batch start armed outcome home.told c.schedules_leave_lives.ensures
-    c.requires.well_formed c.requires.lines c.requires.no_rounds c.requires.new scheduled ran.3 many c.requires.names c.run_schedule-closed.ensures.armed c.give_back.ensures.told (λ holding is. g.met.T.Bench.whole c.give_back.new.self holding is)
+    c.requires.trace.well_formed c.requires.trace.lines c.requires.no_rounds c.requires.new scheduled ran.3 many c.requires.names c.run_schedule-closed.ensures.armed c.give_back.ensures.told (λ holding is. g.met.T.Bench.whole c.give_back.new.self holding is)
     basis begins named
 
 pub returns-in_err-power-clause-life : goal.returns-in_err-power-clause-life
@@ -273,7 +278,7 @@ returns-in_err-power-clause-life g c basis begins named =
     of_trace c.args.mount trace c.args.options.batch c.args.pass ran.0 start armed outcome c.tokens.result.now c.calls.result.now c.tokens.ensures.tokens c.calls.ensures.calls ran.1 in
     let lived =
     scheduled_home g.T.Part.Lines.history g.T.Store.Backing.history trace c.args.mount c.args.pass ran.0 _ _ came.parts.items came.stores.items _ came.placed came.tail c.args.options.batch start armed outcome home.told c.schedules_leave_lives.ensures
-    c.requires.well_formed c.requires.lines c.requires.no_rounds c.requires.new scheduled ran.3 many c.requires.names c.run_schedule-closed.ensures.armed c.give_back.ensures.told (λ holding is. g.met.T.Bench.whole c.give_back.new.self holding is)
+    c.requires.trace.well_formed c.requires.trace.lines c.requires.no_rounds c.requires.new scheduled ran.3 many c.requires.names c.run_schedule-closed.ensures.armed c.give_back.ensures.told (λ holding is. g.met.T.Bench.whole c.give_back.new.self holding is)
     basis begins named in
     subst (λ told. IfSome start.told (λ left. IsAway basis.names left → HasLived basis trace told)) (sym (ap (λ (s : BenchState). s.told) c.in_err-power.ensures.memory)) lived
 
@@ -294,7 +299,7 @@ returns-clause-life g c basis begins named =
     let last = state c.show_outcome.new.bench in
     let lived =
     scheduled_home g.T.Part.Lines.history g.T.Store.Backing.history trace c.args.mount c.args.pass ran.0 _ _ came.parts.items came.stores.items _ came.placed came.tail c.args.options.batch start armed outcome home.told c.schedules_leave_lives.ensures
-    c.requires.well_formed c.requires.lines c.requires.no_rounds c.requires.new scheduled ran.3 many c.requires.names c.run_schedule-closed.ensures.armed c.give_back.ensures.told (λ holding is. g.met.T.Bench.whole c.give_back.new.self holding is)
+    c.requires.trace.well_formed c.requires.trace.lines c.requires.no_rounds c.requires.new scheduled ran.3 many c.requires.names c.run_schedule-closed.ensures.armed c.give_back.ensures.told (λ holding is. g.met.T.Bench.whole c.give_back.new.self holding is)
     basis begins named in
     IfSome-weaker start.told (λ left. IsAway basis.names left → HasLived basis trace home.told) (λ left. IsAway basis.names left → HasLived basis trace last.told) (λ left on away.
     scheduled_recovered basis trace c.args.options.image home.told off.told last.told c.images_follow_calls.ensures.quiet c.power_leaves_an_image.ensures (λ holding is. g.met.T.Bench.whole c.give_back.new.self holding is)

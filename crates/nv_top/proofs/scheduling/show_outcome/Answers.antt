@@ -35,9 +35,9 @@ returns-in_ok-sorted-in-Ok-clause-followed g c = on_any c.show_recovered.result 
 pub returns-in_err-sorted-in-Ok-clause-standing : goal.returns-in_err-sorted-in-Ok-clause-standing
 returns-in_err-sorted-in-Ok-clause-standing g c =
     let old = g.T.Bench.state c.args.bench.now in
-    if_some old.told (λ was. HasHeader was.parts → TellsOf (StandsAsBefore was) old.told) (λ was told. still_stands old old was refl told c.requires.quiet)
+    if_some old.told (λ was. HasHeader was.parts → TellsOf (StandsAsBefore was) old.told) (λ was told. still_stands old old was refl told c.requires.at_home.quiet)
 
 pub returns-in-Err-NoMemory-clause-standing : goal.returns-in-Err-NoMemory-clause-standing
 returns-in-Err-NoMemory-clause-standing g c =
     let old = g.T.Bench.state c.args.bench.now in
-    if_some old.told (λ was. HasHeader was.parts → TellsOf (StandsAsBefore was) old.told) (λ was told. still_stands old old was refl told c.requires.quiet)
+    if_some old.told (λ was. HasHeader was.parts → TellsOf (StandsAsBefore was) old.told) (λ was told. still_stands old old was refl told c.requires.at_home.quiet)

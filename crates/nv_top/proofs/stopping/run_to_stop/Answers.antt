@@ -1,83 +1,171 @@
-use Rattle.std.proofs.Common.{◌≡◌, ◌+◌, ℕ, List, IfSome, map, sum_by, sym, subst}
+use Rattle.std.proofs.Common.{◌≡◌, ◌≤◌, ◌<◌, ◌+◌, ◌∙◌, [], ◌∷◌, ℕ, List, All, Err, None, Some, inl, inr, length, map, refl, sym, ap, subst, sum_by, arith}
+use Rattle.std.specs.Prelude.{IfSome, max}
 use Rattle.std.proofs.lemmas.Result.{IfOk-weaker}
 use Rattle.nv_plain.specs.Faults.{Rose, saturated}
 use Rattle.nv_pmem.specs.Part.{Part}
 use Rattle.nv_pmem.specs.RowStates.{AreNow}
+use Rattle.nv_pmem.specs.declared.picker.Pick.{Pick}
 use Rattle.nv_store.specs.Store.{Store}
-use Rattle.nv_recover.specs.Standing.{files_of}
-use Rattle.nv_mount.specs.RisenCounts.{failed_before}
-use Rattle.nv_runner.specs.Faithful.{Basis}
-use Rattle.nv_top.specs.Runs.{BeginsMount, basis_over}
-use Rattle.nv_top.specs.Stopping.{HasStoppedOn, IsAway}
-use Rattle.std.proofs.Common.{◌∙◌, ap, arith, refl, length}
-use Rattle.std.proofs.lemmas.List.{length-map}
-use Rattle.nv_bench.specs.Holding.{Holding, named_stores}
-use Rattle.nv_open.proofs.Homes.{all_behind, own_stores}
-use Rattle.nv_store.proofs.RowReads.{length_now}
-use Rattle.nv_top.specs.Lives.{AreLeftSo, HasLived}
-use Rattle.nv_top.proofs.LifeLemmas.{left_same, lived_home, rest_lives}
-use Rattle.nv_top.proofs.RunLemmas.{quiet_stores}
-use Rattle.nv_top.proofs.StoppingLemmas.{home_with, if_some, stop_grows}
 use Rattle.nv_bench.specs.Benches.{BenchState}
-use Rattle.std.specs.Prelude.{Option, Some, option_map}
+use Rattle.nv_bench.specs.Holding.{Holding, IsQuietHolding}
+use Rattle.nv_bench.specs.Naming.{AreDistinct, names_of}
+use Rattle.nv_open.specs.Adding.{all_names}
+use Rattle.nv_open.specs.Lending.{without_stores}
+use Rattle.nv_open.specs.declared.error.OpenError.TheVariants.{Refused}
+use Rattle.nv_open.specs.declared.error.Refusal.{Refusal}
+use Rattle.nv_open.proofs.Homes.{all_away}
+use Rattle.nv_recover.specs.Standing.{files_of}
+use Rattle.nv_trace.specs.Said.{said_place}
+use Rattle.nv_top.specs.Headline.{HasStopped, IsRunRefused}
+use Rattle.nv_top.specs.Lives.{HasLived, LeavesRun}
+use Rattle.nv_top.specs.Reported.{HasRunTrace}
+use Rattle.nv_top.specs.Runs.{basis_over}
+use Rattle.nv_top.specs.Stopping.{HasStoppedOn, IsAway, IsSettledStop}
+use Rattle.std.specs.Global.{Vec}
+use Rattle.nv_top.specs.Stops.{CountHasCause, stop_of_opening}
+use Rattle.nv_top.specs.declared.ending.Stop.TheVariants.{NoMemory, Region}
+use Rattle.nv_top.proofs.CauseLemmas.{error_grows}
+use Rattle.nv_top.proofs.CommandLemmas.{if_told, mid_told, told_at}
+use Rattle.nv_top.proofs.HeadlineLemmas.{home_distinct, quiet_left}
+use Rattle.nv_top.proofs.NameLemmas.{wanted_known}
+use Rattle.nv_top.proofs.ReportedLemmas.{by_error, counted_not_turns, counted_settled, home_powered, home_unarmed, opened_basis, opening_counted, refused_life, region_of, run_refused, unopened_run}
+use Rattle.nv_top.proofs.RowLemmas.{present}
+use Rattle.nv_top.proofs.StopLemmas.{opening_refused}
 use Rattle.nv_top.proofs.stopping.run_to_stop.Goals as goal
 
-pub returns-in-Ok-clause-ran : goal.returns-in-Ok-clause-ran
-returns-in-Ok-clause-ran g c =
+-- a bench that tells isn't one that doesn't
+not_both : {holding : Holding} → Some holding ≡ None → ⊥
+not_both is = cc
+
+pub stop_region-requires-clause-quiet : goal.stop_region-requires-clause-quiet
+stop_region-requires-clause-quiet g c κs within =
+    let old = g.T.Bench.state c.args.bench.now in
+    let With : BenchState → Type 0 = λ bench. IfSome bench.told IsQuietHolding in
+    subst With (sym c.in_ok-opened.ensures.lent) (quiet_left c.images_follow_calls.ensures.blank c.in_ok-opened.opened.region.names old.told c.requires.ready.at_home.quiet)
+
+pub stop_region-requires-clause-known : goal.stop_region-requires-clause-known
+stop_region-requires-clause-known g c κs within =
+    let known = c.in_ok-opened.ensures.known in
+    let Known : List (List ℕ) → Type 0 = λ names. All (λ name. said_place name names < length names) c.args.trace.now.names in
+    let wanted = c.in_ok-wanted.ensures ∙ c.names.ensures in
+    subst Known (sym (known.1 ∙ ap (all_names known.0) wanted)) (wanted_known known.0 c.args.trace.now.names)
+
+pub returns-in_err-wanted : goal.returns-in_err-wanted
+returns-in_err-wanted g c =
+    let old = g.T.Bench.state c.args.bench.now in
+    by_error c.from_residual.result NoMemory (λ result. HasRunTrace (Some c.args.k) c.args.options c.args.trace.now old old result) c.from_residual.ensures.1
+    (unopened_run (Some c.args.k) c.args.options c.args.trace.now old c.images_follow_calls.ensures.quiet c.requires.ready.at_home)
+
+pub returns-in_err-opened : goal.returns-in_err-opened
+returns-in_err-opened g c =
+    let old = g.T.Bench.state c.args.bench.now in
+    let new = g.T.Bench.state c.open.new.bench in
+    let options = c.args.options in
+    let trace = c.args.trace.now in
+    let error = c.in_err-opened.field-0.0 in
+    let made = c.in_err-opened.ensures in
+    let same = c.in_ok-wanted.ensures ∙ c.names.ensures in
+    let settled = ap (λ (state : BenchState). state.settled) made.back in
+    let before = c.requires.ready.settled in
+    let low : new.settled ≤ old.faults = omega (arith, settled, before) in
+    let cause : CountHasCause {T = Vec ℕ} old.faults new.faults (Err (stop_of_opening error)) = opening_counted old.faults new.faults error made.cause in
+    by_error c.from_residual-in_err-opened.result (stop_of_opening error) (λ result. HasRunTrace (Some c.args.k) options trace old new result) c.from_residual-in_err-opened.ensures.1
+    (record {
+      back = (inr made.back, inr (ap (λ (state : BenchState). state.picked) made.back));
+      cause = counted_settled {T = Vec ℕ} old.faults new.faults new.settled (Err (stop_of_opening error)) low cause;
+      turns = counted_not_turns {T = Vec ℕ} old.faults new.faults (Err (stop_of_opening error)) cause;
+      never_falls = error_grows old.faults new.faults error made.cause;
+      life = refused_life options _ trace.names old new same trace refl made.standing;
+      ran = tt;
+      refused = λ why is.
+          let error_is = opening_refused error why (region_of (stop_of_opening error) why is) in
+          run_refused options _ trace.names old new same why _ (made.refused why (ap Err error_is)) (made.unwritten why (ap Err error_is)) (λ many. made.rests (ap Err (error_is ∙ ap Refused many))) refl refl;
+      unarmed = λ why is. if_told old.told (λ holding. new.arms ≡ old.arms) (λ holding told. ap (λ (state : BenchState). state.arms) made.back);
+    })
+
+pub returns : goal.returns
+returns g c =
     let history = g.T.Part.Lines.history in
     let held = g.T.Store.Backing.history in
-    let region = c.args.opened.region in
-    let stores = c.args.opened.stores.items in
+    let old = g.T.Bench.state c.args.bench.now in
+    let mid = g.T.Bench.state c.open.new.bench in
+    let new = g.T.Bench.state c.stop_region.new.bench in
+    let options = c.args.options in
     let trace = c.args.trace.now in
-    let start = g.T.Bench.state c.args.bench.now in
-    let last = g.T.Bench.state c.stop_mount.new.bench in
-    let worker = c.args.options.worker in
-    let pick = c.args.options.image in
-    let before_picks = start.picked in
-    let before = sum_by g.T.Part.Lines.fault_count region.parts.items + sum_by g.T.Store.Backing.fault_count stores in
-    let mounted = failed_before c.in-Ok.pass in
-    IfOk-weaker c.stop_mount.result
-    (λ text. (basis : Basis) → BeginsMount basis trace c.in-Ok.mount c.in-Ok.pass → basis.names ≡ start.lent
-    → IfSome start.told (λ left. IsAway basis.names left → HasStoppedOn (Rose (saturated (start.faults + mounted)) last.faults) worker pick before_picks basis trace last text.items))
-    (λ text. (parts : List Part) (now : List Store) → AreNow (map history region.parts.items) parts → AreNow (map held stores) now
-    → IfSome start.told (λ left. IsAway region.names left → HasStoppedOn (Rose (saturated (start.faults + before)) last.faults) worker pick before_picks (basis_over region c.args.options.pages (files_of now)) trace last text.items))
-    (λ text ran parts now parts_are now_are.
-    let basis = basis_over region c.args.options.pages (files_of now) in
-    let Counted : ℕ → Type 0 = λ count. IfSome start.told (λ left. IsAway region.names left → HasStoppedOn (Rose (saturated (start.faults + count)) last.faults) worker pick before_picks basis trace last text.items) in
-    subst Counted c.in-Ok.ensures.counts (ran basis (c.in-Ok.ensures.begins parts now parts_are now_are) (sym c.requires.lent)))
-    c.stop_mount.ensures.ran
-
-pub returns-in-Ok-clause-never : goal.returns-in-Ok-clause-never
-returns-in-Ok-clause-never g c why is parts now parts_are now_are =
-    c.stop_mount.ensures.never why is (basis_over c.args.opened.region c.args.options.pages (files_of now)) (c.in-Ok.ensures.begins parts now parts_are now_are) (sym c.requires.lent)
-
-pub returns-in-Ok-clause-life : goal.returns-in-Ok-clause-life
-returns-in-Ok-clause-life g c parts now parts_are now_are =
-    c.stop_mount.ensures.life (basis_over c.args.opened.region c.args.options.pages (files_of now)) (c.in-Ok.ensures.begins parts now parts_are now_are) (sym c.requires.lent)
-
-pub returns-in-Err-clause-life : goal.returns-in-Err-clause-life
-returns-in-Err-clause-life g c parts now parts_are now_are =
-    let history = g.T.Part.Lines.history in
-    let held = g.T.Store.Backing.history in
-    let region = c.args.opened.region in
-    let stores = c.args.opened.stores.items in
-    let trace = c.args.trace.now in
-    let start = g.T.Bench.state c.args.bench.now in
-    let home = g.T.Bench.state c.give_back.new.self in
-    let basis = basis_over region c.args.options.pages (files_of now) in
-    let rest = rest_lives history held basis trace region.parts.items stores parts now region.geometry.page region.geometry.entries region.next parts_are now_are region.is_region.tells (quiet_stores held stores now now_are c.requires.synced) refl in
-    let left_so : AreLeftSo history held basis trace c.in-Err.field-0.parts.items c.in-Err.field-0.stores.items = left_same history held basis trace c.in-Err.field-0.parts.items region.parts.items c.in-Err.field-0.stores.items stores c.in-Err.ensures.same_parts c.in-Err.ensures.same_stores rest in
-    if_some start.told (λ left. IsAway region.names left → HasLived basis trace home.told) (λ left told_is away.
-    lived_home basis trace history held c.in-Err.field-0.parts.items c.in-Err.field-0.stores.items home.told left.stores (λ holding is. g.met.T.Bench.whole c.give_back.new.self holding is) left_so
-    (λ disks are. all_behind region.names left.stores (named_stores region.names disks) away
-    ∙ own_stores region.names disks (sym (length_now (map held c.in-Err.field-0.stores.items) disks are ∙ ap length (c.in-Err.ensures.same_stores) ∙ length-map stores held ∙ c.requires.stores)) region.is_region.names_are.distinct)
-    (λ back disks back_are disks_are. c.give_back.ensures.told back disks back_are disks_are
-    ∙ ap (λ (told : Option Holding). option_map (λ (holding : Holding). home_with holding start.lent back disks) told) told_is ∙ ap (λ names. Some (home_with left names back disks)) c.requires.lent))
-
-pub returns-in-Err-clause-never_falls : goal.returns-in-Err-clause-never_falls
-returns-in-Err-clause-never_falls g c =
-    let region = c.args.opened.region in
-    let failed = c.in-Err.field-0 in
-    let before = sum_by g.T.Part.Lines.fault_count region.parts.items + sum_by g.T.Store.Backing.fault_count c.args.opened.stores.items in
-    let now = sum_by g.T.Part.Lines.fault_count failed.parts.items + sum_by g.T.Store.Backing.fault_count failed.stores.items in
-    omega (arith, stop_grows before now failed.stop c.in-Err.ensures.cause, ap (λ (s : BenchState). s.faults) c.give_back.ensures.taken)
+    let made = c.in_ok-opened.ensures in
+    let stopped = c.stop_region.ensures in
+    let result = c.stop_region.result in
+    let region = c.in_ok-opened.opened.region in
+    let backing = c.in_ok-opened.opened.stores.items in
+    let at_home = c.requires.ready.at_home in
+    let lent = saturated (mid.faults + (sum_by g.T.Part.Lines.fault_count region.parts.items + sum_by g.T.Store.Backing.fault_count backing)) in
+    let same : lent ≡ old.faults = omega (arith, made.counts) in
+    let distinct : (holding : Holding) → old.told ≡ Some holding → AreDistinct (names_of holding.stores) = λ holding told. home_distinct old holding (g.met.T.Bench.named c.args.bench.now) told at_home.home in
+    let never : (why : Refusal) → result ≡ Err (Region why) → (P : Holding → Type 0) → IfSome old.told P = λ why is P.
+    if_told old.told P (λ holding told.
+    let opened = told_at old.told _ holding told made.opened in
+    let parts = present (map history region.parts.items) (told_at old.told _ holding told made.tell) in
+    absurd (not_both (sym (mid_told old mid region.names holding made.lent at_home.home told) ∙ stopped.never why is parts.states opened.files.held parts.are opened.files.are))) in
+    record {
+      back = (
+        elim stopped.back [
+          | inl powered ↦ inl (home_powered c.args.k region.names old mid new at_home made.lent powered)
+          | inr unarmed ↦ inr (home_unarmed c.args.k region.names old mid new at_home made.lent unarmed)
+        ],
+        elim stopped.picked [
+          | inl once ↦ inl (once ∙ ap (λ (state : BenchState). c.args.options.image ∷ state.picked) made.lent)
+          | inr not_yet ↦ inr (not_yet ∙ ap (λ (state : BenchState). state.picked) made.lent)
+        ],
+      );
+      cause = elim stopped.back [
+        | inl powered ↦ (
+            let armed = ap (λ (state : BenchState). state.arms) powered in
+            let no_less = stopped.no_less armed in
+            let all : max old.faults new.settled ≡ new.settled = omega (arith, no_less, same) in
+            subst (λ settled. IsSettledStop settled new.faults result) (sym all) (stopped.settled armed)
+            )
+        | inr unarmed ↦ (
+            let settled = ap (λ (state : BenchState). state.settled) (home_unarmed c.args.k region.names old mid new at_home made.lent unarmed) in
+            let before = c.requires.ready.settled in
+            let low : new.settled ≤ old.faults = omega (arith, settled, before) in
+            counted_settled old.faults new.faults new.settled result low
+            (subst (λ before. CountHasCause before new.faults result) same (stopped.cause (ap (λ (state : BenchState). state.arms) unarmed)))
+            )
+      ];
+      turns = stopped.turns;
+      never_falls = omega (arith, same, stopped.never_falls);
+      life = if_told old.told (λ was. LeavesRun options was trace new.told) (λ holding told stand.
+          let opened = told_at old.told _ holding told made.opened in
+          let parts = present (map history region.parts.items) (told_at old.told _ holding told made.tell) in
+          let basis = basis_over region options.pages (files_of opened.files.held) in
+          let left : Holding = record { parts = []; stores = without_stores region.names holding.stores } in
+          inr (record {
+            basis = basis;
+            begun = opened_basis options holding _ _ trace.names _ _ _ _ _ opened refl refl (c.in_ok-wanted.ensures ∙ c.names.ensures);
+            lived = told_at mid.told (λ left. IsAway region.names left → HasLived basis trace new.told) left (mid_told old mid region.names holding made.lent at_home.home told)
+                (stopped.life parts.states opened.files.held parts.are opened.files.are) (all_away region.names holding.stores (distinct holding told));
+          }));
+      ran = IfOk-weaker result
+          (λ text. (parts : List Part) (now : List Store) → AreNow (map history region.parts.items) parts → AreNow (map held backing) now
+          → IfSome mid.told (λ left. IsAway region.names left → HasStoppedOn (Rose lent new.faults) options.worker options.image mid.picked (basis_over region options.pages (files_of now)) trace new text.items))
+          (λ text. IfSome old.told (λ holding. HasStopped (Rose old.faults new.faults) options old.picked holding new trace text.items))
+          (λ text ran.
+          if_told old.told (λ holding. HasStopped (Rose old.faults new.faults) options old.picked holding new trace text.items) (λ holding told.
+          let opened = told_at old.told _ holding told made.opened in
+          let parts = present (map history region.parts.items) (told_at old.told _ holding told made.tell) in
+          let basis = basis_over region options.pages (files_of opened.files.held) in
+          let left : Holding = record { parts = []; stores = without_stores region.names holding.stores } in
+          let Stopped : Holding → Type 0 = λ left. IsAway region.names left → HasStoppedOn (Rose lent new.faults) options.worker options.image mid.picked basis trace new text.items in
+          let Over : ℕ → List Pick → Type 0 = λ count before. HasStoppedOn (Rose count new.faults) options.worker options.image before basis trace new text.items in
+          record {
+            basis = basis;
+            begun = opened_basis options holding _ _ trace.names _ _ _ _ _ opened refl refl (c.in_ok-wanted.ensures ∙ c.names.ensures);
+            stopped = subst (λ before. Over old.faults before) (ap (λ (state : BenchState). state.picked) made.lent) (subst (λ count. Over count mid.picked) same
+                (told_at mid.told Stopped left (mid_told old mid region.names holding made.lent at_home.home told)
+                (ran parts.states opened.files.held parts.are opened.files.are)
+                (all_away region.names holding.stores (distinct holding told))));
+          }))
+          stopped.ran;
+      refused = λ why is. never why is (λ holding. IsRunRefused options holding trace.names old new why);
+      unarmed = λ why is. never why is (λ holding. new.arms ≡ old.arms);
+    }

@@ -46,7 +46,7 @@ returns-clause-shown g c =
     (λ holding told_is.
     let Told : List _ → Type 0 = λ parts. AllTell (map history parts) in
     shows old lent new_told holding sorted begun text.items found region.geometry.page region.geometry.entries region.next region.names c.names.result.now (map history parts_now) (map held backing)
-    told_is (at_some old.told IsQuietHolding holding told_is c.requires.quiet) c.requires.home opened.lent (sym c.names.ensures) text_of
+    told_is (at_some old.told IsQuietHolding holding told_is c.requires.at_home.quiet) c.requires.at_home.home opened.lent (sym c.names.ensures) text_of
     (at_some old.told (λ holding. IsRecovered holding.parts region.geometry.page region.geometry.entries region.names region.next found) holding told_is opened.recovered)
     (at_some old.told (λ holding. HoldFiles (map held backing) (files_named holding.parts region.names holding.stores)) holding told_is opened.files)
     (subst Told (sym same_parts) (at_some old.told (λ holding. AllTell (map history region.parts.items)) holding told_is opened.tell))
@@ -77,10 +77,10 @@ returns-clause-standing g c =
       now = record { parts = now.states; stores = without_stores region.names was.stores ++ named_stores region.names files.held };
       told_is =
           c.give_back.ensures.told now.states files.held now_are (subst (λ row. AreNow row files.held) (sym c.show_fates-report.ensures.histories) files.are)
-          ∙ back_is old mid region.names was made.lent c.requires.home told now.states files.held;
+          ∙ back_is old mid region.names was made.lent c.requires.at_home.home told now.states files.held;
       is_so =
           recovered_stands c.images_stand_for_files.ensures.files was region.geometry.page region.geometry.entries region.next region.names c.in_ok-opened.found now.states files.held recovery
           (row_tells_at (map history back) (IsAtRest version_1 region.geometry.page region.geometry.entries region.names region.next) now.states now_are c.into_parts.ensures.region.tells) files.files_are files.quiet
-          (home_distinct old was (g.met.T.Bench.named c.args.bench.now) told c.requires.home) (sym (states_many (map held backing) files.held files.are ∙ length-map backing held ∙ made.one_each))
+          (home_distinct old was (g.met.T.Bench.named c.args.bench.now) told c.requires.at_home.home) (sym (states_many (map held backing) files.held files.are ∙ length-map backing held ∙ made.one_each))
           c.into_parts.ensures.region.names_are.distinct readable;
     })

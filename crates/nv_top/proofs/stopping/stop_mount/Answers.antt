@@ -33,12 +33,17 @@ use Rattle.nv_top.specs.Lives.{AreLeftSo, HasLived}
 use Rattle.nv_top.proofs.LifeLemmas.{lived_home, lived_powered, lived_recovered}
 use Rattle.nv_top.proofs.stopping.stop_mount.Goals as goal
 
-pub show_recovered-requires-clause-quiet : goal.show_recovered-requires-clause-quiet
-show_recovered-requires-clause-quiet g c κs within =
+pub show_recovered-requires-clause-at_home : goal.show_recovered-requires-clause-at_home
+show_recovered-requires-clause-at_home g c κs within =
     let state = g.T.Bench.state in
     let Quiet : BenchState → Type 0 = λ s. IfSome s.told IsQuietHolding in
-    subst Quiet (sym c.in_ok-power.ensures.off)
-    (quiet_after c.args.plan.image (state c.give_back.new.self).told c.power_leaves_an_image.ensures (λ holding is. g.met.T.Bench.whole c.give_back.new.self holding is))
+    record {
+      closed = ap (λ (s : BenchState). s.is_open) c.in_ok-power.ensures.off ∙ ap (λ (s : BenchState). s.is_open) c.give_back.ensures.taken;
+      home = ap (λ (s : BenchState). s.lent) c.in_ok-power.ensures.off ∙ ap (λ (s : BenchState). s.lent) c.give_back.ensures.taken;
+      quiet =
+          subst Quiet (sym c.in_ok-power.ensures.off)
+          (quiet_after c.args.plan.image (state c.give_back.new.self).told c.power_leaves_an_image.ensures (λ holding is. g.met.T.Bench.whole c.give_back.new.self holding is));
+    }
 
 pub returns-clause-ran : goal.returns-clause-ran
 returns-clause-ran g c =
@@ -78,9 +83,9 @@ returns-clause-ran g c =
     let run : HasRunToClose basis trace mount pass zero c.args.plan sorted _ _ parts held sums came.placed came.tail = record {
       begins = begins;
       new = c.requires.new;
-      well_formed = c.requires.well_formed;
-      few = omega (arith, c.requires.few);
-      rise = c.requires.lines;
+      well_formed = c.requires.trace.well_formed;
+      few = omega (arith, c.requires.trace.few);
+      rise = c.requires.trace.lines;
       out = out;
       closed = by;
     } in
@@ -126,9 +131,9 @@ returns-clause-never g c why is basis begins named =
     let run : HasRunToClose basis trace mount pass zero c.args.plan sorted _ _ parts held sums came.placed came.tail = record {
       begins = begins;
       new = c.requires.new;
-      well_formed = c.requires.well_formed;
-      few = omega (arith, c.requires.few);
-      rise = c.requires.lines;
+      well_formed = c.requires.trace.well_formed;
+      few = omega (arith, c.requires.trace.few);
+      rise = c.requires.trace.lines;
       out = out;
       closed = by;
     } in
@@ -160,7 +165,7 @@ returns-in_err-power-clause-life g c basis begins named =
     let here = sym c.requires.board.same_mount in
     let there : mount.board.opened ≡ ran.0.view.opened = here ∙ sym out.mount in
     let life =
-    c.runs_leave_lives.ensures basis trace mount.fds c.args.plan pass ran.0 c.run_calls-ended.result.outcome _ _ parts held _ _ _ c.requires.well_formed c.requires.lines
+    c.runs_leave_lives.ensures basis trace mount.fds c.args.plan pass ran.0 c.run_calls-ended.result.outcome _ _ parts held _ _ _ c.requires.trace.well_formed c.requires.trace.lines
     (subst (λ (o : Opened). IsMountOf basis trace o mount.fds) here begins.is_mount) (subst (λ (o : Opened). OpensRegion (mount_of o) basis.names) here begins.region) (c.requires.new ∙ ap first_view here) ran.1 by in
     let tell = by.telling basis.files (subst (λ (o : Opened). OpensLog (mount_of o) o.next) there begins.is_mount.log) (subst (λ (o : Opened). Opens (mount_of o) basis.files) there begins.is_mount.files)
     (subst (λ (values : List Value). All IsTelling values) (sym out.spare) begins.spare) in
@@ -194,7 +199,7 @@ returns-in_err-sorted-clause-life g c basis begins named =
     let here = sym c.requires.board.same_mount in
     let there : mount.board.opened ≡ ran.0.view.opened = here ∙ sym out.mount in
     let life =
-    c.runs_leave_lives.ensures basis trace mount.fds c.args.plan pass ran.0 c.run_calls-ended.result.outcome _ _ parts held _ _ _ c.requires.well_formed c.requires.lines
+    c.runs_leave_lives.ensures basis trace mount.fds c.args.plan pass ran.0 c.run_calls-ended.result.outcome _ _ parts held _ _ _ c.requires.trace.well_formed c.requires.trace.lines
     (subst (λ (o : Opened). IsMountOf basis trace o mount.fds) here begins.is_mount) (subst (λ (o : Opened). OpensRegion (mount_of o) basis.names) here begins.region) (c.requires.new ∙ ap first_view here) ran.1 by in
     let tell = by.telling basis.files (subst (λ (o : Opened). OpensLog (mount_of o) o.next) there begins.is_mount.log) (subst (λ (o : Opened). Opens (mount_of o) basis.files) there begins.is_mount.files)
     (subst (λ (values : List Value). All IsTelling values) (sym out.spare) begins.spare) in
@@ -231,7 +236,7 @@ returns-clause-life g c basis begins named =
     let here = sym c.requires.board.same_mount in
     let there : mount.board.opened ≡ ran.0.view.opened = here ∙ sym out.mount in
     let life =
-    c.runs_leave_lives.ensures basis trace mount.fds c.args.plan pass ran.0 c.run_calls-ended.result.outcome _ _ parts held _ _ _ c.requires.well_formed c.requires.lines
+    c.runs_leave_lives.ensures basis trace mount.fds c.args.plan pass ran.0 c.run_calls-ended.result.outcome _ _ parts held _ _ _ c.requires.trace.well_formed c.requires.trace.lines
     (subst (λ (o : Opened). IsMountOf basis trace o mount.fds) here begins.is_mount) (subst (λ (o : Opened). OpensRegion (mount_of o) basis.names) here begins.region) (c.requires.new ∙ ap first_view here) ran.1 by in
     let tell = by.telling basis.files (subst (λ (o : Opened). OpensLog (mount_of o) o.next) there begins.is_mount.log) (subst (λ (o : Opened). Opens (mount_of o) basis.files) there begins.is_mount.files)
     (subst (λ (values : List Value). All IsTelling values) (sym out.spare) begins.spare) in

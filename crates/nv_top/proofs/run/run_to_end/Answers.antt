@@ -5,7 +5,7 @@ use Rattle.nv_pmem.specs.Part.{Part}
 use Rattle.nv_pmem.specs.RowStates.{AreNow}
 use Rattle.nv_store.specs.Store.{Store}
 use Rattle.nv_recover.specs.Standing.{files_of}
-use Rattle.nv_top.specs.Commands.{HasRunOn, IsBasis}
+use Rattle.nv_top.specs.Commands.{HasRunOn}
 use Rattle.nv_top.specs.Runs.{HasRunOver, basis_over}
 use Rattle.nv_top.proofs.CommandLemmas.{if_told, leaves, told_at}
 use Rattle.nv_open.specs.Adding.{all_names}
@@ -13,10 +13,10 @@ use Rattle.nv_trace.specs.Said.{said_place}
 use Rattle.nv_top.proofs.NameLemmas.{wanted_known}
 use Rattle.nv_top.proofs.RowLemmas.{present}
 use Rattle.std.proofs.Common.{Err}
-use Rattle.nv_top.specs.Commands.{IsNotRun, RestsNotRun}
-use Rattle.nv_open.specs.declared.error.Refusal.TheVariants.{TooManyFiles}
+use Rattle.nv_open.specs.declared.error.OpenError.TheVariants.{Refused}
 use Rattle.nv_top.specs.Stops.{stop_of_opening}
 use Rattle.nv_top.specs.declared.ending.Stop.TheVariants.{Region}
+use Rattle.nv_top.proofs.ReportedLemmas.{opened_basis, run_refused}
 use Rattle.nv_top.proofs.StopLemmas.{err_has, opening_refused}
 use Rattle.std.proofs.Common.{inr}
 use Rattle.std.proofs.lemmas.List.{length-map}
@@ -27,10 +27,10 @@ use Rattle.nv_top.specs.Lives.{LeavesRun}
 use Rattle.nv_top.proofs.CommandLemmas.{back_is}
 use Rattle.nv_top.proofs.HeadlineLemmas.{home_distinct}
 use Rattle.nv_top.proofs.LifeLemmas.{lived_home, still_run}
-use Rattle.nv_top.proofs.run.run.Goals as goal
+use Rattle.nv_top.proofs.run.run_to_end.Goals as goal
 
-pub run_over-parts-requires-clause-known : goal.run_over-parts-requires-clause-known
-run_over-parts-requires-clause-known g c κs within =
+pub run_region-parts-requires-clause-known : goal.run_region-parts-requires-clause-known
+run_region-parts-requires-clause-known g c κs within =
     let known = c.in_ok-region.ensures.known in
     let Known : List (List ℕ) → Type 0 = λ names. All (λ name. said_place name names < length names) c.args.trace.now.names in
     let In : List (List ℕ) → Type 0 = λ wanted. All (λ name. said_place name (all_names known.0 wanted) < length (all_names known.0 wanted)) wanted in
@@ -48,7 +48,7 @@ returns-clause-ran g c =
     let made = c.in_ok-region.ensures in
     let region = c.in_ok-region.field-0.region in
     let stores = c.in_ok-region.field-0.stores.items in
-    let ended = c.run_over-parts.result in
+    let ended = c.run_region-parts.result in
     let wanted = c.in_ok-wanted.wanted in
     IfOk-weaker ended.report
     (λ text. (parts : List Part) (now : List Store) → AreNow (map history region.parts.items) parts → AreNow (map held stores) now
@@ -59,49 +59,34 @@ returns-clause-ran g c =
     let opened = told_at old.told _ holding told made.opened in
     let parts = present (map history region.parts.items) (told_at old.told _ holding told made.tell) in
     let over = ran parts.states opened.files.held parts.are opened.files.are in
-    let With : List (List ℕ) → Type 0 = λ wanted. IsBasis c.args.options holding wanted (basis_over region c.args.options.pages (files_of opened.files.held)) in
     record {
       basis = basis_over region c.args.options.pages (files_of opened.files.held);
-      begun = subst With (c.in_ok-wanted.ensures ∙ c.names.ensures) (record {
-        geometry = _;
-        page_is = refl;
-        entries_are = refl;
-        known = opened.known;
-        begun = opened.begun;
-        pages_are = refl;
-        names_are = opened.names_are;
-        files_are = opened.files.files_are;
-      });
+      begun = opened_basis c.args.options holding _ _ trace.names _ _ _ _ _ opened refl refl (c.in_ok-wanted.ensures ∙ c.names.ensures);
       report = over.report;
       faithful = over.faithful;
       plain = over.plain;
       text_is = over.text_is;
-      left = leaves old mid region.names holding made.lent c.requires.home told (Some _) history held _ ended.parts.items ended.stores.items after_it.told (c.run_over-parts.ensures.many ∙ told_at old.told _ holding told made.many) over.left c.give_back.ensures.told;
+      left = leaves old mid region.names holding made.lent c.requires.at_home.home told (Some _) history held _ ended.parts.items ended.stores.items after_it.told (c.run_region-parts.ensures.many ∙ told_at old.told _ holding told made.many) over.left c.give_back.ensures.told;
       page_is = over.page_is;
       entries_is = over.entries_is;
       next_is = over.next_is;
     }))
-    c.run_over-parts.ensures.ran
+    c.run_region-parts.ensures.ran
 
 pub returns-in_err-region-clause-refused : goal.returns-in_err-region-clause-refused
 returns-in_err-region-clause-refused g c why is =
     let old = g.T.Bench.state c.args.bench.now in
+    let new = g.T.Bench.state c.open.new.bench in
     let error = c.in_err-region.field-0.0 in
-    let trace = c.args.trace.now in
     let stop : Region why ≡ stop_of_opening error = err_has c.from_residual-in_err-region.result (λ stop. stop ≡ stop_of_opening error) (Region why) is c.from_residual-in_err-region.ensures.1 in
-    if_told old.told (λ holding. IsNotRun c.args.options holding trace.names why) (λ holding told.
-    let With : List (List ℕ) → Type 0 = λ wanted. IsNotRun c.args.options holding wanted why in
-    subst With (c.in_ok-wanted.ensures ∙ c.names.ensures) (record {
-      geometry = _;
-      page_is = refl;
-      entries_are = refl;
-      not_opened = told_at old.told _ holding told (c.in_err-region.ensures.refused why (ap Err (opening_refused error why (sym stop))));
-    }))
+    let error_is = opening_refused error why (sym stop) in
+    run_refused c.args.options _ c.args.trace.now.names old new (c.in_ok-wanted.ensures ∙ c.names.ensures) why _ (c.in_err-region.ensures.refused why (ap Err error_is))
+    (c.in_err-region.ensures.unwritten why (ap Err error_is)) (λ many. c.in_err-region.ensures.rests (ap Err (error_is ∙ ap Refused many))) refl refl
 
 pub returns-in_err-wanted-clause-life : goal.returns-in_err-wanted-clause-life
 returns-in_err-wanted-clause-life g c =
     let old = g.T.Bench.state c.args.bench.now in
-    still_run old old c.args.options c.args.trace.now c.images_follow_calls.ensures.quiet refl c.requires.quiet
+    still_run old old c.args.options c.args.trace.now c.images_follow_calls.ensures.quiet refl c.requires.at_home.quiet
 
 pub returns-then-faults-before-clause-life : goal.returns-then-faults-before-clause-life
 returns-then-faults-before-clause-life g c =
@@ -114,29 +99,19 @@ returns-then-faults-before-clause-life g c =
     let made = c.in_ok-region.ensures in
     let region = c.in_ok-region.field-0.region in
     let stores = c.in_ok-region.field-0.stores.items in
-    let ended = c.run_over-parts.result in
+    let ended = c.run_region-parts.result in
     if_told old.told (λ was. LeavesRun c.args.options was trace after_it.told) (λ holding told stand.
     let opened = told_at old.told _ holding told made.opened in
     let parts = present (map history region.parts.items) (told_at old.told _ holding told made.tell) in
     let basis = basis_over region c.args.options.pages (files_of opened.files.held) in
-    let left = c.run_over-parts.ensures.life parts.states opened.files.held parts.are opened.files.are in
-    let With : List (List ℕ) → Type 0 = λ wanted. IsBasis c.args.options holding wanted basis in
+    let left = c.run_region-parts.ensures.life parts.states opened.files.held parts.are opened.files.are in
     inr (record {
       basis = basis;
-      begun = subst With (c.in_ok-wanted.ensures ∙ c.names.ensures) (record {
-        geometry = _;
-        page_is = refl;
-        entries_are = refl;
-        known = opened.known;
-        begun = opened.begun;
-        pages_are = refl;
-        names_are = opened.names_are;
-        files_are = opened.files.files_are;
-      });
+      begun = opened_basis c.args.options holding _ _ trace.names _ _ _ _ _ opened refl refl (c.in_ok-wanted.ensures ∙ c.names.ensures);
       lived = lived_home basis trace history held ended.parts.items ended.stores.items after_it.told (without_stores region.names holding.stores) (λ holding is. g.met.T.Bench.whole c.give_back.new.self holding is) left
-          (λ disks are. back_again region.names holding.stores disks (home_distinct old holding (g.met.T.Bench.named c.args.bench.now) told c.requires.home)
-          (sym (states_many (map held ended.stores.items) disks are ∙ length-map ended.stores.items held ∙ c.run_over-parts.ensures.count ∙ made.one_each)) region.is_region.names_are.distinct)
-          (λ now disks now_are disks_are. c.give_back.ensures.told now disks now_are disks_are ∙ back_is old mid region.names holding made.lent c.requires.home told now disks);
+          (λ disks are. back_again region.names holding.stores disks (home_distinct old holding (g.met.T.Bench.named c.args.bench.now) told c.requires.at_home.home)
+          (sym (states_many (map held ended.stores.items) disks are ∙ length-map ended.stores.items held ∙ c.run_region-parts.ensures.count ∙ made.one_each)) region.is_region.names_are.distinct)
+          (λ now disks now_are disks_are. c.give_back.ensures.told now disks now_are disks_are ∙ back_is old mid region.names holding made.lent c.requires.at_home.home told now disks);
     }))
 
 pub returns-clause-life : goal.returns-clause-life
@@ -150,43 +125,17 @@ returns-clause-life g c =
     let made = c.in_ok-region.ensures in
     let region = c.in_ok-region.field-0.region in
     let stores = c.in_ok-region.field-0.stores.items in
-    let ended = c.run_over-parts.result in
+    let ended = c.run_region-parts.result in
     if_told old.told (λ was. LeavesRun c.args.options was trace after_it.told) (λ holding told stand.
     let opened = told_at old.told _ holding told made.opened in
     let parts = present (map history region.parts.items) (told_at old.told _ holding told made.tell) in
     let basis = basis_over region c.args.options.pages (files_of opened.files.held) in
-    let left = c.run_over-parts.ensures.life parts.states opened.files.held parts.are opened.files.are in
-    let With : List (List ℕ) → Type 0 = λ wanted. IsBasis c.args.options holding wanted basis in
+    let left = c.run_region-parts.ensures.life parts.states opened.files.held parts.are opened.files.are in
     inr (record {
       basis = basis;
-      begun = subst With (c.in_ok-wanted.ensures ∙ c.names.ensures) (record {
-        geometry = _;
-        page_is = refl;
-        entries_are = refl;
-        known = opened.known;
-        begun = opened.begun;
-        pages_are = refl;
-        names_are = opened.names_are;
-        files_are = opened.files.files_are;
-      });
+      begun = opened_basis c.args.options holding _ _ trace.names _ _ _ _ _ opened refl refl (c.in_ok-wanted.ensures ∙ c.names.ensures);
       lived = lived_home basis trace history held ended.parts.items ended.stores.items after_it.told (without_stores region.names holding.stores) (λ holding is. g.met.T.Bench.whole c.give_back.new.self holding is) left
-          (λ disks are. back_again region.names holding.stores disks (home_distinct old holding (g.met.T.Bench.named c.args.bench.now) told c.requires.home)
-          (sym (states_many (map held ended.stores.items) disks are ∙ length-map ended.stores.items held ∙ c.run_over-parts.ensures.count ∙ made.one_each)) region.is_region.names_are.distinct)
-          (λ now disks now_are disks_are. c.give_back.ensures.told now disks now_are disks_are ∙ back_is old mid region.names holding made.lent c.requires.home told now disks);
-    }))
-
-pub returns-in_err-region-clause-rests : goal.returns-in_err-region-clause-rests
-returns-in_err-region-clause-rests g c is =
-    let old = g.T.Bench.state c.args.bench.now in
-    let new = g.T.Bench.state c.open.new.bench in
-    let error = c.in_err-region.field-0.0 in
-    let trace = c.args.trace.now in
-    let stop : Region TooManyFiles ≡ stop_of_opening error = err_has c.from_residual-in_err-region.result (λ stop. stop ≡ stop_of_opening error) (Region TooManyFiles) is c.from_residual-in_err-region.ensures.1 in
-    if_told old.told (λ holding. RestsNotRun c.args.options holding trace.names new.told) (λ holding told.
-    let With : List (List ℕ) → Type 0 = λ wanted. RestsNotRun c.args.options holding wanted new.told in
-    subst With (c.in_ok-wanted.ensures ∙ c.names.ensures) (record {
-      geometry = _;
-      page_is = refl;
-      entries_are = refl;
-      rests = told_at old.told _ holding told (c.in_err-region.ensures.rests (ap Err (opening_refused error TooManyFiles (sym stop))));
+          (λ disks are. back_again region.names holding.stores disks (home_distinct old holding (g.met.T.Bench.named c.args.bench.now) told c.requires.at_home.home)
+          (sym (states_many (map held ended.stores.items) disks are ∙ length-map ended.stores.items held ∙ c.run_region-parts.ensures.count ∙ made.one_each)) region.is_region.names_are.distinct)
+          (λ now disks now_are disks_are. c.give_back.ensures.told now disks now_are disks_are ∙ back_is old mid region.names holding made.lent c.requires.at_home.home told now disks);
     }))

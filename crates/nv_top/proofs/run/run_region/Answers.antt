@@ -12,7 +12,7 @@ use Rattle.nv_pmem.specs.Steps as lines
 use Rattle.nv_top.proofs.CauseLemmas.{stop_ends}
 use Rattle.nv_top.proofs.LifeLemmas.{left_same, rest_lives}
 use Rattle.nv_top.proofs.RunLemmas.{quiet_stores}
-use Rattle.nv_top.proofs.run.run_over.Goals as goal
+use Rattle.nv_top.proofs.run.run_region.Goals as goal
 
 pub returns-in-Ok-mount_over-clause-ran : goal.returns-in-Ok-mount_over-clause-ran
 returns-in-Ok-mount_over-clause-ran g c =

@@ -1,0 +1,83 @@
+use Rattle.std.proofs.Common.{◌≡◌, ◌+◌, ℕ, List, IfSome, map, sum_by, sym, subst}
+use Rattle.std.proofs.lemmas.Result.{IfOk-weaker}
+use Rattle.nv_plain.specs.Faults.{Rose, saturated}
+use Rattle.nv_pmem.specs.Part.{Part}
+use Rattle.nv_pmem.specs.RowStates.{AreNow}
+use Rattle.nv_store.specs.Store.{Store}
+use Rattle.nv_recover.specs.Standing.{files_of}
+use Rattle.nv_mount.specs.RisenCounts.{failed_before}
+use Rattle.nv_runner.specs.Faithful.{Basis}
+use Rattle.nv_top.specs.Runs.{BeginsMount, basis_over}
+use Rattle.nv_top.specs.Stopping.{HasStoppedOn, IsAway}
+use Rattle.std.proofs.Common.{◌∙◌, ap, arith, refl, length}
+use Rattle.std.proofs.lemmas.List.{length-map}
+use Rattle.nv_bench.specs.Holding.{Holding, named_stores}
+use Rattle.nv_open.proofs.Homes.{all_behind, own_stores}
+use Rattle.nv_store.proofs.RowReads.{length_now}
+use Rattle.nv_top.specs.Lives.{AreLeftSo, HasLived}
+use Rattle.nv_top.proofs.LifeLemmas.{left_same, lived_home, rest_lives}
+use Rattle.nv_top.proofs.RunLemmas.{quiet_stores}
+use Rattle.nv_top.proofs.StoppingLemmas.{home_with, if_some, stop_grows}
+use Rattle.nv_bench.specs.Benches.{BenchState}
+use Rattle.std.specs.Prelude.{Option, Some, option_map}
+use Rattle.nv_top.proofs.stopping.stop_region.Goals as goal
+
+pub returns-in-Ok-clause-ran : goal.returns-in-Ok-clause-ran
+returns-in-Ok-clause-ran g c =
+    let history = g.T.Part.Lines.history in
+    let held = g.T.Store.Backing.history in
+    let region = c.args.opened.region in
+    let stores = c.args.opened.stores.items in
+    let trace = c.args.trace.now in
+    let start = g.T.Bench.state c.args.bench.now in
+    let last = g.T.Bench.state c.stop_mount.new.bench in
+    let worker = c.args.options.worker in
+    let pick = c.args.options.image in
+    let before_picks = start.picked in
+    let before = sum_by g.T.Part.Lines.fault_count region.parts.items + sum_by g.T.Store.Backing.fault_count stores in
+    let mounted = failed_before c.in-Ok.pass in
+    IfOk-weaker c.stop_mount.result
+    (λ text. (basis : Basis) → BeginsMount basis trace c.in-Ok.mount c.in-Ok.pass → basis.names ≡ start.lent
+    → IfSome start.told (λ left. IsAway basis.names left → HasStoppedOn (Rose (saturated (start.faults + mounted)) last.faults) worker pick before_picks basis trace last text.items))
+    (λ text. (parts : List Part) (now : List Store) → AreNow (map history region.parts.items) parts → AreNow (map held stores) now
+    → IfSome start.told (λ left. IsAway region.names left → HasStoppedOn (Rose (saturated (start.faults + before)) last.faults) worker pick before_picks (basis_over region c.args.options.pages (files_of now)) trace last text.items))
+    (λ text ran parts now parts_are now_are.
+    let basis = basis_over region c.args.options.pages (files_of now) in
+    let Counted : ℕ → Type 0 = λ count. IfSome start.told (λ left. IsAway region.names left → HasStoppedOn (Rose (saturated (start.faults + count)) last.faults) worker pick before_picks basis trace last text.items) in
+    subst Counted c.in-Ok.ensures.counts (ran basis (c.in-Ok.ensures.begins parts now parts_are now_are) (sym c.requires.lent)))
+    c.stop_mount.ensures.ran
+
+pub returns-in-Ok-clause-never : goal.returns-in-Ok-clause-never
+returns-in-Ok-clause-never g c why is parts now parts_are now_are =
+    c.stop_mount.ensures.never why is (basis_over c.args.opened.region c.args.options.pages (files_of now)) (c.in-Ok.ensures.begins parts now parts_are now_are) (sym c.requires.lent)
+
+pub returns-in-Ok-clause-life : goal.returns-in-Ok-clause-life
+returns-in-Ok-clause-life g c parts now parts_are now_are =
+    c.stop_mount.ensures.life (basis_over c.args.opened.region c.args.options.pages (files_of now)) (c.in-Ok.ensures.begins parts now parts_are now_are) (sym c.requires.lent)
+
+pub returns-in-Err-clause-life : goal.returns-in-Err-clause-life
+returns-in-Err-clause-life g c parts now parts_are now_are =
+    let history = g.T.Part.Lines.history in
+    let held = g.T.Store.Backing.history in
+    let region = c.args.opened.region in
+    let stores = c.args.opened.stores.items in
+    let trace = c.args.trace.now in
+    let start = g.T.Bench.state c.args.bench.now in
+    let home = g.T.Bench.state c.give_back.new.self in
+    let basis = basis_over region c.args.options.pages (files_of now) in
+    let rest = rest_lives history held basis trace region.parts.items stores parts now region.geometry.page region.geometry.entries region.next parts_are now_are region.is_region.tells (quiet_stores held stores now now_are c.requires.synced) refl in
+    let left_so : AreLeftSo history held basis trace c.in-Err.field-0.parts.items c.in-Err.field-0.stores.items = left_same history held basis trace c.in-Err.field-0.parts.items region.parts.items c.in-Err.field-0.stores.items stores c.in-Err.ensures.same_parts c.in-Err.ensures.same_stores rest in
+    if_some start.told (λ left. IsAway region.names left → HasLived basis trace home.told) (λ left told_is away.
+    lived_home basis trace history held c.in-Err.field-0.parts.items c.in-Err.field-0.stores.items home.told left.stores (λ holding is. g.met.T.Bench.whole c.give_back.new.self holding is) left_so
+    (λ disks are. all_behind region.names left.stores (named_stores region.names disks) away
+    ∙ own_stores region.names disks (sym (length_now (map held c.in-Err.field-0.stores.items) disks are ∙ ap length (c.in-Err.ensures.same_stores) ∙ length-map stores held ∙ c.requires.stores)) region.is_region.names_are.distinct)
+    (λ back disks back_are disks_are. c.give_back.ensures.told back disks back_are disks_are
+    ∙ ap (λ (told : Option Holding). option_map (λ (holding : Holding). home_with holding start.lent back disks) told) told_is ∙ ap (λ names. Some (home_with left names back disks)) c.requires.lent))
+
+pub returns-in-Err-clause-never_falls : goal.returns-in-Err-clause-never_falls
+returns-in-Err-clause-never_falls g c =
+    let region = c.args.opened.region in
+    let failed = c.in-Err.field-0 in
+    let before = sum_by g.T.Part.Lines.fault_count region.parts.items + sum_by g.T.Store.Backing.fault_count c.args.opened.stores.items in
+    let now = sum_by g.T.Part.Lines.fault_count failed.parts.items + sum_by g.T.Store.Backing.fault_count failed.stores.items in
+    omega (arith, stop_grows before now failed.stop c.in-Err.ensures.cause, ap (λ (s : BenchState). s.faults) c.give_back.ensures.taken)

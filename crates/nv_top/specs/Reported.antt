@@ -1,0 +1,59 @@
+-- Reported: what a command, or a run of a trace, comes to: its report or its stop, the source, and the bench.
+use Rattle.std.specs.Prelude.{◌≡◌, ◌≢◌, ◌⊎◌, ◌≤◌, ℕ, Bool, List, [], ◌∷◌, Option, Some, None, IfSome, Result, Err, IfOk, IfErr, OnOk}
+use Rattle.std.specs.Global.{Vec}
+use Rattle.nv_plain.specs.Faults.{Rose}
+use Rattle.nv_bench.specs.Benches.{BenchState}
+use Rattle.nv_load.specs.declared.load.Load.{Load}
+use Rattle.nv_open.specs.declared.error.Refusal.{Refusal}
+use Rattle.nv_trace.specs.Traced.{Traced}
+use Rattle.nv_trace.specs.declared.trace.Form.TheVariants as forms
+use Rattle.nv_top.specs.Endings.{IsTrace}
+use Rattle.nv_top.specs.Headline.{IsArmedByAll, IsArmedBySome, IsCommandRefused, IsLeftAfter, IsLeftBy, IsRunRefused, IsShown, IsShownOf, IsUnhindered, UsesTurns, expected_faults, form_by}
+use Rattle.nv_top.specs.Lives.{LeavesLife, LeavesRun}
+use Rattle.nv_top.specs.Stopping.{IsSettledStop}
+use Rattle.nv_top.specs.Stops.{ComesBeforeOpening, IsCauseOf, IsFollowed, IsOwnStop}
+use Rattle.nv_top.specs.declared.ending.Stop.{Stop}
+use Rattle.nv_top.specs.declared.ending.Stop.TheVariants.{Usage, Read, Device, Region, NoMemory, Turns}
+use Rattle.nv_top.specs.declared.words.Command.{Command}
+use Rattle.nv_top.specs.declared.words.Command.TheVariants.{Run, Sched, Recover, Look, Gen}
+use Rattle.nv_top.specs.declared.words.RunOptions.{RunOptions}
+
+-- What a command comes to, if the words are one: its report, or why there is none. The source held the input `given`, and holds `left` of it, with so many faults before and now; the bench was `old`, and is `new`.
+-- Each field is the clause of the top call with its name, of a report or a stop where that has a status.
+pub record HasReported (over : Option Command) (given left : Option (List ℕ)) (before now : ℕ) (old new : BenchState) (result : Result (Vec ℕ) Stop) : Type 0 where
+  pub back : (command : Command) → over ≡ Some command → IsLeftBy command old new
+  pub cuts : (options : RunOptions) → over ≡ Some (Sched options) → IfSome given (λ input. IsArmedBySome input old new)
+  pub all_cuts : (options : RunOptions) → over ≡ Some (Sched options) → OnOk result (IfSome given (λ input. IsArmedByAll input old new))
+  pub usage : result ≡ Err Usage → over ≡ None
+  pub command : over ≡ None → ((result ≡ Err Usage) ⊎ (result ≡ Err NoMemory)) × (left ≡ given) × (new ≡ old)
+  pub bad_line : IfErr result (λ stop. IfSome given (IsCauseOf (form_by over) stop))
+  pub good_input : (options : RunOptions) → over ≡ Some (Run options) → OnOk result (IfSome given (λ input. IsTrace forms.Run input × (left ≡ Some [])))
+  pub good_schedule : (options : RunOptions) → over ≡ Some (Sched options) → IsFollowed result → IfSome given (λ input. IsTrace forms.Sched input × (left ≡ Some []))
+  pub unread : over ≡ Some Recover → left ≡ given
+  pub unread_look : (files : Bool) → over ≡ Some (Look files) → left ≡ given
+  pub unread_load : (load : Load) → over ≡ Some (Gen load) → left ≡ given
+  pub read_fault : result ≡ Err Read → Rose before now
+  pub read_sound : result ≢ Err Read → now ≡ before
+  pub device_fault : result ≡ Err Device → Rose (expected_faults old new) new.faults
+  pub device_sound : result ≢ Err Device → new.faults ≤ expected_faults old new
+  pub turns : result ≡ Err Turns → (options : RunOptions) × (over ≡ Some (Sched options)) × (new.picked ≡ options.image ∷ old.picked)
+  pub turns_used : result ≡ Err Turns → (options : RunOptions) → over ≡ Some (Sched options) → IfSome old.told (UsesTurns options given)
+  pub region : (why : Refusal) → result ≡ Err (Region why) → (command : Command) → over ≡ Some command → IfSome old.told (λ holding. IsCommandRefused command given old new holding why)
+  pub unarmed : (why : Refusal) → result ≡ Err (Region why) → IfSome given (λ input. IfSome old.told (λ holding. new.arms ≡ old.arms))
+  pub complete : (command : Command) → over ≡ Some command → IfSome old.told (λ holding. IsUnhindered command given holding (Rose before now) (Rose (expected_faults old new) new.faults) → IfErr result IsOwnStop)
+  pub counts : OnOk result (new.faults ≡ expected_faults old new)
+  pub never_falls : old.faults ≤ new.faults
+  pub life : (command : Command) → over ≡ Some command → IfSome old.told (λ was. LeavesLife command given was new.told)
+  pub unopened : IfErr result (λ stop. ComesBeforeOpening stop → new ≡ old)
+  pub report : IfOk result (λ text. (command : Command) → over ≡ Some command → IfSome old.told (λ holding. IsShown command given old new holding text.items))
+
+-- What a run of a trace comes to, which may be stopped: its report, or why there is none. The bench was `old`, and is `new`.
+pub record HasRunTrace (stop : Option ℕ) (options : RunOptions) (trace : Traced) (old new : BenchState) (result : Result (Vec ℕ) Stop) : Type 0 where
+  pub back : IsLeftAfter stop options.image old new
+  pub cause : IsSettledStop (expected_faults old new) new.faults result
+  pub turns : result ≢ Err Turns
+  pub never_falls : old.faults ≤ new.faults
+  pub life : IfSome old.told (λ was. LeavesRun options was trace new.told)
+  pub ran : IfOk result (λ text. IfSome old.told (λ holding. IsShownOf stop options old new holding trace text.items))
+  pub refused : (why : Refusal) → result ≡ Err (Region why) → IfSome old.told (λ holding. IsRunRefused options holding trace.names old new why)
+  pub unarmed : (why : Refusal) → result ≡ Err (Region why) → IfSome old.told (λ holding. new.arms ≡ old.arms)
