@@ -1,12 +1,12 @@
 //! Schedules that are followed over a mount, one step after another on one thread.
-use crate::benches::{new_bench, opened};
+use crate::benches::{new_bench, opened, power_off};
 use crate::given::{region_failing, stores};
 use crate::syncs::opened_over;
-use nv_open::Opened;
+use nv_open::{Opened, recover_region};
 use nv_plain::Reply;
-use nv_pmem::Fuse;
+use nv_pmem::{Fuse, Pick};
 use nv_runner::{Answer, sort_out};
-use nv_schedule::{ScheduleError, ScheduledCalls, run_schedule};
+use nv_schedule::{ScheduleError, Scheduled, ScheduledCalls, run_schedule};
 use nv_trace::{Form, MemSource, Trace, read_trace};
 use std::alloc::Global;
 use std::process::Abort;
@@ -41,6 +41,10 @@ const CUT_TWICE: &str = "file a\nfd 0 a rw\n0 pwrite 0 0 11\nsteps cut:60 0:load
 
 /// A write that no cut stands before.
 const PLAIN: &str = "file a\nfd 0 a rw\n0 pwrite 0 0 11\nsteps 0:done\n";
+
+/// Three writes over a log of two entries, with a batch behind each of the first two.
+const CLEANED_BETWEEN: &str =
+    "file a\nfd 0 a rw\n0 pwrite 0 0 00\n0 pwrite 0 1 01\n0 pwrite 0 2 02\nsteps 0:done w:done 0:done w:done 0:done\n";
 
 // A trace with a schedule.
 fn traced(alloc: Global, text: &str) -> Result<Trace, Fail> {
@@ -143,6 +147,37 @@ fn calls_behind_their_places_are_told_as_placed(rt: HostRuntime) -> Result<(), F
             Reply::Done => assert!(rt; false),
         }
     }
+    Ok(())
+}
+
+// Two batches have moved the tail behind the first two writes, and the last one stands in the log.
+#[test]
+fn a_recovery_finds_what_no_batch_has_cleaned(rt: HostRuntime) -> Result<(), Fail> {
+    let alloc = rt.alloc();
+    let trace = traced(alloc, CLEANED_BETWEEN)?;
+    let mut bench = new_bench(alloc)?;
+    let Opened { region, stores } = opened(&rt, alloc, &mut bench, 2)?;
+    let (mount, pass) = opened_over(alloc, region, stores)?;
+    let Scheduled {
+        closed,
+        outcome,
+        cut: _,
+    } = run_schedule(
+        alloc,
+        &mut bench,
+        mount,
+        pass,
+        trace.calls(),
+        trace.tokens(),
+        4,
+    );
+    assert_eq!(rt; outcome?.answered.len(), 3);
+    power_off(&rt, &mut bench, closed, Pick::Old)?;
+    let (_opened, found) = recover_region(alloc, &mut bench)?;
+    assert_eq!(rt;
+        (found.first, found.next, found.groups.as_slice()),
+        (2, 3, [2].as_slice())
+    );
     Ok(())
 }
 
