@@ -20,7 +20,7 @@ fate_of first groups number = if nat_lt number first || list_any (λ leader. lea
 
 -- a write that was left open, with its fate
 abbrev pub fated : (first : ℕ) → (groups : List ℕ) → Open → OpenCall
-fated first groups left = record { call = left.call.now; fate = fate_of first groups left.number }
+fated first groups write = record { call = write.call.now; fate = fate_of first groups write.number }
 
 -- what became of a call that was begun and drew no number: nothing of a write is in the files, and the others have no answer
 abbrev pub begun_fate : TraceCall → Fate
@@ -32,10 +32,10 @@ abbrev pub begun_call : TracedCall → OpenCall
 begun_call call = record { call = call; fate = begun_fate call.call }
 
 -- The open calls that a report shows: the writes that drew numbers, and those calls that were begun and drew none, in the order of their lines.
-pub record AreShownOpen (first : ℕ) (groups : List ℕ) (left : List Open) (begun : List TracedCall) (shown : List OpenCall) : Type 0 where
-  pub all : IsPermutation (map (fated first groups) left ++ map begun_call begun) shown
-  pub by_line : IsNonDecreasingBy (λ o. o.call.line) (map (fated first groups) left) → IsNonDecreasingBy (λ o. o.call.line) shown
-  pub none : begun ≡ [] → shown ≡ map (fated first groups) left
+pub record AreShownOpen (first : ℕ) (groups : List ℕ) (writes : List Open) (begun : List TracedCall) (shown : List OpenCall) : Type 0 where
+  pub all : IsPermutation (map (fated first groups) writes ++ map begun_call begun) shown
+  pub by_line : IsNonDecreasingBy (λ o. o.call.line) (map (fated first groups) writes) → IsNonDecreasingBy (λ o. o.call.line) shown
+  pub none : begun ≡ [] → shown ≡ map (fated first groups) writes
 
 -- the report of a run after a recovery, which shows these files
 abbrev pub fated_report : SortedCalls → recover.Recovered → (names : List (List ℕ)) → Files → Report

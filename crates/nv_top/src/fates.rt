@@ -13,13 +13,13 @@ use std::alloc::Global;
 /// All calls that were left open, in the order of their lines: the writes that drew numbers, with what a recovery made of each, and those that were begun and drew none.
 pub(crate) fn open_fates<'a>(
     alloc: Global,
-    left: &[Open<'a>],
+    writes: &[Open<'a>],
     begun: &[&'a TracedCall],
     found: &Recovered,
 ) -> Result<Vec<Fated<'a>>, NoMemory>
-    ensures { IfOk result (λ all. AreShownOpen found.now.first found.now.groups left.now (map (λ call. call.now) begun.now) (map fated_call all.items)) }
+    ensures { IfOk result (λ all. AreShownOpen found.now.first found.now.groups writes.now (map (λ call. call.now) begun.now) (map fated_call all.items)) }
 {
-    let mut all = fates(alloc, left, found)?;
+    let mut all = fates(alloc, writes, found)?;
     if begun.is_empty() {
         return Ok(all);
     }
@@ -46,13 +46,13 @@ fn begun_fate(call: &TraceCall) -> Fate
 // The writes that were left open and drew numbers, with what a recovery made of each.
 fn fates<'a>(
     alloc: Global,
-    left: &[Open<'a>],
+    writes: &[Open<'a>],
     found: &Recovered,
 ) -> Result<Vec<Fated<'a>>, NoMemory>
-    ensures { IfOk result (λ all. map fated_call all.items ≡ map (fated found.now.first found.now.groups) left.now) }
+    ensures { IfOk result (λ all. map fated_call all.items ≡ map (fated found.now.first found.now.groups) writes.now) }
 {
     let mut all = Vec::new(alloc);
-    for one in left {
+    for one in writes {
         let fate = fate_of(one.number, found);
         all.push(Fated {
             call: one.call,

@@ -123,13 +123,13 @@ fn schedule_region<T: Bench>(
         → (T.state bench.old).told ≡ None }
     ensures turns { result ≡ Err stops.Turns → (T.state bench.new).picked ≡ options.image ∷ (T.state bench.old).picked }
     ensures life { (parts : List Part) (now : List Store) → AreNow (map T.Part.history opened.region.parts.items) parts → AreNow (map T.Store.history opened.stores.items) now
-        → IfSome (T.state bench.old).told (λ left. IsAway opened.region.names left → HasLived (basis_over opened.region options.pages (files_of now)) trace.now (T.state bench.new).told) }
+        → IfSome (T.state bench.old).told (λ home. IsAway opened.region.names home → HasLived (basis_over opened.region options.pages (files_of now)) trace.now (T.state bench.new).told) }
     ensures used { result ≡ Err stops.Turns → (parts : List Part) (now : List Store)
         → AreNow (map T.Part.history opened.region.parts.items) parts → AreNow (map T.Store.history opened.stores.items) now
         → HasUsedTurns options (basis_over opened.region options.pages (files_of now)) trace.now }
     ensures scheduled { IfOk result (λ text. (parts : List Part) (now : List Store)
         → AreNow (map T.Part.history opened.region.parts.items) parts → AreNow (map T.Store.history opened.stores.items) now
-        → IfSome (T.state bench.old).told (λ left. IsAway opened.region.names left
+        → IfSome (T.state bench.old).told (λ home. IsAway opened.region.names home
         → HasScheduledOn (Rose (saturated ((T.state bench.old).faults
         + (sum_by T.Part.fault_count opened.region.parts.items + sum_by T.Store.fault_count opened.stores.items))) (T.state bench.new).faults)
         options (T.state bench.old).picked (basis_over opened.region options.pages (files_of now)) trace.now (T.state bench.new) text.items)) }
@@ -184,10 +184,10 @@ fn schedule_mount<T: Bench>(
         → basis.names ≡ (T.state bench.old).lent → (T.state bench.old).told ≡ None }
     ensures turns { result ≡ Err stops.Turns → (T.state bench.new).picked ≡ options.image ∷ (T.state bench.old).picked }
     ensures life { (basis : Basis) → BeginsMount basis trace.now mount pass → basis.names ≡ (T.state bench.old).lent
-        → IfSome (T.state bench.old).told (λ left. IsAway basis.names left → HasLived basis trace.now (T.state bench.new).told) }
+        → IfSome (T.state bench.old).told (λ home. IsAway basis.names home → HasLived basis trace.now (T.state bench.new).told) }
     ensures used { result ≡ Err stops.Turns → (basis : Basis) → BeginsMount basis trace.now mount pass → HasUsedTurns options basis trace.now }
     ensures scheduled { IfOk result (λ text. (basis : Basis) → BeginsMount basis trace.now mount pass → basis.names ≡ (T.state bench.old).lent
-        → IfSome (T.state bench.old).told (λ left. IsAway basis.names left
+        → IfSome (T.state bench.old).told (λ home. IsAway basis.names home
         → HasScheduledOn (Rose (saturated ((T.state bench.old).faults + failed_before pass)) (T.state bench.new).faults)
         options (T.state bench.old).picked basis trace.now (T.state bench.new) text.items)) }
 {

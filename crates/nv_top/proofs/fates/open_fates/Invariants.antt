@@ -5,4 +5,4 @@ use Rattle.nv_top.specs.Outcomes.{fated_call}
 use Rattle.nv_top.proofs.fates.open_fates.Given as goal
 
 abbrev pub invariant-loop-call : goal.invariant-loop-call
-invariant-loop-call l = map fated_call l.all.items ≡ map (fated l.found.first l.found.groups) l.left ++ map begun_call (map (λ call. call.now) (take l.call-index l.begun))
+invariant-loop-call l = map fated_call l.all.items ≡ map (fated l.found.first l.found.groups) l.writes ++ map begun_call (map (λ call. call.now) (take l.call-index l.begun))
