@@ -32,12 +32,31 @@ fn keep<R: Wait, L: Lines + Drop, B: Backing + Drop>(
     ensures called { HasCalled mount.now.board pass.old pass.new }
 {
     for (at, record) in records {
-        pwrite(rt, mount, pass, desk, fd, at, &record)?;
-        let mut back = [0; 6];
-        pread(rt, mount, pass, fd, at, &mut back)?;
-        if back != record {
-            bail!("a record was not read as it was written");
-        }
+        keep_one(rt, mount, pass, desk, fd, at, record)?;
+    }
+    Ok(())
+}
+
+// Writes a record, and reads it back.
+fn keep_one<R: Wait, L: Lines + Drop, B: Backing + Drop>(
+    rt: &R,
+    mount: &Mount<L, B>,
+    pass: &mut Pass<L, B>,
+    desk: &mut Workspace<L, B>,
+    fd: u64,
+    at: u64,
+    record: [u8; 6],
+) -> anyhow::Result<()>
+    requires ready { IsReady mount.now.board pass.old }
+    requires free { IsFree mount.now.board desk.old }
+    ensures called { HasCalled mount.now.board pass.old pass.new }
+    ensures free { IsFree mount.now.board desk.new }
+{
+    pwrite(rt, mount, pass, desk, fd, at, &record)?;
+    let mut back = [0; 6];
+    pread(rt, mount, pass, fd, at, &mut back)?;
+    if back != record {
+        bail!("a record was not read as it was written");
     }
     Ok(())
 }

@@ -2,8 +2,12 @@
 //! folder, which the first word names, and read them back; then the log is carried to the file, and the mount is closed.
 #![tactic(auto)]
 
-ghost use Rattle.std.specs.Prelude.{◌≡◌, ◌<◌, [], false, IfSome};
+ghost use Rattle.std.specs.Prelude.{◌≡◌, ◌<◌, [], false, true, length, All, IfOk, IfSome};
+ghost use Rattle.nv_plain.specs.Layouts.{version_1};
+ghost use Rattle.nv_pmem.specs.Moments.{Tells};
+ghost use Rattle.nv_store.specs.Store.{IsQuietStore};
 ghost use Rattle.nv_bench.specs.Holding.{IsQuietHolding};
+ghost use Rattle.nv_open.specs.Adding.{AreWanted};
 ghost use Rattle.nv_table.specs.passes.Alone.{IsAlone};
 ghost use Rattle.nv_table.specs.state.Views.{made_of};
 ghost use Rattle.nv_example.specs.Ready.{IsReady};
@@ -13,10 +17,10 @@ mod calls;
 use anyhow::Context;
 use calls::{clean, keep_both, show};
 use nv_bench::{Bench, FolderBench};
-use nv_header::Names;
+use nv_header::{Names, Region};
 use nv_mount::{Fds, Mount};
 use nv_open::{Opened, open};
-use nv_plain::{Bytes, Mode};
+use nv_plain::{Bytes, Mode, NoMemory};
 use nv_pmem::{Geometry, Lines};
 use nv_store::Backing;
 use nv_table::{
@@ -44,13 +48,45 @@ fn run<R: Threads + Wait + Print + Sync, T: Bench>(
     requires home { (T.state bench.old).lent ≡ [] }
     requires quiet { IfSome (T.state bench.old).told IsQuietHolding }
 {
+    let names = names_of(alloc)?;
+    let Opened { region, stores } = open(alloc, bench, Geometry::new(4096, 64)?, &names)?;
+    hold(rt, alloc, bench, region, stores)
+}
+
+// The name of its file.
+fn names_of(alloc: Global) -> Result<Names, NoMemory>
+    ensures { IfOk result (AreWanted version_1) }
+{
     let mut names = Names::new(alloc);
     names.push(Bytes::from_vec(Vec::from_slice(alloc, b"records")?))?;
-    let Opened { region, stores } = open(alloc, bench, Geometry::new(4096, 64)?, &names)?;
-    let mut known = region.names().as_slice().iter();
+    Ok(names)
+}
+
+// Its descriptor, in a region of these files.
+fn fd_of(alloc: Global, names: &Names) -> anyhow::Result<(Fds, u64)>
+    ensures { IfOk result (λ made. All (λ fd. fd.file < length names.now) made.0) }
+{
+    let mut known = names.as_slice().iter();
     let file = known.position(|name| name.as_slice() == b"records".as_slice());
     let mut fds = Fds::new(alloc);
     let fd = fds.open(file.context("the file isn't there")? as u64, Mode::Rw)?;
+    Ok((fds, fd))
+}
+
+// Opens a mount over a region that is lent, has Ann call, and gives all back.
+fn hold<R: Threads + Wait + Print + Sync, T: Bench>(
+    rt: &R,
+    alloc: Global,
+    bench: &mut T,
+    region: Region<T::Part>,
+    stores: Vec<T::Store>,
+) -> anyhow::Result<()>
+    requires open { (T.state bench.old).is_open ≡ true }
+    requires lent { (T.state bench.old).lent ≡ region.names }
+    requires stores { length stores.items ≡ length region.names }
+    requires quiet { All (λ store. Tells (T.Store.history store) IsQuietStore) stores.items }
+{
+    let (fds, fd) = fd_of(alloc, region.names())?;
     let (mount, mut ann) = match Mount::open(alloc, region, stores, fds, 16, 8) {
         Ok(made) => made,
         Err(unopened) => return Err(unopened.error.into()),
