@@ -5,3 +5,4 @@ pub mod BetweenLaws
 pub mod AloneAgain
 pub mod AloneLaws
 pub mod MomentLaws
+pub mod KnownLaws

@@ -4,3 +4,4 @@ pub mod PassesMade
 pub mod Alone
 pub mod BetweenCalls
 pub mod Moments
+pub mod Known

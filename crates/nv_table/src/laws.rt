@@ -1,6 +1,7 @@
 //! What of the core's laws the table rests on, and laws of passes that calls rest on.
 ghost use Rattle.nv_table.specs.passes.Alone.{CallsLeaveAlone, HeadStaysKnown, JoinsLeaveAlone, LoadsTellHead, NoDrawIsLost, NoLockIsHeld, NothingComesBetween, StaysAlone};
 ghost use Rattle.nv_table.specs.passes.BetweenCalls.{NewPassIsIdle, SplitsLeaveIdle, JoinsLeaveIdle};
+ghost use Rattle.nv_table.specs.passes.Known.{StepsFindWhatIsKnown, StepsForgetNothing};
 ghost use Rattle.nv_table.specs.invariant.CoreLaws.{CoreLaws};
 
 use nv_core::{passes_are_left_alone, runs_are_sound, words_have_places_of_their_own};
@@ -41,3 +42,13 @@ pub fn a_pass_is_alone_again()
     ensures calls { CallsLeaveAlone }
     ensures join { JoinsLeaveAlone }
 {}
+
+/// No step of a pass finds less than it knows: what it has seen, and what those that it took in had. Behind one that met a fault pass 0 finds STOP set; HEAD and
+/// TAIL are no lower than any of them saw, and its place comes behind all calls that they had seen. And no step forgets any of it.
+pub fn steps_find_what_is_known()
+    ensures finds { StepsFindWhatIsKnown }
+    ensures keeps { StepsForgetNothing }
+{
+    runs_are_sound();
+    passes_are_left_alone();
+}

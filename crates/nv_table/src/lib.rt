@@ -33,7 +33,10 @@ pub use acting::{Change, StepSpec};
 pub use board::{Board, Refused};
 pub use closing::Closed;
 pub use exchanges::exchange;
-pub use laws::{a_pass_alone_is_not_refused, a_pass_is_alone_again, passes_stay_between_calls};
+pub use laws::{
+    a_pass_alone_is_not_refused, a_pass_is_alone_again, passes_stay_between_calls,
+    steps_find_what_is_known,
+};
 pub use layout::{CLEANER, HAND, HEAD, HEADER, Layout, ORDER, STOP, TAIL};
 pub use pass::Pass;
 pub use seats::{ExportedView, export_view, import_view, join_pass, look_at, split_pass};

@@ -1,6 +1,8 @@
 //! How passes are made and taken in, and how one tells another the run so far.
 ghost use Rattle.std.specs.Prelude.{◌≡◌, ◌≢◌, ◌+◌, ◌<◌, ◌≤◌, ◌^◌, List, [], ◌∷◌, ℕ, length, IfOk, OnErr};
+ghost use Rattle.nv_core.specs.state.Core.{with_seen};
 ghost use Rattle.nv_core.specs.state.Words.{Word};
+ghost use Rattle.nv_table.specs.passes.Known.{known_by};
 ghost use Rattle.nv_table.specs.passes.Moments.{SharesMoment, longer};
 ghost use Rattle.nv_table.specs.passes.PassesMade.{IsShownStill, IsSplit, PutsBack, IsTakenIn, imported_by};
 ghost use Rattle.nv_table.specs.state.Views.{pass_of, made_of};
@@ -126,7 +128,8 @@ pub(crate) fn put_back<L: Lines, B: Backing>(board: &Board<L, B>, pass: &mut Pas
 }
 
 /// Takes in a pass that pass 0 made, whatever it is at: what it owns goes home first, while the locks of these cells stay shut, and what it
-/// has drawn for a write that has no place goes over. No device call may have come since its last step. Takes no memory.
+/// has drawn for a write that has no place goes over. Pass 0 knows then what the other had seen, too: the longer history, the greater HEAD and TAIL, and STOP
+/// of either, and no step of it finds less. No device call may have come since its last step. Takes no memory.
 pub fn join_pass<L: Lines + Drop, B: Backing + Drop>(
     board: &Board<L, B>,
     pass: &mut Pass<L, B>,
@@ -139,6 +142,7 @@ pub fn join_pass<L: Lines + Drop, B: Backing + Drop>(
     requires staying { (pass_of pass.old.view).left ≡ [] }
     requires still { IsShownStill other }
     ensures taken { IsTakenIn pass.old other pass.new }
+    ensures learns { known_by pass.new.view ≡ with_seen (known_by pass.old.view) (pass_of other.view) }
 {
     runs_are_sound();
     passes_are_left_alone();

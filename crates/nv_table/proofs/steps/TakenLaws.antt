@@ -32,7 +32,7 @@ ended_quiet sizes core (event ∷ later) number run one =
     own_none number (event ∷ []) later (own_else number event (λ is. run.0.there (subst (IsOneOf core.ended) (sym is) one)))
     (ended_quiet sizes (after_event sizes event core) later number run.1 (act_keeps sizes event.by core event.act number one))
 
-number_there : (pasts : List Past) (past : Past) → IsOneOf pasts past → IsOneOf (numbers pasts) past.number
+pub number_there : (pasts : List Past) (past : Past) → IsOneOf pasts past → IsOneOf (numbers pasts) past.number
 number_there [] past one = one
 number_there (first ∷ rest) past (inl is) = inl (ap (λ (p : Past). p.number) is)
 number_there (first ∷ rest) past (inr later) = inr (number_there rest past later)

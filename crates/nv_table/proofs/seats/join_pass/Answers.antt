@@ -5,6 +5,7 @@ use Rattle.nv_table.specs.state.Views.{SeesAll, PassView, pass_of, slot_times}
 use Rattle.nv_table.specs.state.States.{PassState}
 use Rattle.nv_table.proofs.passes.BetweenLaws.{last_taken, puts_number, none_shown, owns_slots_none, few_taken, joined_pass, may_join, passed_in, is_taken_in}
 use Rattle.nv_table.proofs.invariant.PassLaws.{same_places, joined_inherited}
+use Rattle.nv_table.proofs.passes.KnownLaws.{learns}
 use Rattle.nv_table.proofs.seats.join_pass.Goals as goal
 
 pub take_in-requires-clause-other_some : goal.take_in-requires-clause-other_some
@@ -52,15 +53,16 @@ invariant_of-pass g c =
           c.other.invariant.0.drawn_is c.pass.invariant.2,
     )
 
-pub returns : goal.returns
-returns g c =
+pub returns-clause-taken : goal.returns-clause-taken
+returns-clause-taken g c =
     let shown = slot_value (part_value g.L.Lines.device g.L.Lines.history g.L.Lines.fault_count g.L.Lines.room) (store_value g.B.Backing.device g.B.Backing.history g.B.Backing.fault_count) in
-    record {
-      taken = is_taken_in shown c.pass.inside.seat.table_id c.join.new.seat.table_id c.pass.inside.seat.me c.join.new.seat.me c.args.pass.now c.args.other c.other.inside.seat.me.0
-          c.put_back.ensures.back.0 c.join.result c.pass.view_is
-          (subst (λ (p : PassState). PutsBack c.put_back.ensures.back.0 c.args.other.view p.view) (sym c.other.view_is) c.put_back.ensures.back.1)
-          (c.join.ensures.table ∙ c.take_in.ensures.table)
-          (c.join.ensures.slots ∙ ap (λ me. me.1) c.take_in.ensures.joined)
-          (passed_in c.pass.inside.seat.me.0 c.other.inside.seat.me.0 c.take_in.new.seat.me.0 c.join.new.seat.me.0 c.join.result (ap (λ me. me.0) c.take_in.ensures.joined) c.join.ensures.passed)
-          (subst (λ (v : PassView). SeesAll (last_taken v.ended).number (last_taken v.ended).run c.join.new.seat.me.0.run) (ap (λ me. me.0) c.take_in.ensures.joined) c.join.ensures.behind);
-    }
+    is_taken_in shown c.pass.inside.seat.table_id c.join.new.seat.table_id c.pass.inside.seat.me c.join.new.seat.me c.args.pass.now c.args.other c.other.inside.seat.me.0
+    c.put_back.ensures.back.0 c.join.result c.pass.view_is
+    (subst (λ (p : PassState). PutsBack c.put_back.ensures.back.0 c.args.other.view p.view) (sym c.other.view_is) c.put_back.ensures.back.1)
+    (c.join.ensures.table ∙ c.take_in.ensures.table)
+    (c.join.ensures.slots ∙ ap (λ me. me.1) c.take_in.ensures.joined)
+    (passed_in c.pass.inside.seat.me.0 c.other.inside.seat.me.0 c.take_in.new.seat.me.0 c.join.new.seat.me.0 c.join.result (ap (λ me. me.0) c.take_in.ensures.joined) c.join.ensures.passed)
+    (subst (λ (v : PassView). SeesAll (last_taken v.ended).number (last_taken v.ended).run c.join.new.seat.me.0.run) (ap (λ me. me.0) c.take_in.ensures.joined) c.join.ensures.behind)
+
+pub returns-clause-learns : goal.returns-clause-learns
+returns-clause-learns g c = learns c.args.pass.now c.args.other _ c.requires.zero (c.requires.other_board.same_mount ∙ sym c.requires.board.same_mount) (returns-clause-taken g c)
