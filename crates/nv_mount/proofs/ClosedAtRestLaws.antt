@@ -1,5 +1,5 @@
 -- Laws about what comes out of a mount that is closed where its log is empty.
-use Rattle.std.proofs.Common.{◌≡◌, ℕ, zero, suc, ◌+◌, ◌<◌, ◌≤◌, List, [], ◌∷◌, ◌++◌, length, get_or, map, take, inl, inr, refl, sym, ap, subst, ◌∙◌, arith, append-nil}
+use Rattle.std.proofs.Common.{◌≡◌, ℕ, zero, suc, ◌+◌, ◌<◌, ◌≤◌, false, List, [], ◌∷◌, ◌++◌, length, get_or, map, take, inl, inr, refl, sym, ap, subst, ◌∙◌, arith, append-nil}
 use Rattle.std.specs.Prelude.{Some}
 use Rattle.std.specs.List.{All, AllZip, range_with_len}
 use Rattle.std.proofs.Math.ListN.{get_or-eq_default}
@@ -44,12 +44,12 @@ use Rattle.nv_table.specs.state.Layout.{cell_of}
 use Rattle.nv_table.specs.state.Opened.{Opened, mount_of, state_of}
 use Rattle.nv_table.specs.state.SlotValues.{present, part_value, store_value}
 use Rattle.nv_table.specs.state.Views.{PassView, first_view, pass_of, made_of}
-use Rattle.nv_mount.specs.ClosedAtRest.{HasEmptiedLog, AreAtRest, RestsWhereEmpty, files_then}
+use Rattle.nv_mount.specs.ClosedAtRest.{HasEmptiedLog, AreAtRest, HaveFilesWhereEmpty, RestsWhereEmpty, files_then}
 use Rattle.nv_mount.specs.LoneWords.{word_then}
 use Rattle.nv_mount.specs.Telling.{IsSeen, StoresHave}
 use Rattle.nv_mount.specs.WholeRuns.{IsWholeRun}
 use Rattle.nv_core.specs.steps.Frames.{OwnEventsTell}
-use Rattle.nv_mount.proofs.ClosedFilesLaws.{store_shown, part_shown}
+use Rattle.nv_mount.proofs.ClosedFilesLaws.{no_pieces, store_shown, part_shown}
 use Rattle.nv_mount.proofs.ListLaws.{now_many}
 use Rattle.nv_mount.proofs.LastStateLaws.{LastLog, last_log, none_hold, none_to_place, header_kept, entry_kept, region_image}
 
@@ -110,13 +110,40 @@ module _ {L B : Type 0} (device : L → ℕ) (history : L → PartHistory) (faul
   histories_many : length (map store_history stores) ≡ sizes.files
   histories_many = length-map stores store_history ∙ stores_many
 
+  is_sound : Sound sizes (mount_of view.opened).values at_last
+  is_sound = sound (mount_of view.opened) view.run mount whole.is_run
+
+  -- ---- the stores
+
+  store_here : (file : ℕ) → file < sizes.files → store_of_value (at_last.values (STORE file)) ≡ present (get_or (map store_history stores) file [])
+  store_here = store_shown device history faults room store_device store_history store_faults view parts stores placed tail parts_many stores_many whole
+
+  -- they have these files, where all of them tell, and read so
+  have_these : (files : Files) → ((file : ℕ) → file < sizes.files → (store : Store) × (store_of_value (at_last.values (STORE file)) ≡ Some store)) → files ≡ store_files sizes at_last.values → StoresHave (map store_history stores) files
+  have_these files told are =
+      subst (λ (fs : Files). AllZip IsSeen (map store_history stores) fs.contents) (sym are)
+      (subst (λ n. AllZip IsSeen (map store_history stores) (map (λ file. store_bytes (at_last.values (STORE file))) (range_with_len 0 n))) histories_many
+      (zip_seen (map store_history stores) (λ file. store_bytes (at_last.values (STORE file))) 0 (λ file less.
+      let within : file < sizes.files = omega (arith, histories_many, less) in
+      let tells = told file within in
+      let from : file ≡ 0 + file = omega arith in
+      subst (λ n. IsSeen (get_or (map store_history stores) file []) (store_bytes (at_last.values (STORE n)))) from
+      (seen_here (get_or (map store_history stores) file []) (at_last.values (STORE file)) (store_here file within) tells.0 tells.1))))
+
+  pub have_files : HaveFilesWhereEmpty view (map store_history stores)
+  have_files files log opens owned taken none =
+      let first = is_sound.grouped.log in
+      let content = keeps (mount_of view.opened) files view.opened.next first (λ _. false) view.run mount log opens.stores whole.is_run in
+      have_these (files_then view files) (λ file within. content.tell.each file within)
+      (ap (λ calls. after_calls calls files) (sym (append-nil (calls_of at_last.history)))
+      ∙ ap (λ calls. after_calls (calls_of at_last.history ++ calls) files)
+      (sym (none_to_place sizes (mount_of view.opened).values _ _ at_last is_sound content.flight (none_hold sound view mount whole.is_run zero_is knows all tell owned taken)))
+      ∙ no_pieces sizes _ files at_last content.live none)
+
   module _ (files : Files) (names : List (List ℕ)) (log : OpensLog (mount_of view.opened) view.opened.next) (opens : Opens (mount_of view.opened) files)
       (region : OpensRegion (mount_of view.opened) names) (emptied : HasEmptiedLog view) where
     idle : (by : ℕ) → (at_last.passes by).owned ≡ []
     idle = none_hold sound view mount whole.is_run zero_is knows all tell emptied.owned emptied.taken
-
-    is_sound : Sound sizes (mount_of view.opened).values at_last
-    is_sound = sound (mount_of view.opened) view.run mount whole.is_run
 
     last : LastLog view files names
     last = last_log sound keeps region_stays view mount whole.is_run files names log opens region
@@ -137,27 +164,6 @@ module _ {L B : Type 0} (device : L → ℕ) (history : L → PartHistory) (faul
         omega (arith, low, order, high, none, retired)
 
     -- ---- the stores
-
-    store_here : (file : ℕ) → file < sizes.files → store_of_value (at_last.values (STORE file)) ≡ present (get_or (map store_history stores) file [])
-    store_here = store_shown device history faults room store_device store_history store_faults view parts stores placed tail parts_many stores_many whole
-
-    files_are : files_then view files ≡ store_files sizes at_last.values
-    files_are =
-        ap (λ calls. after_calls calls files) (sym (append-nil (calls_of at_last.history)))
-        ∙ ap (λ calls. after_calls (calls_of at_last.history ++ calls) files)
-        (sym (none_to_place sizes (mount_of view.opened).values last.log last.placed at_last is_sound last.content.flight idle))
-        ∙ in_stores.files
-
-    have : StoresHave (map store_history stores) (files_then view files)
-    have =
-        subst (λ (fs : Files). AllZip IsSeen (map store_history stores) fs.contents) (sym files_are)
-        (subst (λ n. AllZip IsSeen (map store_history stores) (map (λ file. store_bytes (at_last.values (STORE file))) (range_with_len 0 n))) histories_many
-        (zip_seen (map store_history stores) (λ file. store_bytes (at_last.values (STORE file))) 0 (λ file less.
-        let within : file < sizes.files = omega (arith, histories_many, less) in
-        let told = last.content.tell.each file within in
-        let from : file ≡ 0 + file = omega arith in
-        subst (λ n. IsSeen (get_or (map store_history stores) file []) (store_bytes (at_last.values (STORE n)))) from
-        (seen_here (get_or (map store_history stores) file []) (at_last.values (STORE file)) (store_here file within) told.0 told.1))))
 
     durable : All (λ history. Tells history IsQuietStore) (map store_history stores)
     durable = λ file none less.
@@ -219,7 +225,7 @@ module _ {L B : Type 0} (device : L → ℕ) (history : L → PartHistory) (faul
 
     pub at_rest : AreAtRest sizes names (files_then view files) (map history parts) (map store_history stores) tail
     at_rest = record {
-      have = have;
+      have = have_files files log opens emptied.owned emptied.taken emptied.none;
       durable = durable;
       region = row_tells_from row (IsAtRest version_1 sizes.page sizes.entries names tail) (λ states are. record { quiet = record { each = quiet_at states are }; empty = empty_at states are });
       none = row_tells_from row (InEachRowImage (λ image. committed image ≡ [])) (λ states are image is. in_stores.committed image (image_at states are image is));

@@ -27,7 +27,7 @@ use Rattle.nv_mount.specs.WholeRuns.{IsWholeRun}
 use Rattle.nv_mount.proofs.WholeRunLaws.{there}
 
 -- an empty log has no live piece
-no_pieces : (sizes : Sizes) (log : Log) (opened : Files) (core : Core) → LivePieces sizes log opened core → core.words TAIL ≡ core.words HEAD
+pub no_pieces : (sizes : Sizes) (log : Log) (opened : Files) (core : Core) → LivePieces sizes log opened core → core.words TAIL ≡ core.words HEAD
     → after_calls (calls_of core.history ++ to_place core) opened ≡ store_files sizes core.values
 no_pieces sizes log opened core live none =
     let zero : core.words HEAD - core.words TAIL ≡ 0 = omega (arith, none) in

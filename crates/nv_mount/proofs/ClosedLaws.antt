@@ -19,13 +19,13 @@ use Rattle.nv_table.specs.state.Opened.{Opened, mount_of, IsRunOf}
 use Rattle.nv_table.specs.state.SlotValues.{part_value, store_value, slot_value}
 use Rattle.nv_table.specs.state.States.{BoardState, PassState, IsOf}
 use Rattle.nv_table.specs.state.Views.{made_of}
-use Rattle.nv_mount.specs.ClosedAtRest.{RestsWhereEmpty}
+use Rattle.nv_mount.specs.ClosedAtRest.{HaveFilesWhereEmpty, RestsWhereEmpty}
 use Rattle.nv_mount.specs.ClosedFiles.{ReadAsFiles}
 use Rattle.nv_mount.specs.OneHistories.{HasOneHistory}
 use Rattle.nv_mount.specs.Telling.{AllDevicesTell, DevicesGoOnTelling, IsTelling, KeepLines}
 use Rattle.nv_mount.specs.WholeRuns.{IsWholeRun}
 use Rattle.nv_mount.specs.WholeWrites.{CrashesLeaveWholeWrites}
-use Rattle.nv_mount.proofs.ClosedAtRestLaws.{rests_where_empty}
+use Rattle.nv_mount.proofs.ClosedAtRestLaws.{have_files, rests_where_empty}
 use Rattle.nv_mount.proofs.ClosedFilesLaws.{read_as_files}
 use Rattle.nv_mount.proofs.HistoryLaws.{one_history}
 use Rattle.nv_mount.proofs.TellingLaws.{keep_lines, parts_tell, spares_told, stores_tell}
@@ -51,6 +51,11 @@ module _ {L B : Type 0} (device : L → ℕ) (history : L → PartHistory) (faul
 
   pub reads : RunsKeepTheLog → ReadAsFiles pass.view (map store_history stores) tail
   reads keeps = read_as_files device history faults room store_device store_history store_faults pass.view parts stores placed tail many_parts many_stores whole sound keeps mount
+
+  pub have : OwnEventsTell → RunsKeepTheLog → RunsKeepRegion → EmptyLogsRest → EachPartHasOne → HaveFilesWhereEmpty pass.view (map store_history stores)
+  have tell keeps region_stays empty each =
+      have_files device history faults room store_device store_history store_faults pass.view parts stores placed tail many_parts many_stores whole
+      sound tell keeps region_stays empty each mount zero_is knows all
 
   pub rests : OwnEventsTell → RunsKeepTheLog → RunsKeepRegion → EmptyLogsRest → EachPartHasOne → RestsWhereEmpty pass.view (map history parts) (map store_history stores) tail
   rests tell keeps region_stays empty each =

@@ -41,6 +41,12 @@ pub record AreAtRest (sizes : Sizes) (names : List (List ℕ)) (files : Files) (
 abbrev pub files_then : PassView → Files → Files
 files_then view files = after_calls (calls_of (history_then view)) files
 
+-- Where no number is in the log of a mount, and neither pass 0 nor one that it took in holds a cell, the stores that come out have the files after the history, whatever STOP says.
+abbrev pub HaveFilesWhereEmpty : PassView → (stores : List StoreHistory) → Type 0
+HaveFilesWhereEmpty view stores =
+    (files : Files) → OpensLog (mount_of view.opened) view.opened.next → Opens (mount_of view.opened) files
+    → (pass_of view).owned ≡ [] → TakenHoldNothing view → word_then view TAIL ≡ word_then view HEAD → StoresHave stores (files_then view files)
+
 -- Where pass 0 has left the log of a mount empty, the stores that come out have the files after the history, and stores and parts are at rest.
 abbrev pub RestsWhereEmpty : PassView → (parts : List PartHistory) (stores : List StoreHistory) (tail : ℕ) → Type 0
 RestsWhereEmpty view parts stores tail =

@@ -15,7 +15,7 @@ ghost use Rattle.nv_table.specs.state.Opened.{mount_of};
 ghost use Rattle.nv_table.specs.state.Views.{made_of};
 ghost use Rattle.nv_table.specs.state.States.{IsOf};
 ghost use Rattle.nv_mount.specs.Mounts.{AreLengths, HasLengthsCause, HasOpenCause, IsOpened};
-ghost use Rattle.nv_mount.specs.ClosedAtRest.{HasEmptiedLog, RestsWhereEmpty};
+ghost use Rattle.nv_mount.specs.ClosedAtRest.{HasEmptiedLog, HaveFilesWhereEmpty, RestsWhereEmpty};
 ghost use Rattle.nv_mount.specs.ClosedFiles.{ReadAsFiles};
 ghost use Rattle.nv_mount.specs.OneHistories.{HasOneHistory};
 ghost use Rattle.nv_mount.specs.RisenCounts.{SawStop, failed_before};
@@ -151,7 +151,7 @@ impl<L: Lines + Drop, B: Backing + Drop> Mount<L, B> {
     /// opened, and more often where one of the passes saw STOP set; and where all devices told then, all that come out tell,
     /// and no part has more or fewer lines. Over stores and parts that tell, whatever a power failure leaves of them recovers to the
     /// files after the history and then some of the writes in flight, each whole; where no pass holds a cell, these are writes that faults
-    /// ended, and where the log is empty and STOP is 0 too, the stores have all files and are durable, and the parts are a region at rest.
+    /// ended, and where the log is empty too, the stores have all files; where STOP is 0 besides, they are durable, and the parts are a region at rest.
     /// No device call may have come since the pass's last step. Takes no memory.
     pub fn close(
         self,
@@ -168,6 +168,7 @@ impl<L: Lines + Drop, B: Backing + Drop> Mount<L, B> {
             (map (store_value B.device B.history B.fault_count) closed.stores.items) closed.placed closed.tail) }
         ensures history { IfOk result (λ closed. HasOneHistory pass.view closed.placed) }
         ensures files { IfOk result (λ closed. ReadAsFiles pass.view (map B.history closed.stores.items) closed.tail) }
+        ensures stored { IfOk result (λ closed. HaveFilesWhereEmpty pass.view (map B.history closed.stores.items)) }
         ensures rest { IfOk result (λ closed. RestsWhereEmpty pass.view (map L.history closed.parts.items) (map B.history closed.stores.items) closed.tail) }
         ensures crash { IfOk result (λ closed. CrashesLeaveWholeWrites pass.view (map L.history closed.parts.items) (map B.history closed.stores.items)) }
         ensures telling { IfOk result (λ closed. DevicesGoOnTelling pass (map L.history closed.parts.items) (map B.history closed.stores.items)) }

@@ -1,7 +1,7 @@
 use Rattle.std.proofs.Common.{sym, subst, arith}
 use Rattle.nv_table.specs.state.States.{IsOf}
 use Rattle.nv_mount.specs.Mounts.{MountState}
-use Rattle.nv_mount.proofs.ClosedLaws.{whole, has_one_history, reads, rests, crash, go_on_telling, lines_stay}
+use Rattle.nv_mount.proofs.ClosedLaws.{whole, has_one_history, have, reads, rests, crash, go_on_telling, lines_stay}
 use Rattle.nv_mount.proofs.StoppedLaws.{counts_grew, counts_rose}
 use Rattle.nv_mount.proofs.mount.Mount.close.Goals as goal
 
@@ -23,6 +23,13 @@ returns-clause-files g c =
     reads g.L.Lines.device g.L.Lines.history g.L.Lines.fault_count g.L.Lines.room g.B.Backing.device g.B.Backing.history g.B.Backing.fault_count
     c.self.inside.board c.args.pass c.close.result.parts.items c.close.result.stores.items c.close.result.placed c.close.result.tail (subst (λ (m : MountState). IsOf m.board c.args.pass) (sym c.self.view_is) c.requires.board) c.close.ensures
     c.runs_are_sound.ensures.runs c.sees_a_run.ensures.mount c.sees_a_run.ensures.run c.requires.zero (c.has_taken_in.ensures c.requires.zero) (omega arith) c.runs_keep_the_log.ensures.runs
+
+pub returns-clause-stored : goal.returns-clause-stored
+returns-clause-stored g c =
+    have g.L.Lines.device g.L.Lines.history g.L.Lines.fault_count g.L.Lines.room g.B.Backing.device g.B.Backing.history g.B.Backing.fault_count
+    c.self.inside.board c.args.pass c.close.result.parts.items c.close.result.stores.items c.close.result.placed c.close.result.tail (subst (λ (m : MountState). IsOf m.board c.args.pass) (sym c.self.view_is) c.requires.board) c.close.ensures
+    c.runs_are_sound.ensures.runs c.sees_a_run.ensures.mount c.sees_a_run.ensures.run c.requires.zero (c.has_taken_in.ensures c.requires.zero) (omega arith)
+    c.passes_are_left_alone.ensures.own c.runs_keep_the_log.ensures.runs c.crashes_leave_whole_writes.ensures.region c.empty_logs_rest.ensures.rest c.rows_have_states.ensures.each
 
 pub returns-clause-rest : goal.returns-clause-rest
 returns-clause-rest g c =
