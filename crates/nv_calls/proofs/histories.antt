@@ -2,6 +2,7 @@
 pub mod CompleteLaws
 pub mod FaultLaws
 pub mod HeedsLaws
+pub mod LeftWordLaws
 pub mod SinceLaws
 pub mod UnmovedLaws
 pub mod WriteStages

@@ -2,5 +2,6 @@
 pub mod Complete
 pub mod Faults
 pub mod Heeds
+pub mod LeftWords
 pub mod Tries
 pub mod Unmoved

@@ -2,6 +2,7 @@
 ghost use Rattle.nv_calls.specs.histories.Complete.{ReadsAreComplete, SyncsAreComplete};
 ghost use Rattle.nv_calls.specs.histories.Faults.{ReadsOpenNothing, SyncsOpenNothing, WritesOpen};
 ghost use Rattle.nv_calls.specs.histories.Heeds.{ReadsHeedStop, SyncsHeedStop};
+ghost use Rattle.nv_calls.specs.histories.LeftWords.{LockingStepsLeaveTheRest, PassingStepsLeaveWhatStays};
 ghost use Rattle.nv_calls.specs.writes.WriteLaws.{RefusedWritesLeaveWords, WritesAreComplete, WritesHeedStop};
 
 use nv_core::{passes_are_left_alone, runs_are_sound};
@@ -37,9 +38,16 @@ pub fn refused_writes_leave_words()
 }
 
 /// A call that isn't refused by what it asks for is done, where each lock that it takes is free, STOP is 0, no number is used up, the log has room for a write's
-/// entries, no other write draws between, and no device fails.
+/// entries, no other write draws between, and no device fails; and one that is done has found all that, where no device has failed.
 pub fn calls_are_complete()
     ensures reads { ReadsAreComplete }
     ensures writes { WritesAreComplete }
     ensures syncs { SyncsAreComplete }
+{}
+
+/// What the steps of a refused call leave as it was: those of a read, for no device fault, add no call to the history and change no word but locks, HAND, hints,
+/// and the ENTRY of an entry that was made ready; those of a write no word but locks.
+pub fn own_steps_leave_words()
+    ensures passing { PassingStepsLeaveWhatStays }
+    ensures locking { LockingStepsLeaveTheRest }
 {}

@@ -15,7 +15,8 @@ mod writing;
 pub use admit::early_read_refusal;
 pub use alone::a_read_alone_is_not_busy;
 pub use laws::{
-    calls_are_complete, ended_calls_heed_stop, faults_open_writes, refused_writes_leave_words,
+    calls_are_complete, ended_calls_heed_stop, faults_open_writes, own_steps_leave_words,
+    refused_writes_leave_words,
 };
 pub use nv_cache::MOST_PAGE;
 pub use nv_mirror::{Done, Refusal};

@@ -37,8 +37,8 @@ use Rattle.nv_calls.specs.histories.Heeds.{HasSeenStop, HeedsStop, is_stop_load,
 use Rattle.nv_mirror.specs.OwnSteps.{is_own, gives_back, AreOwn}
 use Rattle.nv_mirror.specs.Answers.{refusal_in_answer}
 use Rattle.nv_calls.specs.calls.EndedCalls.{IsCallOver}
-use Rattle.nv_mirror.proofs.StopLaws.{sets_stop}
-use Rattle.nv_mirror.specs.PassSteps.{PassStep, HasTaken, HasMade, stops_in, IsBetweenSteps, is_fault, either_of, refused_by, refusal_in, if_own, busy_at, head_in}
+use Rattle.nv_mirror.proofs.StopLaws.{IsFault, faults_are, sets_stop}
+use Rattle.nv_mirror.specs.PassSteps.{PassStep, HasTaken, HasMade, stops_in, IsBetweenSteps, is_fault, either_of, fault_in, refused_by, refusal_in, if_own, busy_at, head_in}
 
 -- ---- one step
 
@@ -119,15 +119,22 @@ load_refuses : (sizes : Sizes) (call : FileCall) (head : ℕ) (works : List Work
 load_refuses sizes call head works op found load set =
     ap (λ d. refused_by sizes call head works d found) load ∙ ap (refused_by sizes call head works (Load STOP)) set
 
-module _ (sound : RunsAreSound) (sizes : Sizes) (call : FileCall) (start : PassState) (mount : IsMount (mount_of start.view.opened)) (seen : HasSeenStop start) where
+-- each load of STOP among the steps since a start finds it set
+abbrev pub FindsStop : PassState → Type 0
+FindsStop start = (step : PassStep) (earlier : List PassStep) (now : PassState) → HasMade (step ∷ earlier) start now → step.op ≡ Load STOP → step.found ≡ 1
+
+seen_finds : RunsAreSound → (start : PassState) → IsMount (mount_of start.view.opened) → HasSeenStop start → FindsStop start
+seen_finds sound start mount seen step earlier now made is =
+    let taken = made.2 in
+    let at = subst (λ (o : Opened). IsMount (mount_of o)) (sym (ap (λ (view : PassView). view.opened) taken.between.view ∙ made_opened earlier start made.0 made.1)) mount in
+    let stepped = subst (λ d. Postcondition taken.before step.opens d step.found now) is taken.stepped in
+    load_finds sound taken.before now step.opens step.found at stepped (seen_between made.0 taken.before taken.between (made_stays earlier start made.0 made.1 seen))
+
+module _ (sizes : Sizes) (call : FileCall) (start : PassState) (set : FindsStop start) where
   last_refuses : (step : PassStep) (earlier : List PassStep) (now : PassState) → HasMade (step ∷ earlier) start now → is_stop_load step.op ≡ true → refused_by sizes call (head_in earlier) step.works step.op step.found ≡ Some Stopped
   last_refuses step earlier now made load =
-      let taken = made.2 in
       let is = load_of step.op load in
-      let at = subst (λ (o : Opened). IsMount (mount_of o)) (sym (ap (λ (view : PassView). view.opened) taken.between.view ∙ made_opened earlier start made.0 made.1)) mount in
-      let stepped = subst (λ d. Postcondition taken.before step.opens d step.found now) is taken.stepped in
-      load_refuses sizes call (head_in earlier) step.works step.op step.found is
-      (load_finds sound taken.before now step.opens step.found at stepped (seen_between made.0 taken.before taken.between (made_stays earlier start made.0 made.1 seen)))
+      load_refuses sizes call (head_in earlier) step.works step.op step.found is (set step earlier now made is)
 
   own_open : (refusal : Option Refusal) (op : Op) → op ≡ Load STOP → is_own call refusal op ≡ true → refusal ≡ None
   own_open None op load own = refl
@@ -145,6 +152,59 @@ module _ (sound : RunsAreSound) (sizes : Sizes) (call : FileCall) (start : PassS
           let load : is_stop_load step.op ≡ true = sym (ap (λ b. b || is_stop_load step.op) before) ∙ loads in
           ap (λ r. either_of r (refused_by sizes call (head_in (other ∷ earlier)) step.works step.op step.found)) (own_open (refusal_in sizes call (other ∷ earlier)) step.op (load_of step.op load) own.1)
           ∙ last_refuses step (other ∷ earlier) now made load
+
+-- ---- a call that is answered that the mount is stopped came to its load of STOP
+
+-- a refusal is another
+abbrev IsOther : Option Refusal → Type 0
+IsOther (Some Stopped) = ⊥
+IsOther refusal = Unit {0}
+
+other_both : (b : Bool) (one other : Option Refusal) → IsOther one → IsOther other → IsOther (if b then one else other)
+other_both true one other first last = first
+other_both false one other first last = last
+
+fault_other : (refusal : Option Refusal) → IsFault refusal → IsOther refusal
+fault_other (Some RegionFault) fault = tt
+fault_other (Some StoreFault) fault = tt
+fault_other (Some refusal) fault = absurd fault
+fault_other None fault = tt
+
+other_so : (refusal : Option Refusal) → IsOther refusal → refusal ≡ Some Stopped → ⊥
+other_so refusal other is = subst IsOther is other
+
+stopped_by : (sizes : Sizes) (call : FileCall) (head : ℕ) (works : List Work) (op : Op) (found : ℕ) → refused_by sizes call head works op found ≡ Some Stopped → is_stop_load op ≡ true
+stopped_by sizes call head works (Take (PAGE page)) found is =
+    let busy = other_both (found == 0) None (Some (Busy (place sizes (PAGE page)))) tt tt in
+    absurd (other_so _ (other_both (found == 0) None (if_own sizes call page (busy_at sizes (PAGE page) found)) tt
+    (other_both (is_among (first_page sizes call) (end_page sizes call) page) (busy_at sizes (PAGE page) found) None busy tt)) is)
+stopped_by sizes call head works (Take cell) found is = absurd (other_so _ (other_both (found == 0) None (Some (Busy (place sizes cell))) tt tt) is)
+stopped_by sizes call head works (Load STOP) found is = refl
+stopped_by sizes call head works (Load ORDER) found is = absurd (other_so _ (other_both (nat_lt found (2 ^ 60)) None (Some (Spent found)) tt tt) is)
+stopped_by sizes call head works (Load HEAD) found is = absurd (other_so _ (other_both _ (Some (Spent found)) None tt tt) is)
+stopped_by sizes call head works (Load TAIL) found is = absurd (other_so _ (other_both _ (Some (Again head found)) None tt tt) is)
+stopped_by sizes call head works Draw found is = absurd (other_so _ (other_both (found == head) None (Some (Raced head found)) tt tt) is)
+stopped_by sizes call head works Stop found is = absurd (other_so _ (fault_other (fault_in works) (faults_are works)) is)
+stopped_by sizes call head works op found is = absurd (cc)
+
+or_first : (one other : Bool) → one ≡ true → (one || other) ≡ true
+or_first one other is = ap (λ b. b || other) is
+
+or_last : (one other : Bool) → other ≡ true → (one || other) ≡ true
+or_last true other is = refl
+or_last false other is = is
+
+looked_at_stop : (sizes : Sizes) (call : FileCall) (steps : List PassStep) → refusal_in sizes call steps ≡ Some Stopped → loads_stop steps ≡ true
+looked_at_stop sizes call [] is = absurd (cc)
+looked_at_stop sizes call (step ∷ earlier) is = by (refusal_in sizes call earlier) refl (looked_at_stop sizes call earlier)
+  where
+    by : (before : Option Refusal) → refusal_in sizes call earlier ≡ before → (refusal_in sizes call earlier ≡ Some Stopped → loads_stop earlier ≡ true) → loads_stop (step ∷ earlier) ≡ true
+    by (Some refusal) so looked =
+        let same = sym (ap (λ r. either_of r (refused_by sizes call (head_in earlier) step.works step.op step.found)) so) ∙ is in
+        or_first (loads_stop earlier) (is_stop_load step.op) (looked (so ∙ same))
+    by None so looked =
+        or_last (loads_stop earlier) (is_stop_load step.op)
+        (stopped_by sizes call (head_in earlier) step.works step.op step.found (sym (ap (λ r. either_of r (refused_by sizes call (head_in earlier) step.works step.op step.found)) so) ∙ is))
 
 -- ---- answers
 
@@ -217,7 +277,7 @@ pub early_tells : (may : Mode → Bool) (sizes : Sizes) (fd : Option Fd) (at len
 early_tells may sizes None at len = refl
 early_tells may sizes (Some one) at len = tells_neither (may one.mode) (early_range_refusal sizes at len) (Some BadFd) (range_tells sizes at len) refl
 
-stopped_is : (result : Result Done Refusal) → refusal_in_answer result ≡ Some Stopped → result ≡ Err Stopped
+pub stopped_is : (result : Result Done Refusal) → refusal_in_answer result ≡ Some Stopped → result ≡ Err Stopped
 stopped_is (Ok done) is = absurd (cc)
 stopped_is (Err refusal) is = let same : refusal ≡ Stopped = cc in ap Err same
 
@@ -235,6 +295,7 @@ refused_heeds refusal start now result silent is same = record {
   stays = λ seen. subst (λ (p : PassState). HasSeenStop p) (sym same) seen;
   told = λ tells. absurd (never (tells_stop result) (ap tells_stop is ∙ answer_tells (Err refusal) ∙ silent) tells);
   heeds = λ seen loads. cc;
+  looked = λ stopped. absurd (never (refusal_tells (Some refusal)) silent (ap (λ r. refusal_tells (refusal_in_answer r)) (sym is ∙ stopped)));
   sets = sym (ap (λ r. is_fault (refusal_in_answer r)) is ∙ untold_mild (Some refusal) silent);
 }
 
@@ -245,7 +306,8 @@ made_heeds sound call steps start now result mount made own refused set = record
   made = made;
   stays = made_stays steps start now made;
   told = answer_seen start.view.opened.sizes call steps start now result made refused;
-  heeds = λ seen loads. stopped_is result (sym refused ∙ comes_to_stop sound start.view.opened.sizes call start mount seen steps now made own loads);
+  heeds = λ seen loads. stopped_is result (sym refused ∙ comes_to_stop start.view.opened.sizes call start (seen_finds sound start mount seen) steps now made own loads);
+  looked = λ stopped. looked_at_stop start.view.opened.sizes call steps (refused ∙ ap refusal_in_answer stopped);
   sets = set;
 }
 

@@ -33,11 +33,17 @@ abbrev pub AllFind : Sizes → FileCall → List PassStep → Type 0
 AllFind sizes call [] = Unit {0}
 AllFind sizes call (step ∷ earlier) = Finds sizes call (head_in earlier) step.op step.found × (fault_in step.works ≡ None) × AllFind sizes call earlier
 
--- A call of a descriptor's file that isn't refused by what it asks for is done, where its steps find what they need.
+-- no device call before some steps has failed
+abbrev pub NoneFailed : List PassStep → Type 0
+NoneFailed [] = Unit {0}
+NoneFailed (step ∷ earlier) = (fault_in step.works ≡ None) × NoneFailed earlier
+
+-- A call of a descriptor's file that isn't refused by what it asks for is done, where its steps find what they need; and only there, where no device call has failed.
 pub record IsComplete (asks : (file : ℕ) → FileCall) (early : Option Refusal) (file : Option ℕ) (start now : PassState) (result : Result Done Refusal) : Type 0 where
   pub steps : List PassStep
   pub made : HasMade steps start now
   pub done : early ≡ None → (one : ℕ) → file ≡ Some one → AllFind start.view.opened.sizes (asks one) steps → (answer : Done) × (result ≡ Ok answer)
+  pub needed : (answer : Done) → result ≡ Ok answer → (one : ℕ) → file ≡ Some one → NoneFailed steps → AllFind start.view.opened.sizes (asks one) steps
 
 -- ---- reads
 

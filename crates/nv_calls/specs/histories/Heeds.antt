@@ -37,13 +37,15 @@ tells_stop (Err StoreFault) = true
 tells_stop result = false
 
 -- A call of a pass by which it goes on: one that had seen STOP still has; so has one that is told of it; and a call of one that had is answered that the
--- mount is stopped, where it comes to its load of STOP. One of its steps sets STOP exactly where it is answered that a device has failed.
+-- mount is stopped, where it comes to its load of STOP, and only there is a call answered so. One of its steps sets STOP exactly where it is answered that a
+-- device has failed.
 pub record HeedsStop (start now : PassState) (result : Result Done Refusal) : Type 0 where
   pub steps : List PassStep
   pub made : HasMade steps start now
   pub stays : HasSeenStop start → HasSeenStop now
   pub told : tells_stop result ≡ true → HasSeenStop now
   pub heeds : HasSeenStop start → loads_stop steps ≡ true → result ≡ Err Stopped
+  pub looked : result ≡ Err Stopped → loads_stop steps ≡ true
   pub sets : stops_in steps ≡ is_fault (refusal_in_answer result)
 
 -- So an fsync, which comes to that load with its first step.
