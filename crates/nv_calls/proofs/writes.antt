@@ -1,3 +1,4 @@
 -- Laws about writes.
 pub mod MachineLaws
 pub mod OverLaws
+pub mod RefusalLaws

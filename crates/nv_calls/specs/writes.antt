@@ -2,3 +2,4 @@
 pub mod Writes
 pub mod WriteLaws
 pub mod WriteMachines
+pub mod Refusals

@@ -1,8 +1,10 @@
 //! Laws of calls that are over.
 ghost use Rattle.nv_calls.specs.histories.Complete.{ReadsAreComplete, SyncsAreComplete};
 ghost use Rattle.nv_calls.specs.histories.Faults.{ReadsOpenNothing, SyncsOpenNothing, WritesOpen};
+ghost use Rattle.nv_calls.specs.histories.GoingOn.{ReadsGoOn, SyncsGoOn, WritesGoOn};
 ghost use Rattle.nv_calls.specs.histories.Heeds.{ReadsHeedStop, SyncsHeedStop};
 ghost use Rattle.nv_calls.specs.histories.LeftWords.{LockingStepsLeaveTheRest, PassingStepsLeaveWhatStays};
+ghost use Rattle.nv_calls.specs.writes.Refusals.{WritesTellWhatIsKnown};
 ghost use Rattle.nv_calls.specs.writes.WriteLaws.{RefusedWritesLeaveWords, WritesAreComplete, WritesHeedStop};
 
 use nv_core::{passes_are_left_alone, runs_are_sound};
@@ -44,6 +46,19 @@ pub fn calls_are_complete()
     ensures writes { WritesAreComplete }
     ensures syncs { SyncsAreComplete }
 {}
+
+/// A call goes on from all that its pass knows, by itself and by those that it took in. So pass 0 is answered that the mount is stopped behind a pass that met a
+/// fault, and its call takes its place behind all calls that another had seen. Where a write is refused by HEAD or TAIL these were no lower than is known; where
+/// another one drew its numbers HEAD has risen; and it is never answered that a store has failed.
+pub fn calls_go_on_from_what_is_known()
+    ensures reads { ReadsGoOn }
+    ensures writes { WritesGoOn }
+    ensures syncs { SyncsGoOn }
+    ensures refusals { WritesTellWhatIsKnown }
+{
+    runs_are_sound();
+    passes_are_left_alone();
+}
 
 /// What the steps of a refused call leave as it was: those of a read, for no device fault, add no call to the history and change no word but locks, HAND, hints,
 /// and the ENTRY of an entry that was made ready; those of a write no word but locks.

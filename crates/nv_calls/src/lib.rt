@@ -13,10 +13,10 @@ mod write;
 mod writing;
 
 pub use admit::early_read_refusal;
-pub use alone::a_read_alone_is_not_busy;
+pub use alone::{a_read_alone_is_not_busy, a_write_alone_meets_nobody};
 pub use laws::{
-    calls_are_complete, ended_calls_heed_stop, faults_open_writes, own_steps_leave_words,
-    refused_writes_leave_words,
+    calls_are_complete, calls_go_on_from_what_is_known, ended_calls_heed_stop, faults_open_writes,
+    own_steps_leave_words, refused_writes_leave_words,
 };
 pub use nv_cache::MOST_PAGE;
 pub use nv_mirror::{Done, Refusal};

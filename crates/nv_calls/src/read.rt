@@ -1,17 +1,22 @@
 //! Reads of files.
 ghost use Rattle.std.specs.Prelude.{◌≡◌, ◌≢◌, ℕ, IfOk, OnErr};
 ghost use Rattle.nv_table.specs.invariant.Idle.{IsIdle, IsLater};
+ghost use Rattle.nv_table.specs.passes.Alone.{IsAlone};
 ghost use Rattle.nv_table.specs.state.States.{IsOf, PassState};
 ghost use Rattle.nv_mirror.specs.Answers.{IsReadPlaced, IsUnplaced};
 ghost use Rattle.nv_calls.specs.fsync.SyncRuns.{file_of_fd};
 ghost use Rattle.nv_calls.specs.histories.Complete.{IsCompleteRead};
+ghost use Rattle.nv_calls.specs.histories.GoingOn.{GoesOn, GoesOnAtLast};
 ghost use Rattle.nv_calls.specs.histories.Heeds.{HeedsStop};
 ghost use Rattle.nv_calls.specs.reads.Reads.{IsReadOver};
 ghost use Rattle.nv_calls.specs.histories.Tries.{IsTried};
 ghost use Rattle.nv_mirror.specs.declared.answers.Refusal.TheVariants.{Busy};
 
 use crate::admit::{Access, admit};
-use crate::{calls_are_complete, ended_calls_heed_stop};
+use crate::{
+    a_read_alone_is_not_busy, calls_are_complete, calls_go_on_from_what_is_known,
+    ended_calls_heed_stop,
+};
 use nv_cache::RunningRead;
 use nv_core::{passes_are_left_alone, runs_are_sound};
 use nv_mirror::{Done, Refusal};
@@ -26,8 +31,8 @@ use std::thread::yield_now;
 /// before, come to the front of `buf`, and the answer tells how many they are, and the call's place in the history, which is how many calls stand
 /// before it. It reads what plain files have after these. Refused by what it asks for before any step: a descriptor that isn't there or may not be
 /// read, an end past the last page of a file, more pages than 16 or than the log has entries; then where a lock was found held, where STOP was found
-/// set, where ORDER was found used up, and after a device fault. A refused call has no place, and its pass holds nothing; what `buf` has then
-/// isn't said. Takes no memory, and waits for nobody.
+/// set, where ORDER was found used up, and after a device fault. While no other pass is out no lock is found held. A refused call has no place, and its pass holds
+/// nothing; what `buf` has then isn't said. Takes no memory, and waits for nobody.
 pub fn try_pread<L: Lines + Drop, B: Backing + Drop>(
     mount: &Mount<L, B>,
     pass: &mut Pass<L, B>,
@@ -45,13 +50,18 @@ pub fn try_pread<L: Lines + Drop, B: Backing + Drop>(
     ensures kept { OnErr result (IsUnplaced pass.old.view pass.new.view) }
     ensures over { IsReadOver mount.now.fds fd at buf.new pass.old pass.new result }
     ensures stop { HeedsStop pass.old pass.new result }
+    ensures known { GoesOn pass.old pass.new result }
     ensures complete { IsCompleteRead mount.now.fds fd at buf.new pass.old pass.new result }
+    ensures alone { IsAlone pass.old.view → (cell : ℕ) → result ≢ Err (Busy cell) }
 {
     runs_are_sound();
     passes_are_left_alone();
     ended_calls_heed_stop();
+    calls_go_on_from_what_is_known();
     calls_are_complete();
+    a_read_alone_is_not_busy();
     pass.sees_a_run();
+    pass.has_taken_in();
     let len = buf.len() as u64;
     let file = admit(mount, Access::Reads, fd, at, len)?;
     let board = mount.board();
@@ -79,6 +89,7 @@ pub fn pread<R: Wait, L: Lines + Drop, B: Backing + Drop>(
     ensures free { (cell : ℕ) → result ≢ Err (Busy cell) }
     ensures over { (last : PassState) × IsUnplaced pass.old.view last.view × IsReadOver mount.now.fds fd at buf.new last pass.new result }
     ensures tried { IsTried mount.now.fds fd at buf.new pass.old pass.new result }
+    ensures known { GoesOnAtLast pass.old pass.new result }
 {
     for _ in rt.forever() {
         let result = try_pread(mount, pass, fd, at, buf);

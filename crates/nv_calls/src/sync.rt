@@ -5,9 +5,10 @@ ghost use Rattle.nv_table.specs.state.States.{IsOf};
 ghost use Rattle.nv_mirror.specs.Answers.{IsSyncPlaced, IsUnplaced};
 ghost use Rattle.nv_calls.specs.fsync.SyncRuns.{IsSyncRun, file_of_fd};
 ghost use Rattle.nv_calls.specs.histories.Complete.{IsCompleteSync};
+ghost use Rattle.nv_calls.specs.histories.GoingOn.{SyncGoesOn};
 ghost use Rattle.nv_calls.specs.histories.Heeds.{SyncHeedsStop};
 
-use crate::{calls_are_complete, ended_calls_heed_stop};
+use crate::{calls_are_complete, calls_go_on_from_what_is_known, ended_calls_heed_stop};
 use nv_mirror::{Done, PagelessControl, PagelessMachine, Refusal};
 use nv_mount::Mount;
 use nv_op::Asked;
@@ -34,11 +35,14 @@ pub fn try_fsync<L: Lines + Drop, B: Backing + Drop>(
     ensures kept { OnErr result (IsUnplaced pass.old.view pass.new.view) }
     ensures sync_run { IsSyncRun (file_of_fd mount.now.fds fd) pass.old pass.new result }
     ensures stop { SyncHeedsStop mount.now.fds fd pass.old pass.new result }
+    ensures known { SyncGoesOn mount.now.fds fd pass.old pass.new result }
     ensures complete { IsCompleteSync mount.now.fds fd pass.old pass.new result }
 {
     ended_calls_heed_stop();
+    calls_go_on_from_what_is_known();
     calls_are_complete();
     pass.sees_a_run();
+    pass.has_taken_in();
     let Some(open) = mount.fds().get(fd) else {
         return Err(Refusal::BadFd);
     };

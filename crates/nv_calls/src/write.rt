@@ -1,17 +1,25 @@
 //! Writes of files.
-ghost use Rattle.std.specs.Prelude.{◌≡◌, ℕ, false, [], Some, IfOk, OnErr};
+ghost use Rattle.std.specs.Prelude.{◌≡◌, ◌≢◌, ℕ, false, [], Some, IfOk, OnErr};
 ghost use Rattle.nv_table.specs.invariant.Idle.{IsIdle, IsLater};
+ghost use Rattle.nv_table.specs.passes.Alone.{IsAlone};
+ghost use Rattle.nv_table.specs.passes.Known.{known_by};
 ghost use Rattle.nv_table.specs.state.States.{IsOf};
 ghost use Rattle.nv_table.specs.state.Workspaces.{IsWorkspace};
 ghost use Rattle.nv_mirror.specs.Answers.{IsUnplaced};
+ghost use Rattle.nv_mirror.specs.declared.answers.Refusal.TheVariants.{StoreFault};
 ghost use Rattle.nv_calls.specs.fsync.SyncRuns.{file_of_fd};
+ghost use Rattle.nv_calls.specs.histories.GoingOn.{GoesOn, GoesOnAtLast};
 ghost use Rattle.nv_calls.specs.histories.Heeds.{HeedsStop};
 ghost use Rattle.nv_calls.specs.histories.Unmoved.{LeavesWords};
+ghost use Rattle.nv_calls.specs.writes.Refusals.{IsWriteRefusal, MeetsNobody};
 ghost use Rattle.nv_calls.specs.writes.WriteLaws.{IsCompleteWrite};
 ghost use Rattle.nv_calls.specs.writes.Writes.{IsWriteOver, IsWritePlaced, IsWriteTried, ends_to_be_made_again};
 
 use crate::admit::{Access, admit};
-use crate::{calls_are_complete, ended_calls_heed_stop, refused_writes_leave_words};
+use crate::{
+    a_write_alone_meets_nobody, calls_are_complete, calls_go_on_from_what_is_known,
+    ended_calls_heed_stop, refused_writes_leave_words,
+};
 use nv_mirror::{Done, Refusal};
 use nv_mount::Mount;
 use nv_op::Asked;
@@ -28,7 +36,8 @@ use std::thread::yield_now;
 /// the log has entries; then where a lock was found held, where STOP was found set, where ORDER was found used up or HEAD leaves too few numbers, where the
 /// log has no room for its entries until some are cleaned, where another write drew its numbers, and after a device fault. A refused call has no place, and
 /// its pass holds nothing; but for a device fault it has changed no word of the mount but locks, which it gave back. One that finds its locks free, STOP at 0,
-/// numbers and room in the log, HEAD as it loaded it and no device that fails is done. Takes no memory, and waits for nobody: the parts of its entries lie on the pass's workspace while they are
+/// numbers and room in the log, HEAD as it loaded it and no device that fails is done; while no other pass is out its locks are free, and HEAD is as it loaded it. It calls no store, so none
+/// is told to have failed. Takes no memory, and waits for nobody: the parts of its entries lie on the pass's workspace while they are
 /// written, on which no part lies else.
 pub fn try_pwrite<L: Lines + Drop, B: Backing + Drop>(
     mount: &Mount<L, B>,
@@ -51,14 +60,20 @@ pub fn try_pwrite<L: Lines + Drop, B: Backing + Drop>(
     ensures over { IsWriteOver mount.now.fds fd at bytes.now pass.old pass.new result }
     ensures left { LeavesWords pass.old pass.new result }
     ensures stop { HeedsStop pass.old pass.new result }
+    ensures known { GoesOn pass.old pass.new result }
+    ensures refused { IsWriteRefusal (known_by pass.old.view) result }
     ensures complete { IsCompleteWrite mount.now.fds fd at bytes.now pass.old pass.new result }
+    ensures alone { IsAlone pass.old.view → MeetsNobody result }
     ensures workspace { IsWorkspace mount.now.board.opened.sizes workspace.new }
     ensures bare { workspace.new.parts.items ≡ [] }
 {
     ended_calls_heed_stop();
     refused_writes_leave_words();
+    calls_go_on_from_what_is_known();
     calls_are_complete();
+    a_write_alone_meets_nobody();
     pass.sees_a_run();
+    pass.has_taken_in();
     let board = mount.board();
     let layout = board.layout();
     let file = admit(mount, Access::Writes, fd, at, bytes.len() as u64)?;
@@ -105,6 +120,8 @@ pub fn pwrite<R: Wait, L: Lines + Drop, B: Backing + Drop>(
     ensures kept { OnErr result (IsUnplaced pass.old.view pass.new.view) }
     ensures free { ends_to_be_made_again result ≡ false }
     ensures tried { IsWriteTried mount.now.fds fd at bytes.now pass.old pass.new result }
+    ensures known { GoesOnAtLast pass.old pass.new result }
+    ensures stores { result ≢ Err StoreFault }
     ensures workspace { IsWorkspace mount.now.board.opened.sizes workspace.new }
     ensures bare { workspace.new.parts.items ≡ [] }
 {

@@ -37,7 +37,7 @@ use Rattle.nv_mirror.proofs.StopLaws.{IsFault, faults_are, own_plain}
 -- ---- how far a write is
 
 -- before its draw, or else
-abbrev is_early : Control → Bool
+abbrev pub is_early : Control → Bool
 is_early (TakePage page) = true
 is_early LoadLength = true
 is_early TakeSize = true
@@ -48,13 +48,13 @@ is_early WriteLoadTail = true
 is_early DrawNumbers = true
 is_early control = false
 
-abbrev IsEarly : Control → Type 0
+abbrev pub IsEarly : Control → Type 0
 IsEarly control = is_early control ≡ true
 
-abbrev IsLate : Control → Type 0
+abbrev pub IsLate : Control → Type 0
 IsLate control = is_early control ≡ false
 
-late_or_early : {T : Type 0} (one : Bool) → one ≡ false → one ≡ true → T
+pub late_or_early : {T : Type 0} (one : Bool) → one ≡ false → one ≡ true → T
 late_or_early one late early = absurd (cc)
 
 leaving_late : (owned : List Word) → IsLate (leaving owned)
@@ -65,7 +65,7 @@ leaving_late (cell ∷ rest) = refl
 
 -- one leads to no control state before the draw
 module _ (sizes : Sizes) (values : Values) (pass : Pass) (work : Work) where
-  call_on : (ending : CallEnding) (control : Control) → CallDue sizes values pass work control → IsLate (control_worked sizes pass ending control)
+  pub call_on : (ending : CallEnding) (control : Control) → CallDue sizes values pass work control → IsLate (control_worked sizes pass ending control)
   call_on Made (CommitGroup calls) due = if_both IsLate _ (PledgePage (first_page sizes pass.call)) (CommitGroup _) (λ _. refl) (λ _. refl)
   call_on Made (ReadStore page dirty) due = refl
   call_on Made (ReadPiece page number) due = refl
@@ -78,7 +78,7 @@ module _ (sizes : Sizes) (values : Values) (pass : Pass) (work : Work) where
   call_on how (Cleaning batch inner) due = of_cleaner_worked IsLate refl (λ b c. refl) batch how inner
   call_on how control due = absurd due
 
-works_early : (sizes : Sizes) (works : List Work) (values : Values) (pass : Pass) → AreDue sizes values pass works → IsEarly (pass_worked sizes works pass).control → IsEarly pass.control
+pub works_early : (sizes : Sizes) (works : List Work) (values : Values) (pass : Pass) → AreDue sizes values pass works → IsEarly (pass_worked sizes works pass).control → IsEarly pass.control
 works_early sizes [] values pass due early = early
 works_early sizes (work ∷ later) values pass due early =
     late_or_early _ (call_on sizes values pass work work.ending pass.control due.0.due) (works_early sizes later (values_worked pass work values) (worked sizes work pass) due.1 early)
@@ -106,7 +106,7 @@ module _ (sizes : Sizes) (values : Values) (pass : Pass) (file at : ℕ) (bytes 
   no_read read = let never : false ≡ true = sym (ap is_read makes) ∙ read in absurd (cc)
 
   -- it stands at no control state of a read
-  not_at : {T : Type 0} (control : Control) → pass.control ≡ control → (FactsAt sizes pass control → is_read pass.call ≡ true) → T
+  pub not_at : {T : Type 0} (control : Control) → pass.control ≡ control → (FactsAt sizes pass control → is_read pass.call ≡ true) → T
   not_at control is reads = no_read (reads (subst (FactsAt sizes pass) is facts))
 
   loads_early : (word : Word) → MayLoad sizes values pass word → IsEarly pass.control
@@ -156,7 +156,7 @@ module _ (sizes : Sizes) (values : Values) (pass : Pass) (file at : ℕ) (bytes 
   is_light (Take cell) = true
   is_light op = false
 
-  later_on : (refusal : Option Refusal) (op : Op) (found : ℕ) → is_light op ≡ false → EnabledByKind sizes values pass op → is_own (Write file at bytes) refusal op ≡ true → IsLate (control_after sizes pass op found)
+  pub later_on : (refusal : Option Refusal) (op : Op) (found : ℕ) → is_light op ≡ false → EnabledByKind sizes values pass op → is_own (Write file at bytes) refusal op ≡ true → IsLate (control_after sizes pass op found)
   later_on refusal (Load word) found heavy may own = absurd (cc)
   later_on refusal (Take cell) found heavy may own = absurd (cc)
   later_on refusal (Give cell) found heavy may own = gives_late cell pass.control (gives_back_at pass cell pass.control may)
@@ -196,34 +196,34 @@ module _ (sizes : Sizes) (values : Values) (pass : Pass) (file at : ℕ) (bytes 
 -- ---- the steps of a write
 
 module _ (sound : RunsAreSound) (tell : OwnEventsTell) (sizes : Sizes) (file at : ℕ) (bytes : List ℕ) (start : PassState) (mount : IsMount (mount_of start.view.opened)) where
-  abbrev call : FileCall
+  abbrev pub call : FileCall
   call = Write file at bytes
 
   -- what is so of the pass after some steps
-  record Stands (steps : List PassStep) (now : PassState) : Type 0 where
-    opened : now.view.opened ≡ start.view.opened
-    makes : (pass_of now.view).call ≡ call
-    early : IsEarly (pass_of now.view).control → AreLocking steps
+  pub record Stands (steps : List PassStep) (now : PassState) : Type 0 where
+    pub opened : now.view.opened ≡ start.view.opened
+    pub makes : (pass_of now.view).call ≡ call
+    pub early : IsEarly (pass_of now.view).control → AreLocking steps
 
   -- a step behind some, with the pass as it finds it
   module _ (step : PassStep) (earlier : List PassStep) (middle now : PassState) (opened : middle.view.opened ≡ start.view.opened) (taken : HasTaken step middle now) (refusal : Option Refusal) (own : is_own call refusal step.op ≡ true) where
-    abbrev seen : PassView
+    abbrev pub seen : PassView
     seen = taken.before.view
 
-    abbrev there : Pass
+    abbrev pub there : Pass
     there = pass_before seen step.opens taken.stepped.works
 
     seen_opened : seen.opened ≡ start.view.opened
     seen_opened = ap (λ (v : PassView). v.opened) taken.between.view ∙ opened
 
-    come : IsMadeAt seen taken.stepped.steps.run taken.stepped.works step.opens step.op step.found
+    pub come : IsMadeAt seen taken.stepped.steps.run taken.stepped.works step.opens step.op step.found
     come = made_at sound tell seen now.view taken.stepped.works step.opens step.op step.found (subst (λ (o : Opened). IsMount (mount_of o)) (sym seen_opened) mount) taken.stepped.steps
 
-    may : EnabledByKind seen.opened.sizes come.core.values there step.op
+    pub may : EnabledByKind seen.opened.sizes come.core.values there step.op
     may = next_steps_may_come seen.opened.sizes come.core.values there step.op
         (subst (λ p. Enabled seen.opened.sizes come.core.values p step.op) come.own (step_of seen.opened.sizes seen.number come.core step.op (own_plain (Write file at bytes) refusal step.op own) come.may.may))
 
-    stands_so : FactsAt seen.opened.sizes there there.control
+    pub stands_so : FactsAt seen.opened.sizes there there.control
     stands_so = (subst (ControlFacts seen.opened.sizes) come.own (come.sound.control_facts seen.number)).at
 
     now_opened : now.view.opened ≡ start.view.opened
@@ -246,14 +246,14 @@ module _ (sound : RunsAreSound) (tell : OwnEventsTell) (sizes : Sizes) (file at 
         (was.1, before was.0)
 
     -- the first step of the call, and a later one
-    first_makes : step.opens ≡ Some call → there.call ≡ call
+    pub first_makes : step.opens ≡ Some call → there.call ≡ call
     first_makes opens = ap (λ o. (with_call seen.opened.sizes o (pass_worked seen.opened.sizes taken.stepped.works (pass_of seen))).call) opens
 
     module _ (opens : step.opens ≡ None) (was : Stands earlier middle) where
-      there_is : there ≡ pass_worked seen.opened.sizes taken.stepped.works (pass_of seen)
+      pub there_is : there ≡ pass_worked seen.opened.sizes taken.stepped.works (pass_of seen)
       there_is = ap (λ o. with_call seen.opened.sizes o (pass_worked seen.opened.sizes taken.stepped.works (pass_of seen))) opens
 
-      later_makes : there.call ≡ call
+      pub later_makes : there.call ≡ call
       later_makes = ap (λ (p : Pass). p.call) there_is ∙ calls_leave (λ (p : Pass). p.call) (λ sizes work p. refl) seen.opened.sizes taken.stepped.works (pass_of seen)
           ∙ ap (λ (v : PassView). (pass_of v).call) taken.between.view ∙ was.makes
 
@@ -262,7 +262,7 @@ module _ (sound : RunsAreSound) (tell : OwnEventsTell) (sizes : Sizes) (file at 
           was.early (sym (ap (λ (v : PassView). is_early (pass_of v).control) taken.between.view)
           ∙ works_early seen.opened.sizes taken.stepped.works _ (pass_of seen) taken.stepped.due (sym (ap (λ (p : Pass). is_early p.control) there_is) ∙ early))
 
-  stands : (steps : List PassStep) (now : PassState) → HasMade steps start now → AreOwn sizes call steps → Stands steps now
+  pub stands : (steps : List PassStep) (now : PassState) → HasMade steps start now → AreOwn sizes call steps → Stands steps now
   stands [] now all own = absurd own
   stands (step ∷ []) now all own =
       stands_on step [] all.0 now (ap (λ (p : PassState). p.view.opened) all.1) all.2 None own.1 (first_makes step [] all.0 now (ap (λ (p : PassState). p.view.opened) all.1) all.2 None own.1 own.0) (λ early. tt)

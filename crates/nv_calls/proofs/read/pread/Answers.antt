@@ -1,6 +1,8 @@
 -- The last try has its place since the start.
 use Rattle.std.proofs.Common.{◌≡◌, ◌∷◌, length, refl, sym, ap, subst, ◌∙◌, arith}
 use Rattle.std.specs.Prelude.{Err, OnErr}
+use Rattle.nv_table.specs.passes.Known.{known_by}
+use Rattle.nv_table.proofs.passes.KnownLaws.{covers_all, covers_same}
 use Rattle.nv_table.proofs.steps.CallLaws.{later_on}
 use Rattle.nv_mirror.specs.declared.answers.Refusal.TheVariants.{Busy}
 use Rattle.nv_mirror.specs.Answers.{IsUnplaced}
@@ -39,6 +41,7 @@ loop-preserved g c =
         ),
       );
       stays = λ seen. ensures.stop.stays (c.loop.invariant.stays seen);
+      knows = covers_all (known_by start.view) (known_by old.view) (known_by new.view) c.loop.invariant.knows ensures.known.keeps;
       next = tt;
       finite = tt;
     }
@@ -59,3 +62,6 @@ pub returns-in_default-clause-done : goal.returns-in_default-clause-done
 returns-in_default-clause-done g c =
     ok_since c.args.mount.now.fds c.args.fd c.args.at c.try_pread-result.new.buf c.args.pass.now c.loop.pass c.try_pread-result.new.pass c.try_pread-result.result c.loop.invariant.later c.loop.invariant.unplaced
     (c.loop.invariant.board.same_mount ∙ sym c.requires.board.same_mount) c.try_pread-result.ensures.done
+
+pub returns-in_default-clause-known : goal.returns-in_default-clause-known
+returns-in_default-clause-known g c = record { last = c.loop.pass; before = c.loop.invariant.knows; goes = c.try_pread-result.ensures.known }

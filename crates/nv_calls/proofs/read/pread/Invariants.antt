@@ -1,6 +1,8 @@
 -- The tries so far were answered Busy, and have placed nothing.
 use Rattle.std.proofs.Common.{◌≡◌, List, length}
+use Rattle.nv_core.specs.steps.Frames.{Covers}
 use Rattle.nv_table.specs.invariant.Idle.{IsIdle, IsLater}
+use Rattle.nv_table.specs.passes.Known.{known_by}
 use Rattle.nv_table.specs.state.States.{IsOf}
 use Rattle.nv_mirror.specs.Answers.{IsUnplaced}
 use Rattle.nv_calls.specs.histories.Heeds.{HasSeenStop}
@@ -16,6 +18,7 @@ invariant-loop g l = record {
   unplaced : IsUnplaced l.initial.pass.view l.pass.view;
   tried : (tries : List Try) × WereBusy l.mount.fds l.fd l.at (length l.buf) tries l.initial.pass l.pass;
   stays : HasSeenStop l.initial.pass → HasSeenStop l.pass;
+  knows : Covers (known_by l.initial.pass.view) (known_by l.pass.view);
   next : (goal.iterator-loop g).can_next l.iterator';
   finite : (goal.iterator-loop g).is_finite l.iterator';
 }

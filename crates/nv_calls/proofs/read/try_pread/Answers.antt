@@ -20,6 +20,16 @@ returns-in_err-file-clause-stop g c =
     let over : IsReadOver c.args.mount.now.fds c.args.fd c.args.at c.args.buf.now c.args.pass.now c.args.pass.now c.from_residual.result = search rules in
     c.ended_calls_heed_stop.ensures.reads c.args.mount.now.fds c.args.fd c.args.at c.args.buf.now c.args.pass.now c.args.pass.now c.from_residual.result c.sees_a_run.ensures.mount over
 
+pub returns-in_err-file-clause-known : goal.returns-in_err-file-clause-known
+returns-in_err-file-clause-known g c =
+    let over : IsReadOver c.args.mount.now.fds c.args.fd c.args.at c.args.buf.now c.args.pass.now c.args.pass.now c.from_residual.result = search rules in
+    c.calls_go_on_from_what_is_known.ensures.reads c.args.mount.now.fds c.args.fd c.args.at c.args.buf.now c.args.pass.now c.args.pass.now c.from_residual.result c.sees_a_run.ensures.mount c.has_taken_in.ensures over
+
+pub returns-in_err-file-clause-alone : goal.returns-in_err-file-clause-alone
+returns-in_err-file-clause-alone g c =
+    let over : IsReadOver c.args.mount.now.fds c.args.fd c.args.at c.args.buf.now c.args.pass.now c.args.pass.now c.from_residual.result = search rules in
+    λ alone cell. c.a_read_alone_is_not_busy.ensures c.args.mount.now.fds c.args.fd c.args.at c.args.buf.now c.args.pass.now c.args.pass.now c.from_residual.result cell c.sees_a_run.ensures.mount (c.has_taken_in.ensures alone.zero) alone over
+
 -- ---- one that makes its steps
 
 pub run-requires-clause-way : goal.run-requires-clause-way
@@ -65,3 +75,12 @@ returns-clause-stop g c =
 pub returns-clause-complete : goal.returns-clause-complete
 returns-clause-complete g c =
     c.calls_are_complete.ensures.reads c.args.mount.now.fds c.args.fd c.args.at c.run.new.list c.args.pass.now c.run.new.pass c.run.result (returns-clause-over g c)
+
+pub returns-clause-known : goal.returns-clause-known
+returns-clause-known g c =
+    c.calls_go_on_from_what_is_known.ensures.reads c.args.mount.now.fds c.args.fd c.args.at c.run.new.list c.args.pass.now c.run.new.pass c.run.result c.sees_a_run.ensures.mount c.has_taken_in.ensures (returns-clause-over g c)
+
+pub returns-clause-alone : goal.returns-clause-alone
+returns-clause-alone g c = λ alone cell.
+    c.a_read_alone_is_not_busy.ensures c.args.mount.now.fds c.args.fd c.args.at c.run.new.list c.args.pass.now c.run.new.pass c.run.result cell c.sees_a_run.ensures.mount (c.has_taken_in.ensures alone.zero) alone
+    (returns-clause-over g c)

@@ -16,6 +16,18 @@ returns-in-Over-Ok-clause-stop g c =
     c.ended_calls_heed_stop.ensures.syncs c.args.mount.now.fds c.args.fd c.args.pass.now c.loop-sync.pass (Ok record { place = c.in-Over-Ok.place; len = 0 }) c.sees_a_run.ensures.mount
     (ended_of c.args.mount.now.fds c.args.fd c.loop-sync.sync (Ok c.in-Over-Ok.place) c.args.pass.now c.loop-sync.pass is c.loop-sync.invariant.of).sync_run
 
+pub returns-in-Over-Ok-clause-known : goal.returns-in-Over-Ok-clause-known
+returns-in-Over-Ok-clause-known g c =
+    let is : c.loop-sync.sync.control ≡ Over (Ok c.in-Over-Ok.place) = search rules in
+    c.calls_go_on_from_what_is_known.ensures.syncs c.args.mount.now.fds c.args.fd c.args.pass.now c.loop-sync.pass (Ok record { place = c.in-Over-Ok.place; len = 0 }) c.sees_a_run.ensures.mount c.has_taken_in.ensures
+    (ended_of c.args.mount.now.fds c.args.fd c.loop-sync.sync (Ok c.in-Over-Ok.place) c.args.pass.now c.loop-sync.pass is c.loop-sync.invariant.of).sync_run
+
+pub returns-in-Over-Err-clause-known : goal.returns-in-Over-Err-clause-known
+returns-in-Over-Err-clause-known g c =
+    let is : c.loop-sync.sync.control ≡ Over (Err c.in-Over-Err.refusal) = search rules in
+    c.calls_go_on_from_what_is_known.ensures.syncs c.args.mount.now.fds c.args.fd c.args.pass.now c.loop-sync.pass (Err c.in-Over-Err.refusal) c.sees_a_run.ensures.mount c.has_taken_in.ensures
+    (ended_of c.args.mount.now.fds c.args.fd c.loop-sync.sync (Err c.in-Over-Err.refusal) c.args.pass.now c.loop-sync.pass is c.loop-sync.invariant.of).sync_run
+
 pub returns-in-Over-Err-clause-idle : goal.returns-in-Over-Err-clause-idle
 returns-in-Over-Err-clause-idle g c =
     let is : c.loop-sync.sync.control ≡ Over (Err c.in-Over-Err.refusal) = search rules in

@@ -1,11 +1,14 @@
 -- The last write has its place since the start.
 use Rattle.std.proofs.Common.{◌≡◌, true, ◌∷◌, refl, sym, subst, ◌∙◌}
 use Rattle.std.specs.Prelude.{Result, Ok, Err, OnErr}
+use Rattle.nv_table.specs.passes.Known.{known_by}
+use Rattle.nv_table.proofs.passes.KnownLaws.{covers_all, covers_same}
 use Rattle.nv_table.proofs.steps.CallLaws.{later_on}
 use Rattle.nv_mirror.specs.declared.answers.Done.{Done}
 use Rattle.nv_mirror.specs.declared.answers.Refusal.{Refusal}
 use Rattle.nv_mirror.specs.Answers.{IsUnplaced}
 use Rattle.nv_calls.specs.histories.Unmoved.{LeavesWords}
+use Rattle.nv_calls.specs.writes.Refusals.{IsWriteRefusal}
 use Rattle.nv_calls.specs.writes.Writes.{IsWriteOver, ends_to_be_made_again, is_made_again}
 use Rattle.nv_calls.proofs.histories.SinceLaws.{write_ok_since}
 use Rattle.nv_calls.proofs.write.pwrite.Goals as goal
@@ -33,6 +36,7 @@ loop-preserved g c =
         (old, c.loop.invariant.again.1, again.2, subst (IsWriteOver c.args.mount.now.fds c.args.fd c.args.at c.args.bytes.now old new) again.1 ensures.over, subst (LeavesWords old new) again.1 ensures.left),
       );
       stays = λ seen. ensures.stop.stays (c.loop.invariant.stays seen);
+      knows = covers_all (known_by c.args.pass.now.view) (known_by old.view) (known_by new.view) c.loop.invariant.knows ensures.known.keeps;
       workspace = ensures.workspace;
       bare = ensures.bare;
       next = tt;
@@ -48,3 +52,9 @@ pub returns-then-not-is_made_again-clause-done : goal.returns-then-not-is_made_a
 returns-then-not-is_made_again-clause-done g c =
     write_ok_since c.args.mount.now.fds c.args.fd c.args.at c.args.bytes.now c.args.pass.now c.loop.pass c.try_pwrite-result.new.pass c.try_pwrite-result.result c.loop.invariant.later c.loop.invariant.unplaced
     (c.loop.invariant.board.same_mount ∙ sym c.requires.board.same_mount) c.try_pwrite-result.ensures.done
+
+pub returns-then-not-is_made_again-clause-known : goal.returns-then-not-is_made_again-clause-known
+returns-then-not-is_made_again-clause-known g c = record { last = c.loop.pass; before = c.loop.invariant.knows; goes = c.try_pwrite-result.ensures.known }
+
+pub returns-then-not-is_made_again-clause-stores : goal.returns-then-not-is_made_again-clause-stores
+returns-then-not-is_made_again-clause-stores g c = λ is. subst (IsWriteRefusal (known_by c.loop.pass.view)) is c.try_pwrite-result.ensures.refused

@@ -1,6 +1,8 @@
 -- The writes so far were to be made again, and have placed nothing.
 use Rattle.std.proofs.Common.{◌≡◌, List, []}
+use Rattle.nv_core.specs.steps.Frames.{Covers}
 use Rattle.nv_table.specs.invariant.Idle.{IsIdle, IsLater}
+use Rattle.nv_table.specs.passes.Known.{known_by}
 use Rattle.nv_table.specs.state.States.{IsOf}
 use Rattle.nv_table.specs.state.Workspaces.{IsWorkspace}
 use Rattle.nv_mirror.specs.declared.answers.Refusal.{Refusal}
@@ -18,6 +20,7 @@ invariant-loop g l = record {
   unplaced : IsUnplaced l.initial.pass.view l.pass.view;
   again : (tries : List Refusal) × WereMadeAgain l.mount.fds l.fd l.at l.bytes tries l.initial.pass l.pass;
   stays : HasSeenStop l.initial.pass → HasSeenStop l.pass;
+  knows : Covers (known_by l.initial.pass.view) (known_by l.pass.view);
   workspace : IsWorkspace l.mount.board.opened.sizes l.workspace;
   bare : l.workspace.parts.items ≡ [];
   next : (goal.iterator-loop g).can_next l.iterator';

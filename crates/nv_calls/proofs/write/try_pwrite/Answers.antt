@@ -29,3 +29,48 @@ pub returns-in-Over-Err-clause-left : goal.returns-in-Over-Err-clause-left
 returns-in-Over-Err-clause-left g c =
     c.refused_writes_leave_words.ensures c.args.mount.now.fds c.args.fd c.args.at c.args.bytes.now c.args.pass.now c.loop-write.pass (Err c.in-Over-Err.refusal) c.sees_a_run.ensures.mount c.requires.idle
     (returns-in-Over-Err-clause-over g c)
+
+pub returns-in_err-file-clause-known : goal.returns-in_err-file-clause-known
+returns-in_err-file-clause-known g c =
+    c.calls_go_on_from_what_is_known.ensures.writes c.args.mount.now.fds c.args.fd c.args.at c.args.bytes.now c.args.pass.now c.args.pass.now c.from_residual.result c.sees_a_run.ensures.mount c.has_taken_in.ensures
+    (returns-in_err-file-clause-over g c)
+
+pub returns-in_err-file-clause-refused : goal.returns-in_err-file-clause-refused
+returns-in_err-file-clause-refused g c =
+    c.calls_go_on_from_what_is_known.ensures.refusals c.args.mount.now.fds c.args.fd c.args.at c.args.bytes.now c.args.pass.now c.args.pass.now c.from_residual.result c.sees_a_run.ensures.mount c.has_taken_in.ensures
+    (returns-in_err-file-clause-over g c)
+
+pub returns-in_err-file-clause-alone : goal.returns-in_err-file-clause-alone
+returns-in_err-file-clause-alone g c = λ alone.
+    c.a_write_alone_meets_nobody.ensures c.args.mount.now.fds c.args.fd c.args.at c.args.bytes.now c.args.pass.now c.args.pass.now c.from_residual.result c.sees_a_run.ensures.mount
+    (c.has_taken_in.ensures alone.zero) alone (returns-in_err-file-clause-over g c)
+
+pub returns-in-Over-Ok-clause-known : goal.returns-in-Over-Ok-clause-known
+returns-in-Over-Ok-clause-known g c =
+    c.calls_go_on_from_what_is_known.ensures.writes c.args.mount.now.fds c.args.fd c.args.at c.args.bytes.now c.args.pass.now c.loop-write.pass (Ok record { place = c.in-Over-Ok.place; len = length c.args.bytes.now }) c.sees_a_run.ensures.mount c.has_taken_in.ensures
+    (returns-in-Over-Ok-clause-over g c)
+
+pub returns-in-Over-Ok-clause-refused : goal.returns-in-Over-Ok-clause-refused
+returns-in-Over-Ok-clause-refused g c =
+    c.calls_go_on_from_what_is_known.ensures.refusals c.args.mount.now.fds c.args.fd c.args.at c.args.bytes.now c.args.pass.now c.loop-write.pass (Ok record { place = c.in-Over-Ok.place; len = length c.args.bytes.now }) c.sees_a_run.ensures.mount c.has_taken_in.ensures
+    (returns-in-Over-Ok-clause-over g c)
+
+pub returns-in-Over-Ok-clause-alone : goal.returns-in-Over-Ok-clause-alone
+returns-in-Over-Ok-clause-alone g c = λ alone.
+    c.a_write_alone_meets_nobody.ensures c.args.mount.now.fds c.args.fd c.args.at c.args.bytes.now c.args.pass.now c.loop-write.pass (Ok record { place = c.in-Over-Ok.place; len = length c.args.bytes.now }) c.sees_a_run.ensures.mount
+    (c.has_taken_in.ensures alone.zero) alone (returns-in-Over-Ok-clause-over g c)
+
+pub returns-in-Over-Err-clause-known : goal.returns-in-Over-Err-clause-known
+returns-in-Over-Err-clause-known g c =
+    c.calls_go_on_from_what_is_known.ensures.writes c.args.mount.now.fds c.args.fd c.args.at c.args.bytes.now c.args.pass.now c.loop-write.pass (Err c.in-Over-Err.refusal) c.sees_a_run.ensures.mount c.has_taken_in.ensures
+    (returns-in-Over-Err-clause-over g c)
+
+pub returns-in-Over-Err-clause-refused : goal.returns-in-Over-Err-clause-refused
+returns-in-Over-Err-clause-refused g c =
+    c.calls_go_on_from_what_is_known.ensures.refusals c.args.mount.now.fds c.args.fd c.args.at c.args.bytes.now c.args.pass.now c.loop-write.pass (Err c.in-Over-Err.refusal) c.sees_a_run.ensures.mount c.has_taken_in.ensures
+    (returns-in-Over-Err-clause-over g c)
+
+pub returns-in-Over-Err-clause-alone : goal.returns-in-Over-Err-clause-alone
+returns-in-Over-Err-clause-alone g c = λ alone.
+    c.a_write_alone_meets_nobody.ensures c.args.mount.now.fds c.args.fd c.args.at c.args.bytes.now c.args.pass.now c.loop-write.pass (Err c.in-Over-Err.refusal) c.sees_a_run.ensures.mount
+    (c.has_taken_in.ensures alone.zero) alone (returns-in-Over-Err-clause-over g c)
