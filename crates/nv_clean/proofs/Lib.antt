@@ -16,8 +16,11 @@ mod ToldLaws
 mod AnswerLaws
 mod BoundLaws
 mod NotedLaws
+mod CountLaws
+mod SeenLaws
 mod OverLaws
 mod StoredLaws
 mod HeedLaws
+mod LeftLaws
 mod LoneStepLaws
 mod AloneLaws

@@ -1,7 +1,7 @@
 -- Over: what a batch begins with, and what is so where it is over.
 use Rattle.std.proofs.Common.{◌≡◌, ◌⊎◌, inl, inr, ℕ, ◌-◌, ◌<◌, ◌≤◌, Bool, true, false, if◌then◌else◌, List, [], ◌∷◌, refl, sym, ap, ap₂, subst, ◌∙◌, arith, ◌+◌}
-use Rattle.std.specs.Prelude.{Option, Some, None, is_some, Err}
-use Rattle.nv_core.specs.state.Words.{Sizes, Word, SIZE, STORE, ENTRY}
+use Rattle.std.specs.Prelude.{Option, Some, None, is_some, Result, Ok, Err}
+use Rattle.nv_core.specs.state.Words.{Sizes, Word, SIZE, STORE, ENTRY, TAIL}
 use Rattle.nv_core.specs.state.Core.{Core}
 use Rattle.nv_core.specs.state.Passes.{Idle, IsFilling, IsHeldEntry, times}
 use Rattle.nv_core.specs.steps.CleanerSteps.{new_batch}
@@ -17,19 +17,25 @@ use Rattle.nv_table.specs.state.Opened.{mount_of, IsRunOf, state_of}
 use Rattle.nv_table.specs.state.States.{PassState}
 use Rattle.nv_table.specs.state.Views.{pass_of}
 use Rattle.nv_mirror.specs.PassSteps.{PassStep}
+use Rattle.nv_mount.specs.LoneWords.{word_then}
 use Rattle.nv_clean.specs.declared.batch.CleanControl.{CleanControl}
 use Rattle.nv_clean.specs.declared.batch.CleanControl.TheVariants as cleans
 use Rattle.nv_clean.specs.declared.batch.CleanRefusal.{CleanRefusal}
-use Rattle.nv_clean.specs.Answers.{BegunFor, BeginsWith, IsCleanOver, IsTold, answer_at, answered_as, refusal_in, retired_in, retires_in, tail_in}
+use Rattle.nv_clean.specs.declared.batch.CleanRefusal.TheVariants.{Stopped, RegionFault, StoreFault}
+use Rattle.nv_clean.specs.declared.clean.Cleaned.{Cleaned}
+use Rattle.nv_clean.specs.Answers.{BegunFor, BeginsWith, IsCleanOver, IsTold, answer_at, answered_as, cleans_in, refusal_in, retired_in, retires_in, stops_in, tail_in, tells_stop}
 use Rattle.nv_clean.specs.Cleaning.{CleanState, InBatch, IsOpen, IsUnderWay, control_at, is_over}
 use Rattle.nv_clean.specs.CleanSteps.{is_fault}
 use Rattle.nv_clean.specs.Heeds.{HasSeenStop, IsHeld}
 use Rattle.nv_clean.specs.Stored.{IsStored}
+use Rattle.nv_clean.specs.WordsLeft.{ArePassing, held_by}
 use Rattle.nv_clean.proofs.AnswerLaws.{tells_all}
 use Rattle.nv_clean.proofs.BoundLaws.{Bounded, bounded_all}
 use Rattle.nv_clean.proofs.BatchLaws.{batch_begins, batch_ends}
+use Rattle.nv_clean.proofs.CountLaws.{Counted, IsCounted, counted_all}
 use Rattle.nv_clean.proofs.FaultLaws.{no_faults}
 use Rattle.nv_clean.proofs.HeedLaws.{heeds_all, heeds_over}
+use Rattle.nv_clean.proofs.SeenLaws.{cleaned_none, found_all, held_all, passing_all, set_all}
 use Rattle.nv_clean.proofs.TellLaws.{Tells, WasRefused, HasRetired}
 
 -- ---- its beginning
@@ -120,18 +126,56 @@ module _ (sound : RunsAreSound) (tell : OwnEventsTell) (most : ℕ) (m : CleanSt
       let held = heeds_over sound tell start mount way.called.idle.control most told.steps now told.made told.own begins seen stands in
       (held.0, ap (answer_at m.batch) (sym is ∙ told.refused ∙ held.1), held.2)
 
-  by_refusal : ((below : ℕ) → below ≤ (pass_of now.view).tail → IsStored now.view below) → (r : Option CleanRefusal) → m.refusal ≡ r → IsCleanOver most start now (answer_at m.batch r)
-  by_refusal store (Some why) is = record {
+  counted : IsCounted start.view.opened.sizes told.steps
+  counted = subst (λ c. Counted start.view.opened.sizes c told.steps) stands (counted_all sound tell start mount way.called.idle.control most told.steps now told.made told.own begins)
+
+  -- it has given all back
+  held_none : (pass_of now.view).owned ≡ [] → held_by start.view.opened.sizes told.steps ≡ []
+  held_none owned_none = sym (held_all start way.called.idle.owned told.steps now told.made told.own) ∙ owned_none
+
+  stops_are : (r : Option CleanRefusal) → m.refusal ≡ r → stops_in told.steps ≡ is_fault r
+  stops_are r is = told.stops ∙ ap is_fault is
+
+  stop_seen : (why : CleanRefusal) → m.refusal ≡ Some why → tells_stop (Err why) ≡ true → HasSeenStop now
+  stop_seen Stopped is stop = found_all start start.view.opened.sizes told.steps now told.made told.own (sym told.refused ∙ is)
+  stop_seen RegionFault is stop = set_all start told.steps now told.made told.own (stops_are (Some RegionFault) is)
+  stop_seen StoreFault is stop = set_all start told.steps now told.made told.own (stops_are (Some StoreFault) is)
+  stop_seen why is stop = absurd (cc)
+
+  -- refused by no fault it has cleaned nothing
+  left_so : (why : CleanRefusal) → m.refusal ≡ Some why → retires_in told.steps ≡ false → is_fault (Some why) ≡ false → ArePassing told.steps
+  left_so why is unretired sound_still = passing_all told.steps told.own unclean unretired unset (λ page. counted.dirty page ∙ cleaned_none told.steps unclean page)
+    where
+      unset : stops_in told.steps ≡ false
+      unset = stops_are (Some why) is ∙ sound_still
+
+      unclean : cleans_in told.steps ≡ false
+      unclean = elim (counted.left (ap is_some (sym told.refused ∙ is))) [
+        | inl none ↦ none
+        | inr set ↦ absurd (not_both (stops_in told.steps) set unset)
+      ]
+
+  other_is : (one other : CleanRefusal) → ◌≡◌ {A = Result Cleaned CleanRefusal} (Err one) (Err other) → one ≡ other
+  other_is one other e = cc
+
+  by_refusal : (pass_of now.view).owned ≡ [] → ((below : ℕ) → below ≤ (pass_of now.view).tail → IsStored now.view below) → (pass_of now.view).tail ≤ word_then now.view TAIL → (r : Option CleanRefusal) → m.refusal ≡ r → IsCleanOver most start now (answer_at m.batch r)
+  by_refusal owned store behind (Some why) is = record {
     steps = told.steps;
     made = told.made;
     own = told.own;
     begins = begins;
     answer = ap (λ o. answered_as o (retired_in told.steps)) (sym told.refused ∙ is);
     some = tt;
+    whole = tt;
     bounded = tt;
     stored = tt;
+    past = tt;
     retires = go ended;
     stops = told.stops ∙ ap is_fault is;
+    held = held_none owned;
+    dirty = counted.dirty;
+    left = λ refusal same none. left_so why is (go ended) (ap (λ r. is_fault (Some r)) (other_is why refusal same) ∙ none);
+    told = stop_seen why is;
     stays = seen_on;
     heeds = held_as (Some why) is;
     faults = no_faults told.steps start now told.made told.own;
@@ -140,17 +184,23 @@ module _ (sound : RunsAreSound) (tell : OwnEventsTell) (most : ℕ) (m : CleanSt
       go : WasRefused start.view.opened.sizes told.steps ⊎ HasRetired start.view.opened.sizes told.steps → retires_in told.steps ≡ false
       go (inl was) = was.2
       go (inr had) = absurd (not_both (is_some refusal) (ap is_some (sym told.refused ∙ is)) had.told.0)
-  by_refusal store None is = record {
+  by_refusal owned store behind None is = record {
     steps = told.steps;
     made = told.made;
     own = told.own;
     begins = begins;
     answer = ap₂ answered_as (sym told.refused ∙ is) retired.0;
     some = let more = retired.1 in omega (arith, more);
+    whole = counted.whole (m.batch.reached - m.batch.tail) retired.0;
     bounded = (subst (λ c. Bounded start.view.opened.sizes most c told.steps) stands (bounded_all sound tell start mount way.called.idle.control most told.steps now told.made told.own begins)) (m.batch.reached - m.batch.tail) retired.0;
     stored = store (tail_in told.steps + (m.batch.reached - m.batch.tail)) (told.moved (m.batch.reached - m.batch.tail) retired.0);
+    past = (told.moved (m.batch.reached - m.batch.tail) retired.0, behind);
     retires = go ended;
     stops = told.stops ∙ ap is_fault is;
+    held = held_none owned;
+    dirty = counted.dirty;
+    left = λ refusal same none. absurd (cc);
+    told = λ tells. absurd (cc);
     stays = seen_on;
     heeds = held_as None is;
     faults = no_faults told.steps start now told.made told.own;
@@ -163,8 +213,8 @@ module _ (sound : RunsAreSound) (tell : OwnEventsTell) (most : ℕ) (m : CleanSt
       go (inl was) = absurd (not_both (is_some refusal) was.0 (ap is_some (sym told.refused ∙ is)))
       go (inr had) = had.told.2
 
-  pub over_told : ((below : ℕ) → below ≤ (pass_of now.view).tail → IsStored now.view below) → IsCleanOver most start now (answer_at m.batch m.refusal)
-  over_told store = by_refusal store m.refusal refl
+  pub over_told : IsIdle now → ((below : ℕ) → below ≤ (pass_of now.view).tail → IsStored now.view below) → (pass_of now.view).tail ≤ word_then now.view TAIL → IsCleanOver most start now (answer_at m.batch m.refusal)
+  over_told idle store behind = by_refusal idle.owned store behind m.refusal refl
 
   pub over_low : m.refusal ≡ None → m.batch.tail ≤ m.batch.reached
   over_low none = let retired = (told.retired over none).1 in omega (arith, retired)

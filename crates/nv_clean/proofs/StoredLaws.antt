@@ -12,6 +12,7 @@ use Rattle.nv_core.specs.log.LogContent.{RunsKeepTheLog}
 use Rattle.nv_core.specs.steps.Opening.{IsMount}
 use Rattle.nv_table.specs.state.Opened.{mount_of, IsRunOf, state_of}
 use Rattle.nv_table.specs.state.Views.{PassView, pass_of}
+use Rattle.nv_mount.specs.LoneWords.{word_then}
 use Rattle.nv_clean.specs.Stored.{IsStored}
 
 -- a piece no lower than one number is no lower than a lower one
@@ -48,3 +49,7 @@ module _ (sound : RunsAreSound) (survive : RunsSurviveCrashes) (region : RunsKee
   -- and so what lies below TAIL as a pass saw it last
   pub seen_stored : (below : ℕ) → below ≤ (pass_of view).tail → IsStored view below
   seen_stored below low = below_tail below (let seen = (sound (mount_of view.opened) view.run mount run).loaded.tail view.number in omega (arith, low, seen))
+
+  -- which is no more than it is
+  pub seen_tail : (pass_of view).tail ≤ word_then view TAIL
+  seen_tail = (sound (mount_of view.opened) view.run mount run).loaded.tail view.number

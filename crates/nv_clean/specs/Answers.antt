@@ -6,6 +6,7 @@ use Rattle.nv_core.specs.state.Cleaner as cleaner
 use Rattle.nv_core.specs.steps.CleanerSteps.{count_of}
 use Rattle.nv_core.specs.steps.Ops.{Op, ByCleaner}
 use Rattle.nv_core.specs.steps.Order.{Work}
+use Rattle.nv_mount.specs.LoneWords.{word_then}
 use Rattle.nv_table.specs.invariant.Idle.{IsIdle, IsLater}
 use Rattle.nv_table.specs.state.States.{PassState}
 use Rattle.nv_table.specs.state.Views.{pass_of}
@@ -23,6 +24,8 @@ use Rattle.nv_clean.specs.CleanSteps.{is_fault}
 use Rattle.nv_clean.specs.OwnSteps.{AreOwn}
 use Rattle.nv_clean.specs.Heeds.{HasSeenStop, IsHeld}
 use Rattle.nv_clean.specs.Stored.{IsStored}
+use Rattle.nv_clean.specs.WordsLeft.{ArePassing, cleaned_of, held_by, lowered_of}
+use Rattle.nv_clean.specs.WholeGroups.{AreWholeGroups}
 
 -- ---- what some steps of a batch came to, the last of them first
 
@@ -131,14 +134,22 @@ abbrev pub tells_fault : Result Cleaned CleanRefusal → Bool
 tells_fault (Err refusal) = is_fault (Some refusal)
 tells_fault (Ok cleaned) = false
 
+-- or that it found STOP set
+abbrev pub tells_stop : Result Cleaned CleanRefusal → Bool
+tells_stop (Err Stopped) = true
+tells_stop result = tells_fault result
+
 -- they begin a batch of at most so many
 abbrev pub BeginsWith : (most : ℕ) → List PassStep → Type 0
 BeginsWith most [] = ⊥
 BeginsWith most (step ∷ []) = step.op ≡ ByCleaner (TakeCleaner most)
 BeginsWith most (step ∷ (other ∷ earlier)) = BeginsWith most (other ∷ earlier)
 
--- A whole batch: its steps are its own, and the answer is what they came to. It has retired something, where it says so, no more entries than its bound, but where those are the first group
--- alone; and that is stored. An entry was freed, or TAIL moved, exactly where it does; and STOP was set by one of them exactly where the answer is that a device has failed. A pass that had seen STOP set keeps that, and cleans nothing. It is no call, so its pass keeps no fault of it.
+-- A whole batch: its steps are its own, and the answer is what they came to.
+-- It has retired something, where it says so: whole groups from TAIL on as it was loaded, no more entries than its bound, but where those are the first group alone. That is stored, and TAIL is past it.
+-- An entry was freed, or TAIL moved, exactly where it says so; and STOP was set by one of them exactly where the answer is that a device has failed.
+-- Whatever the answer, it gave back all that it took or held, and lowered DIRTY of each page once for each entry of it that it cleaned. Where it is refused and no device has failed its steps left no word changed.
+-- Its pass has seen STOP set where the answer tells that. One that had seen that keeps it, and cleans nothing. It is no call, so its pass keeps no fault of it.
 pub record IsCleanOver (batch : ℕ) (start now : PassState) (result : Result Cleaned CleanRefusal) : Type 0 where
   pub steps : List PassStep
   pub made : HasMade steps start now
@@ -146,10 +157,16 @@ pub record IsCleanOver (batch : ℕ) (start now : PassState) (result : Result Cl
   pub begins : BeginsWith batch steps
   pub answer : clean_answer_in start.view.opened.sizes steps ≡ Some result
   pub some : IfOk result (λ cleaned. 0 < cleaned.retired)
+  pub whole : IfOk result (λ cleaned. AreWholeGroups start.view.opened.sizes steps (tail_in steps) cleaned.retired)
   pub bounded : IfOk result (λ cleaned. KeepsTo batch (count_in start.view.opened.sizes steps) cleaned.retired)
   pub stored : IfOk result (λ cleaned. IsStored now.view (tail_in steps + cleaned.retired))
+  pub past : IfOk result (λ cleaned. (tail_in steps + cleaned.retired ≤ (pass_of now.view).tail) × ((pass_of now.view).tail ≤ word_then now.view TAIL))
   pub retires : retires_in steps ≡ is_ok result
   pub stops : stops_in steps ≡ tells_fault result
+  pub held : held_by start.view.opened.sizes steps ≡ []
+  pub dirty : (page : ℕ) → lowered_of page steps ≡ cleaned_of page steps
+  pub left : (refusal : CleanRefusal) → result ≡ Err refusal → is_fault (Some refusal) ≡ false → ArePassing steps
+  pub told : tells_stop result ≡ true → HasSeenStop now
   pub stays : HasSeenStop start → HasSeenStop now
   pub heeds : HasSeenStop start → (refusal : CleanRefusal) × (result ≡ Err refusal) × IsHeld start.view.opened.sizes refusal
   pub faults : (pass_of now.view).faulted ≡ (pass_of start.view).faulted

@@ -6,5 +6,8 @@ pub mod Measures
 pub mod Retiring
 pub mod Stored
 pub mod Heeds
+pub mod WordsLeft
+pub mod WholeGroups
 pub mod Answers
 pub mod Alone
+pub mod BatchLaws

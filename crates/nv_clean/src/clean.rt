@@ -118,8 +118,8 @@ fn run<L: Lines, B: Backing>(
 /// Carries entries of the log to their files: whole groups from the tail on, at least one, and no more entries than `batch` but where the first group alone is larger, so the first group alone where
 /// `batch` is 0. The pieces are written to the stores, which are synced; then the persistent tail moves past the entries, and they are free. Refused where there is nothing to clean: TAIL was HEAD, or the entry at the tail not
 /// ready; where CLEANER or HEADER was found held, or before the first group was cleaned a CLEANUP of its pages or its file's STORE; where STOP was found set; where a store refused a write of the first
-/// group for want of memory; and after a device fault, which sets STOP. It takes no place in the history, and a refused one has freed no entry and not moved TAIL. Its pass holds nothing then. Takes no
-/// memory, and waits for nobody. While no other pass is out no lock is found held, and a batch is answered that there is nothing to clean exactly where STOP was 0 and the log empty.
+/// group for want of memory; and after a device fault, which sets STOP. It takes no place in the history, and a refused one has freed no entry and not moved TAIL; where no device has failed it has left
+/// all words as they were. Where it tells of STOP its pass cleans nothing any more. Its pass holds nothing then. Takes no memory, and waits for nobody. While no other pass is out no lock is found held, and a batch is answered that there is nothing to clean exactly where STOP was 0 and the log empty.
 pub fn try_clean<L: Lines + Drop, B: Backing + Drop>(
     mount: &Mount<L, B>,
     pass: &mut Pass<L, B>,

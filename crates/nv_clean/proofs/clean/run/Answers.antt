@@ -4,7 +4,7 @@ use Rattle.nv_table.specs.state.Opened.{Opened}
 use Rattle.nv_clean.specs.Answers.{IsCleanOver, IsTold}
 use Rattle.nv_clean.specs.Cleaning.{CleanState, IsUnderWay}
 use Rattle.nv_clean.proofs.NotedLaws.{told_on}
-use Rattle.nv_clean.proofs.StoredLaws.{seen_stored}
+use Rattle.nv_clean.proofs.StoredLaws.{seen_stored, seen_tail}
 use Rattle.nv_clean.proofs.OverLaws.{new_told, new_way, open_at, over_at, over_idle, over_low, over_told}
 use Rattle.nv_clean.proofs.clean.run.Goals as goal
 
@@ -47,4 +47,7 @@ returns-clause-over g c =
     let m = c.loop-machine.machine in
     subst (IsCleanOver c.args.batch c.args.pass.now c.loop-machine.pass) (sym c.answer.ensures)
     (over_told c.runs_are_sound.ensures.runs c.passes_are_left_alone.ensures.own c.args.batch m c.args.pass.now c.loop-machine.pass c.sees_a_run.ensures.mount c.loop-machine.invariant.2 c.loop-machine.invariant.3
-    (over_at m.control (sym c.is_over.ensures ∙ c.loop-machine-test.false)) (seen_stored c.runs_are_sound.ensures.runs c.crashes_leave_whole_writes.ensures.runs c.crashes_leave_whole_writes.ensures.region c.runs_keep_the_log.ensures.runs c.loop-machine.pass.view c.sees_a_run-2.ensures.mount c.sees_a_run-2.ensures.run))
+    (over_at m.control (sym c.is_over.ensures ∙ c.loop-machine-test.false))
+    (over_idle c.runs_are_sound.ensures.runs m c.args.pass.now c.loop-machine.pass c.sees_a_run-2.ensures.mount c.sees_a_run-2.ensures.run c.loop-machine.invariant.2 (over_at m.control (sym c.is_over.ensures ∙ c.loop-machine-test.false)))
+    (seen_stored c.runs_are_sound.ensures.runs c.crashes_leave_whole_writes.ensures.runs c.crashes_leave_whole_writes.ensures.region c.runs_keep_the_log.ensures.runs c.loop-machine.pass.view c.sees_a_run-2.ensures.mount c.sees_a_run-2.ensures.run)
+    (seen_tail c.runs_are_sound.ensures.runs c.crashes_leave_whole_writes.ensures.runs c.crashes_leave_whole_writes.ensures.region c.runs_keep_the_log.ensures.runs c.loop-machine.pass.view c.sees_a_run-2.ensures.mount c.sees_a_run-2.ensures.run))
