@@ -1,7 +1,9 @@
 -- Calls: what the answer of a call tells that is over.
-use Rattle.std.proofs.Common.{◌≡◌, ℕ, List, length, replicate, refl, sym, ap, subst, ◌∙◌}
+use Rattle.std.proofs.Common.{◌≡◌, ℕ, List, [], ◌∷◌, length, replicate, refl, sym, ap, subst, ◌∙◌}
+use Rattle.std.proofs.lemmas.Bool.{true≢false}
 use Rattle.std.proofs.lemmas.List.{length-replicate}
-use Rattle.std.specs.Prelude.{true, Option, Some, None, Result, Ok, Err, IfOk, OnOk}
+use Rattle.std.specs.List.{slice_get}
+use Rattle.std.specs.Prelude.{true, false, Option, Some, None, Result, Ok, Err, IfOk, OnOk}
 use Rattle.nv_plain.specs.Modes.{can_read, can_write}
 use Rattle.nv_plain.specs.declared.call.FileCall.TheVariants.{Write}
 use Rattle.nv_plain.specs.declared.memory.NoMemory.{NoMemory}
@@ -12,8 +14,8 @@ use Rattle.nv_table.specs.state.States.{PassState}
 use Rattle.nv_mount.specs.declared.fds.Fd.{Fd}
 use Rattle.nv_mirror.specs.declared.answers.Done.{Done}
 use Rattle.nv_mirror.specs.declared.answers.Refusal.{Refusal}
+use Rattle.nv_mirror.specs.declared.answers.Refusal.TheVariants.{Again, Stopped, RegionFault, StoreFault}
 use Rattle.nv_mirror.specs.Controls.{IsOver}
-use Rattle.nv_mirror.specs.Answers.{IsUnplaced}
 use Rattle.nv_calls.specs.calls.EarlyRefusals.{early_refusal}
 use Rattle.nv_calls.specs.calls.EndedCalls.{IsOverBy}
 use Rattle.nv_calls.specs.fsync.SyncRuns.{file_of_fd}
@@ -21,36 +23,82 @@ use Rattle.nv_calls.specs.reads.Reads.{IsReadDone, IsReadOver}
 use Rattle.nv_calls.specs.writes.Writes.{IsWriteTried}
 use Rattle.nv_calls.proofs.reads.AloneLaws.{early_other, other_of}
 use Rattle.nv_trace.specs.declared.trace_call.TraceCall.TheVariants.{Pread}
-use Rattle.nv_calls.specs.histories.Heeds.{HasSeenStop}
+use Rattle.nv_calls.specs.histories.Heeds.{HasSeenStop, HeedsStop, tells_stop}
+use Rattle.nv_calls.proofs.histories.HeedsLaws.{early_tells, refusal_tells, untold_mild}
 use Rattle.nv_trace.specs.declared.trace_call.TraceCall.{TraceCall}
 use Rattle.nv_runner.specs.Entries.{entries_taken}
 use Rattle.nv_runner.specs.declared.answer.Answer.{Answer}
-use Rattle.nv_runner.specs.Calls.{IsAdmitted, IsAnswered, IsRefused, OpensAs, Tells, says_stop}
+use Rattle.nv_runner.specs.declared.answer.Answer.TheVariants.{Refused}
+use Rattle.nv_runner.specs.Calls.{IsAdmitted, IsAnswered, IsRefused, OpensAs, Tells, says_stop, wants_room}
+use Rattle.nv_runner.specs.OpenWrites.{without_place}
+use Rattle.nv_runner.specs.Tries.{AnswersAs, FoundNoRoom, FullTry, HasRunBatch, IsMadeFor}
 use Rattle.nv_runner.specs.Runs.{GoesOn, entries_drawn}
 use Rattle.nv_runner.proofs.TryLaws.{answer_on}
 
--- a read that is refused by what it asks for made no step, whatever its list
+-- a refusal by what a call asks for tells nothing of STOP
+silent_tells : (refusal : Refusal) → refusal_tells (Some refusal) ≡ false → tells_stop (Err refusal) ≡ true → ⊥
+silent_tells Stopped silent tells = true≢false silent
+silent_tells RegionFault silent tells = true≢false silent
+silent_tells StoreFault silent tells = true≢false silent
+silent_tells refusal silent tells = true≢false (sym tells)
+
+-- and its pass has made no step
+early_heeds : (refusal : Refusal) (start : PassState) → refusal_tells (Some refusal) ≡ false → HeedsStop start start (Err refusal)
+early_heeds refusal start silent = record {
+  steps = [];
+  made = refl;
+  stays = λ seen. seen;
+  told = λ tells. absurd (silent_tells refusal silent tells);
+  heeds = λ seen loads. absurd (true≢false (sym loads));
+  sets = sym (untold_mild (Some refusal) silent);
+}
+
+-- a read that is refused so made no step, whatever its list
 pub read_refused_early : (fds : List Fd) (worker : Option ℕ) (fd at len : ℕ) (opened : Opened) (start : PassState) (refusal : Refusal) → start.view.opened ≡ opened
-    → early_refusal can_read opened.sizes fds fd at len ≡ Some refusal → IsRefused fds worker (Pread fd at len) start start refusal
-read_refused_early fds worker fd at len opened start refusal same is =
+    → early_refusal can_read opened.sizes fds fd at len ≡ Some refusal → IsRefused worker (Pread fd at len) start start refusal
+read_refused_early fds worker fd at len opened start refusal same is = record {
+  kept = record { seen = refl; mine = refl };
+  lasting = λ cell busy. other_of (early_refusal can_read opened.sizes fds fd at len) cell (early_other opened.sizes fds fd at len) (is ∙ ap (λ r. Some r) busy);
+}
+
+pub read_made_early : (fds : List Fd) (worker : Option ℕ) (fd at len : ℕ) (opened : Opened) (start : PassState) (refusal : Refusal) → start.view.opened ≡ opened
+    → early_refusal can_read opened.sizes fds fd at len ≡ Some refusal → IsMadeFor fds worker (Pread fd at len) start start (Refused refusal)
+read_made_early fds worker fd at len opened start refusal same is =
     let list : List ℕ = replicate len 0 in
     let size : length list ≡ len = length-replicate len 0 in
     let early : early_refusal can_read start.view.opened.sizes fds fd at (length list) ≡ Some refusal =
     ap (early_refusal can_read start.view.opened.sizes fds fd at) size ∙ ap (λ (o : Opened). early_refusal can_read o.sizes fds fd at len) same ∙ is in
-    let still : IsUnplaced start.view start.view = record { seen = refl; mine = refl } in
+    let silent : refusal_tells (Some refusal) ≡ false = ap refusal_tells (sym is) ∙ early_tells can_read opened.sizes (slice_get fds fd) at len in
     record {
-      kept = still;
-      lasting = λ cell busy. other_of (early_refusal can_read opened.sizes fds fd at len) cell (early_other opened.sizes fds fd at len) (is ∙ ap (λ r. Some r) busy);
-      last = start;
-      before = still;
-      over = (
+      result = Err refusal;
+      by = (
         list,
         size,
-        start,
-        still,
-        subst (λ e. IsOverBy e (file_of_fd fds fd) (λ file. IsReadDone file at list start start (Err refusal)) start start (Err refusal)) (sym early) (refl, refl),
+        record {
+          tries = [];
+          last = start;
+          busy = refl;
+          over = subst (λ e. IsOverBy e (file_of_fd fds fd) (λ file. IsReadDone file at list start start (Err refusal)) start start (Err refusal)) (sym early) (refl, refl);
+          stays = λ seen. seen;
+          heeds = early_heeds refusal start silent;
+        },
       );
+      answers = refl;
     }
+
+-- what a write without a place is answered its last try was
+pub without_answers : (refusal : Refusal) (drawn : Option ℕ) → AnswersAs (without_place refusal drawn) (Err refusal)
+without_answers RegionFault (Some number) = refl
+without_answers RegionFault None = refl
+without_answers StoreFault (Some number) = refl
+without_answers StoreFault None = refl
+without_answers refusal drawn = refl
+
+-- one more try for which the log had no room, and the batch behind it
+pub full_more : (fds : List Fd) (worker : Option ℕ) (fd at : ℕ) (bytes : List ℕ) (earlier : List FullTry) (start middle full now : PassState) (refusal : Refusal) → FoundNoRoom fds worker fd at bytes earlier start middle
+    → IsWriteTried fds fd at bytes middle full (Err refusal) → wants_room refusal ≡ true → HasRunBatch worker full now → (more : List FullTry) × FoundNoRoom fds worker fd at bytes more start now
+full_more fds worker fd at bytes earlier start middle full now (Again head tail) before tried room batch = (record { head = head; tail = tail } ∷ earlier, (middle, before, full, tried, batch))
+full_more fds worker fd at bytes earlier start middle full now refusal before tried room batch = absurd (true≢false (sym room))
 
 -- ---- a call that has its place was not barred
 
@@ -81,12 +129,12 @@ write_admitted fds fd at bytes start now done tried =
 -- ---- an answered call, by its parts
 
 pub ok_answered : (fds : List Fd) (worker : Option ℕ) (call : TraceCall) (start now : PassState) (result : Result Answer NoMemory) → now.view.opened ≡ start.view.opened → IsLater start now
-    → IfOk result (λ answer. Tells fds worker call start now answer) → (HasSeenStop start → HasSeenStop now) → IfOk result (λ answer. says_stop answer ≡ true → HasSeenStop now)
+    → IfOk result (λ answer. IsMadeFor fds worker call start now answer) → IfOk result (λ answer. Tells fds worker call start now answer) → (HasSeenStop start → HasSeenStop now) → IfOk result (λ answer. says_stop answer ≡ true → HasSeenStop now)
     → IfOk result (λ answer. OpensAs fds call start now answer) → IfOk result (λ answer. GoesOn worker (entries_drawn now.view.opened.sizes call answer) start now)
     → IfOk result (λ answer. IsAdmitted now.view.opened.sizes fds call answer)
     → IfOk result (λ answer. IsAnswered fds worker call start now answer)
-ok_answered fds worker call start now (Ok answer) opened later told stays stop opens on admitted = record { opened = opened; later = later; told = told; stays = stays; stop = stop; opens = opens; on = on; admitted = admitted }
-ok_answered fds worker call start now (Err error) opened later told stays stop opens on admitted = tt
+ok_answered fds worker call start now (Ok answer) opened later made told stays stop opens on admitted = record { opened = opened; later = later; made = made; told = told; stays = stays; stop = stop; opens = opens; on = on; admitted = admitted }
+ok_answered fds worker call start now (Err error) opened later made told stays stop opens on admitted = tt
 
 -- what draws nothing, whatever its answer
 pub ok_on : (worker : Option ℕ) (sizes : Sizes) (call : TraceCall) (start now : PassState) (result : Result Answer NoMemory) → entries_taken sizes.page call ≡ 0 → OnOk result (GoesOn None 0 start now)

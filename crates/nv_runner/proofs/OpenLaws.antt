@@ -53,7 +53,7 @@ pub record IsToldSo (fds : List Fd) (worker : Option ℕ) (fd at : ℕ) (bytes :
   pub stop : says_stop answer ≡ true → HasSeenStop now
   pub opens : OpensAs fds (Pwrite fd at bytes) start now answer
 
-module _ (fds : List Fd) (worker : Option ℕ) (fd at : ℕ) (bytes : List ℕ) (start last now : PassState) (idle : IsIdle now) (same : last.view.opened ≡ start.view.opened) (before : IsUnplaced start.view last.view)
+module _ (fds : List Fd) (worker : Option ℕ) (fd at : ℕ) (bytes : List ℕ) (start last now : PassState) (idle : IsIdle now) (same : last.view.opened ≡ start.view.opened)
     (kept : IsUnplaced start.view now.view) (opens : open_writes last ≡ open_writes start) where
   -- a device fault ended it
   left_open : (is : IsOpened fds fd at bytes last now) → HasSeenStop now → IsToldSo fds worker fd at bytes start now (Open is.first)
@@ -84,7 +84,7 @@ module _ (fds : List Fd) (worker : Option ℕ) (fd at : ℕ) (bytes : List ℕ) 
   told_without_place RegionFault tried by lasting room = faulted (without_place RegionFault) (λ number. refl) by (tried.heeds.told refl)
   told_without_place StoreFault tried by lasting room = faulted (without_place StoreFault) (λ number. refl) by (tried.heeds.told refl)
   told_without_place refusal tried by lasting room = record {
-    told = record { kept = kept; lasting = (lasting, room, refl); last = last; before = before; over = tried };
+    told = record { kept = kept; lasting = (lasting, room, refl) };
     stop = tried.heeds.told;
     opens = by ∙ opens;
   }
@@ -98,7 +98,7 @@ told_behind fds worker fd at bytes mount start last now left refusal room answer
     let kept : IsUnplaced start.view now.view = record { seen = after.seen ∙ before.seen; mine = after.mine ∙ before.mine } in
     subst (IsToldSo fds worker fd at bytes start left) (sym is)
     (subst (λ (p : PassState). IsToldSo fds worker fd at bytes start p (without_place refusal (drawn_by p.view))) (sym (stays none))
-    (told_without_place fds worker fd at bytes start last now idle (at_last ∙ sym at_start) before kept opens refusal tried by lasting (sym asks ∙ none)))
+    (told_without_place fds worker fd at bytes start last now idle (at_last ∙ sym at_start) kept opens refusal tried by lasting (sym asks ∙ none)))
 
 -- ---- the calls of a pass
 

@@ -25,8 +25,10 @@ use Rattle.nv_calls.specs.reads.Reads.{IsReadDone, IsReadOver}
 use Rattle.nv_calls.specs.writes.Writes.{IsWriteTried}
 use Rattle.nv_trace.specs.declared.trace_call.TraceCall.{TraceCall}
 use Rattle.nv_trace.specs.declared.trace_call.TraceCall.TheVariants.{Pread, Pwrite, Fsync}
-use Rattle.nv_runner.specs.Calls.{IsLasting, IsRefused}
+use Rattle.nv_runner.specs.declared.answer.Answer.TheVariants.{Refused}
+use Rattle.nv_runner.specs.Calls.{IsAnswered, IsLasting}
 use Rattle.nv_runner.specs.Refusals.{HasCause, IsCause, early_of_call, unless_file}
+use Rattle.nv_runner.specs.Tries.{IsMade}
 use Rattle.nv_runner.proofs.RefusalWords.{WordLaws, load_found}
 use Rattle.nv_runner.proofs.RefusalSteps.{Shows, own_any, stands}
 
@@ -144,7 +146,11 @@ module _ (laws : WordLaws) (tell : OwnEventsTell) (reads_heed : ReadsHeedStop) (
 
   -- ---- a refused call
 
-  pub refusals_have_causes : (call : TraceCall) (start now : PassState) (refusal : Refusal) → IsMount (mount_of now.view.opened) → IsRefused fds worker call start now refusal → HasCause fds worker call now refusal
-  refusals_have_causes (Pread fd at len) start now refusal mount refused = of_read fd at len refused.over.0 refused.over.2 now refusal mount refused.over.1 refused.lasting refused.over.4
-  refusals_have_causes (Pwrite fd at bytes) start now refusal mount refused = of_write fd at bytes refused.last now refusal mount refused.lasting refused.over
-  refusals_have_causes (Fsync fd) start now refusal mount refused = of_sync fd refused.last now refusal mount refused.over
+  made_causes : (call : TraceCall) (start now : PassState) (refusal : Refusal) → IsMount (mount_of now.view.opened) → IsLasting call worker refusal → IsMade fds worker call start now (Err refusal) → HasCause fds worker call now refusal
+  made_causes (Pread fd at len) start now refusal mount lasting made = of_read fd at len made.0 made.2.last now refusal mount made.1 lasting made.2.over
+  made_causes (Pwrite fd at bytes) start now refusal mount lasting made = of_write fd at bytes made.last now refusal mount lasting made.tried
+  made_causes (Fsync fd) start now refusal mount lasting made = of_sync fd start now refusal mount made
+
+  pub refusals_have_causes : (call : TraceCall) (start now : PassState) (refusal : Refusal) → IsMount (mount_of now.view.opened) → IsAnswered fds worker call start now (Refused refusal) → HasCause fds worker call now refusal
+  refusals_have_causes call start now refusal mount answered =
+      made_causes call start now refusal mount answered.told.lasting (subst (IsMade fds worker call start now) answered.made.answers answered.made.by)

@@ -391,7 +391,7 @@ module _ (words : WordLaws) (counts : RunsCountDraws) (draws : DrawnLaws) (fds :
         record {
           now = now;
           opened = now_opened;
-          cause = causes fds worker call.call at.old now refusal now_mount at.told.told;
+          cause = causes fds worker call.call at.old now refusal now_mount at.told;
           seen = seen_by_zero fds worker shift zero is (past_there shift there) at.after now at.rest;
           order = omega (arith, order, order_is);
           head = head_bound;

@@ -13,16 +13,16 @@ use Rattle.nv_mirror.specs.declared.answers.Refusal.TheVariants.{Busy, Again}
 use Rattle.nv_mirror.specs.Answers.{IsPlacedAs, IsUnplaced}
 use Rattle.nv_mirror.specs.PassSteps.{is_fault}
 use Rattle.nv_calls.specs.calls.EarlyRefusals.{early_refusal}
-use Rattle.nv_calls.specs.fsync.SyncRuns.{IsSyncRun, file_of_fd}
+use Rattle.nv_calls.specs.fsync.SyncRuns.{file_of_fd}
 use Rattle.nv_calls.specs.histories.Faults.{OpenWrite, open_writes}
 use Rattle.nv_calls.specs.histories.Heeds.{HasSeenStop, tells_stop}
-use Rattle.nv_calls.specs.reads.Reads.{IsReadOver}
-use Rattle.nv_calls.specs.writes.Writes.{IsWriteTried, is_made_again}
+use Rattle.nv_calls.specs.writes.Writes.{is_made_again}
 use Rattle.nv_trace.specs.declared.trace_call.TraceCall.{TraceCall}
 use Rattle.nv_trace.specs.declared.trace_call.TraceCall.TheVariants.{Pread, Pwrite, Fsync}
 use Rattle.nv_runner.specs.declared.answer.Answer.{Answer}
 use Rattle.nv_runner.specs.declared.answer.Answer.TheVariants.{Placed, Refused, Open}
 use Rattle.nv_runner.specs.Runs.{GoesOn, entries_drawn}
+use Rattle.nv_runner.specs.Tries.{IsMadeFor}
 
 -- a call's descriptor
 abbrev pub fd_of : TraceCall → ℕ
@@ -36,13 +36,6 @@ call_on (Pread fd at len) file = Read file at len
 call_on (Pwrite fd at bytes) file = Write file at bytes
 call_on (Fsync fd) file = Sync file
 
--- The last try of a call is over, and was refused so. Those of a read before it left what the pass has seen and called, and a write's were to be made again.
-abbrev pub IsRefusedTry : List Fd → TraceCall → (start now : PassState) → Refusal → Type 0
-IsRefusedTry fds (Pread fd at len) start now refusal =
-    (list : List ℕ) × (length list ≡ len) × (last : PassState) × IsUnplaced start.view last.view × IsReadOver fds fd at list last now (Err refusal)
-IsRefusedTry fds (Pwrite fd at bytes) start now refusal = IsWriteTried fds fd at bytes start now (Err refusal)
-IsRefusedTry fds (Fsync fd) start now refusal = IsSyncRun (file_of_fd fds fd) start now (Err refusal)
-
 -- the log had no room for a write's entries
 abbrev pub wants_room : Refusal → Bool
 wants_room (Again head tail) = true
@@ -55,13 +48,10 @@ IsLasting (Pread fd at len) worker refusal = (cell : ℕ) → refusal ≢ Busy c
 IsLasting (Pwrite fd at bytes) worker refusal = (is_made_again refusal ≡ false) × (wants_room refusal && is_some worker ≡ false) × (is_fault (Some refusal) ≡ false)
 IsLasting (Fsync fd) worker refusal = Unit {0}
 
--- A call has no place. Its last try came where the pass had seen and called what it had at first, and was refused so.
-pub record IsRefused (fds : List Fd) (worker : Option ℕ) (call : TraceCall) (start now : PassState) (refusal : Refusal) : Type 0 where
+-- A call has no place, and was refused so.
+pub record IsRefused (worker : Option ℕ) (call : TraceCall) (start now : PassState) (refusal : Refusal) : Type 0 where
   pub kept : IsUnplaced start.view now.view
   pub lasting : IsLasting call worker refusal
-  pub last : PassState
-  pub before : IsUnplaced start.view last.view
-  pub over : IsRefusedTry fds call last now refusal
 
 -- a write that nothing that it asks for bars
 abbrev pub IsUnbarredWrite : Sizes → List Fd → TraceCall → Type 0
@@ -91,7 +81,7 @@ IsAdmitted sizes fds call answer = Unit {0}
 -- What an answer tells: that the call of the descriptor's file has its place behind all that the pass had seen, with the reply of plain files after the calls before it; or why it has none.
 abbrev pub Tells : List Fd → (worker : Option ℕ) → TraceCall → (start now : PassState) → Answer → Type 0
 Tells fds worker call start now (Placed place reply) = (file : ℕ) × (file_of_fd fds (fd_of call) ≡ Some file) × IsPlacedAs start.view now.view (call_on call file) reply place
-Tells fds worker call start now (Refused refusal) = IsRefused fds worker call start now refusal
+Tells fds worker call start now (Refused refusal) = IsRefused worker call start now refusal
 Tells fds worker call start now (Open number) = IsEndedByFault fds call start now
 
 -- an answer tells that STOP is set
@@ -114,10 +104,11 @@ opened_by fds call answer = []
 abbrev pub OpensAs : List Fd → TraceCall → (start now : PassState) → Answer → Type 0
 OpensAs fds call start now answer = open_writes now ≡ opened_by fds call answer ++ open_writes start
 
--- The call was answered so, and its pass is the same one: it knows that STOP is set where it knew before, or was told, and has drawn the call's entries, if any.
+-- The call was answered so, by the last of its tries, and its pass is the same one: it knows that STOP is set where it knew before, or was told, and has drawn the call's entries, if any.
 pub record IsAnswered (fds : List Fd) (worker : Option ℕ) (call : TraceCall) (start now : PassState) (answer : Answer) : Type 0 where
   pub opened : now.view.opened ≡ start.view.opened
   pub later : IsLater start now
+  pub made : IsMadeFor fds worker call start now answer
   pub told : Tells fds worker call start now answer
   pub stays : HasSeenStop start → HasSeenStop now
   pub stop : says_stop answer ≡ true → HasSeenStop now

@@ -1,5 +1,6 @@
 pub mod Entries
 pub mod Runs
+pub mod Tries
 pub mod Calls
 pub mod Lists
 pub mod OpenWrites

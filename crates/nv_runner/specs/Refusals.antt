@@ -17,8 +17,9 @@ use Rattle.nv_calls.specs.fsync.SyncRuns.{file_of_fd}
 use Rattle.nv_calls.specs.histories.Heeds.{HasSeenStop}
 use Rattle.nv_trace.specs.declared.trace_call.TraceCall.{TraceCall}
 use Rattle.nv_trace.specs.declared.trace_call.TraceCall.TheVariants.{Pread, Pwrite, Fsync}
+use Rattle.nv_runner.specs.declared.answer.Answer.TheVariants.{Refused}
 use Rattle.nv_runner.specs.Entries.{entries_taken}
-use Rattle.nv_runner.specs.Calls.{IsRefused}
+use Rattle.nv_runner.specs.Calls.{IsAnswered}
 use Rattle.nv_runner.specs.Faithful.{IsReadCall}
 
 -- ---- what bars a call
@@ -89,4 +90,4 @@ HasCause fds worker call now refusal =
 abbrev pub RefusalsHaveCauses : Type 0
 RefusalsHaveCauses =
     (fds : List Fd) (worker : Option ℕ) (call : TraceCall) (start now : PassState) (refusal : Refusal)
-    → IsMount (mount_of now.view.opened) → IsRefused fds worker call start now refusal → HasCause fds worker call now refusal
+    → IsMount (mount_of now.view.opened) → IsAnswered fds worker call start now (Refused refusal) → HasCause fds worker call now refusal

@@ -11,6 +11,7 @@ ghost use Rattle.nv_calls.specs.histories.Heeds.{HasSeenStop};
 ghost use Rattle.nv_runner.specs.Calls.{IsAdmitted, IsAnswered, OpensAs, Tells, says_stop, wants_room};
 ghost use Rattle.nv_runner.specs.OpenWrites.{without_place as answer_without_place};
 ghost use Rattle.nv_runner.specs.Runs.{GoesOn, entries_drawn};
+ghost use Rattle.nv_runner.specs.Tries.{HasRunBatch, IsMadeFor};
 
 use crate::Answer;
 use crate::laws::tries_go_on;
@@ -54,6 +55,7 @@ fn make_read<R: Wait, L: Lines + Drop, B: Backing + Drop>(
     ensures board { IsOf mount.now.board pass.new }
     ensures idle { IsIdle pass.new }
     ensures later { IsLater pass.old pass.new }
+    ensures made { (worker : Option ℕ) → IfOk result (λ answer. IsMadeFor mount.now.fds worker (calls.Pread fd at len) pass.old pass.new answer) }
     ensures told { (worker : Option ℕ) → IfOk result (λ answer. Tells mount.now.fds worker (calls.Pread fd at len) pass.old pass.new answer) }
     ensures stays { HasSeenStop pass.old → HasSeenStop pass.new }
     ensures stop { IfOk result (λ answer. says_stop answer ≡ true → HasSeenStop pass.new) }
@@ -105,6 +107,7 @@ fn makes_room<L: Lines + Drop, B: Backing + Drop>(
     ensures on { GoesOn worker 0 pass.old pass.new }
     ensures none { result ≡ false → pass.new ≡ pass.old }
     ensures ran { result ≡ wants_room refusal && is_some worker }
+    ensures batch { result ≡ true → HasRunBatch worker pass.old pass.new }
     ensures opens { open_writes pass.new ≡ open_writes pass.old }
 {
     tries_go_on();
@@ -146,6 +149,7 @@ fn make_write<R: Wait, L: Lines + Drop, B: Backing + Drop>(
     ensures later { IsLater pass.old pass.new }
     ensures workspace { IsWorkspace mount.now.board.opened.sizes workspace.new }
     ensures bare { workspace.new.parts.items ≡ [] }
+    ensures made { IsMadeFor mount.now.fds worker (calls.Pwrite fd at bytes.now) pass.old pass.new result }
     ensures told { Tells mount.now.fds worker (calls.Pwrite fd at bytes.now) pass.old pass.new result }
     ensures stays { HasSeenStop pass.old → HasSeenStop pass.new }
     ensures stop { says_stop result ≡ true → HasSeenStop pass.new }
@@ -185,6 +189,7 @@ fn make_sync<L: Lines + Drop, B: Backing + Drop>(
     ensures board { IsOf mount.now.board pass.new }
     ensures idle { IsIdle pass.new }
     ensures later { IsLater pass.old pass.new }
+    ensures made { (worker : Option ℕ) → IsMadeFor mount.now.fds worker (calls.Fsync fd) pass.old pass.new result }
     ensures told { (worker : Option ℕ) → Tells mount.now.fds worker (calls.Fsync fd) pass.old pass.new result }
     ensures stays { HasSeenStop pass.old → HasSeenStop pass.new }
     ensures stop { says_stop result ≡ true → HasSeenStop pass.new }

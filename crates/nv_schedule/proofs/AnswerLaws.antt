@@ -43,7 +43,8 @@ use Rattle.nv_runner.specs.OpenWrites.{without_place}
 use Rattle.nv_runner.specs.Lists.{AreMade, MadeCall}
 use Rattle.nv_runner.specs.Runs.{GoesOn}
 use Rattle.nv_runner.specs.TryLaws.{ReadsGoOn, SyncsGoOn, WritesGoOn, write_drawn}
-use Rattle.nv_runner.proofs.CallLaws.{read_admitted, write_admitted}
+use Rattle.nv_runner.specs.Tries.{AnswersAs}
+use Rattle.nv_runner.proofs.CallLaws.{read_admitted, without_answers, write_admitted}
 use Rattle.nv_runner.proofs.OpenLaws.{told_behind}
 use Rattle.nv_runner.proofs.TryLaws.{answer_on, write_answer_on}
 use Rattle.nv_schedule.specs.Callers.{AreAnswered, IsAnsweredBy}
@@ -192,14 +193,15 @@ module _ (laws : CallLaws) (fds : List Fd) (fd at len : ℕ) (start begun now : 
     read_idle = over_idle fds (Pread fd at len) list begun now result (read_before.idle idle) (size, over)
 
     -- all but what it tells
-    read_answered : (answer : Answer) → Tells fds None (Pread fd at len) start now answer → (says_stop answer ≡ true → HasSeenStop now)
+    read_answered : (answer : Answer) → AnswersAs answer result → Tells fds None (Pread fd at len) start now answer → (says_stop answer ≡ true → HasSeenStop now)
         → IsAdmitted now.view.opened.sizes fds (Pread fd at len) answer → opened_by fds (Pread fd at len) answer ≡ []
         → IfOk result (λ done. (file : ℕ) × (file_of_fd fds fd ≡ Some file) × IsReadPlaced file at list start.view now.view done) → OnErr result (IsUnplaced start.view now.view) → IsAnswered fds None (Pread fd at len) start now answer
-    read_answered answer told stop admitted none placed unplaced =
+    read_answered answer answers told stop admitted none placed unplaced =
         let gone = read_gone fds fd at list begun now result over in
         record {
           opened = gone.opened ∙ read_before.opened;
           later = later_on start begun now read_before.later gone.later;
+          made = record { result = result; by = (list, size, read_tried); answers = answers };
           told = told;
           stays = λ seen. read_heeds.stays (read_before.stays seen);
           stop = stop;
@@ -214,7 +216,7 @@ module _ (laws : CallLaws) (fds : List Fd) (fd at len : ℕ) (start begun now : 
       let one = done_by early (file_of_fd fds fd) (λ file. IsReadDone file at list begun now (Ok done)) begun now done over in
       let placed = ok_since fds fd at list start begun now (Ok done) read_before.later read_before.unplaced read_before.opened (one.0, one.1, one.2.told) in
       let bytes : take done.len list ≡ placed.2.bytes = ap (λ l. take done.len l) placed.2.list_is ∙ ap (λ n. take n (placed.2.bytes ++ placed.2.rest)) placed.2.count ∙ first_bytes placed.2.bytes placed.2.rest in
-      read_answered (Ok done) over (Placed done.place (replies.Bytes (take done.len list))) (
+      read_answered (Ok done) over (Placed done.place (replies.Bytes (take done.len list))) (done.len, refl) (
         placed.0,
         placed.1,
         subst (λ (l : List ℕ). IsPlacedAs start.view now.view (Read placed.0 at len) (replies.Bytes l) done.place) (sym bytes)
@@ -225,13 +227,10 @@ module _ (laws : CallLaws) (fds : List Fd) (fd at len : ℕ) (start begun now : 
   read_refused : (refusal : Refusal) → IsReadOver fds fd at list begun now (Err refusal) → begins_anew (Pread fd at len) (Err refusal) ≡ false → IsAnswered fds None (Pread fd at len) start now (Refused refusal)
   read_refused refusal over good =
       let still = since_on start begun now read_before (read_since laws fds fd at len list begun now refusal (mounted start begun read_before.opened mount) size over) in
-      read_answered (Err refusal) over (Refused refusal)
+      read_answered (Err refusal) over (Refused refusal) refl
       (record {
         kept = still.unplaced;
         lasting = λ cell is. true≢false (sym (ap (λ (r : Refusal). begins_anew (Pread fd at len) (Err r)) is) ∙ good);
-        last = start;
-        before = record { seen = refl; mine = refl };
-        over = (list, size, begun, read_before.unplaced, over);
       })
       (read_heeds (Err refusal) over).told tt refl tt still.unplaced
 
@@ -290,6 +289,7 @@ module _ (laws : CallLaws) (fds : List Fd) (fd at : ℕ) (bytes : List ℕ) (sta
       record {
         opened = gone.opened ∙ write_before.opened;
         later = later_on start begun now write_before.later gone.later;
+        made = record { result = Ok done; by = record { full = []; last = start; before = refl; tried = tried }; answers = (done.len, refl) };
         told = (placed.0, placed.1, subst (λ n. IsPlacedAs start.view now.view (Write placed.0 at bytes) (replies.Count n) done.place) (sym count) placed.2.placed);
         stays = λ seen. tried.heeds.stays (write_before.stays seen);
         stop = λ says. absurd (cc);
@@ -310,6 +310,11 @@ module _ (laws : CallLaws) (fds : List Fd) (fd at : ℕ) (bytes : List ℕ) (sta
       record {
         opened = gone.opened ∙ write_before.opened;
         later = later_on start begun now write_before.later gone.later;
+        made = record {
+          result = Err refusal;
+          by = record { full = []; last = start; before = refl; tried = tried };
+          answers = subst (λ (a : Answer). AnswersAs a (Err refusal)) (sym is) (without_answers refusal (drawn_by now.view));
+        };
         told = so.told;
         stays = λ seen. tried.heeds.stays (write_before.stays seen);
         stop = so.stop;
@@ -337,6 +342,7 @@ module _ (laws : CallLaws) (fds : List Fd) (fd : ℕ) (start now : PassState) (m
   sync_done done over = record {
     opened = sync_opened (file_of_fd fds fd) start now (Ok done) over.sync_run;
     later = over.later;
+    made = record { result = Ok done; by = over.sync_run; answers = (done.len, refl) };
     told = sync_file (file_of_fd fds fd) start.view now.view done.place over.told.0;
     stays = (laws.syncs_heed fds fd start now (Ok done) mount over.sync_run).stays;
     stop = λ says. absurd (cc);
@@ -349,7 +355,8 @@ module _ (laws : CallLaws) (fds : List Fd) (fd : ℕ) (start now : PassState) (m
   sync_refused refusal over = record {
     opened = sync_opened (file_of_fd fds fd) start now (Err refusal) over.sync_run;
     later = over.later;
-    told = record { kept = over.told; lasting = tt; last = start; before = record { seen = refl; mine = refl }; over = over.sync_run };
+    made = record { result = Err refusal; by = over.sync_run; answers = refl };
+    told = record { kept = over.told; lasting = tt };
     stays = (laws.syncs_heed fds fd start now (Err refusal) mount over.sync_run).stays;
     stop = (laws.syncs_heed fds fd start now (Err refusal) mount over.sync_run).told;
     opens = laws.syncs_open fds fd start now (Err refusal) over.sync_run;

@@ -387,7 +387,7 @@ module _ (words : WordLaws) (call_laws : CallLaws) (causes : refusals.RefusalsHa
           record {
             now = at.now;
             opened = now_opened;
-            cause = causes mount.fds None call.call at.old at.now refusal now_mount at.told.told;
+            cause = causes mount.fds None call.call at.old at.now refusal now_mount at.told;
             seen = λ saw. inr (
               its_past.past,
               its_past.one,

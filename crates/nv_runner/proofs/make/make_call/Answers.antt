@@ -12,7 +12,7 @@ pub returns-in-Pread-clause-answered : goal.returns-in-Pread-clause-answered
 returns-in-Pread-clause-answered g c =
     subst (λ (call : TraceCall). IfOk c.make_read.result (λ answer. IsAnswered c.args.mount.now.fds c.args.worker call c.args.pass.now c.make_read.new.pass answer)) (sym c.in-Pread.is)
     (ok_answered c.args.mount.now.fds c.args.worker (calls.Pread c.in-Pread.fd c.in-Pread.at c.in-Pread.len) c.args.pass.now c.make_read.new.pass c.make_read.result
-    (c.make_read.ensures.board.same_mount ∙ sym c.requires.board.same_mount) c.make_read.ensures.later (c.make_read.ensures.told c.args.worker) c.make_read.ensures.stays c.make_read.ensures.stop c.make_read.ensures.opens
+    (c.make_read.ensures.board.same_mount ∙ sym c.requires.board.same_mount) c.make_read.ensures.later (c.make_read.ensures.made c.args.worker) (c.make_read.ensures.told c.args.worker) c.make_read.ensures.stays c.make_read.ensures.stop c.make_read.ensures.opens
     (ok_on c.args.worker c.make_read.new.pass.view.opened.sizes (calls.Pread c.in-Pread.fd c.in-Pread.at c.in-Pread.len) c.args.pass.now c.make_read.new.pass c.make_read.result refl c.make_read.ensures.on)
     c.make_read.ensures.admitted)
 
@@ -22,6 +22,7 @@ returns-in-Fsync-clause-answered g c =
     record {
       opened = c.make_sync.ensures.board.same_mount ∙ sym c.requires.board.same_mount;
       later = c.make_sync.ensures.later;
+      made = c.make_sync.ensures.made c.args.worker;
       told = c.make_sync.ensures.told c.args.worker;
       stays = c.make_sync.ensures.stays;
       stop = c.make_sync.ensures.stop;

@@ -5,8 +5,11 @@ use Rattle.nv_mirror.specs.declared.answers.Done.{Done}
 use Rattle.nv_mirror.specs.declared.answers.Refusal.{Refusal}
 use Rattle.nv_runner.specs.Runs.{GoesOn}
 use Rattle.nv_calls.specs.writes.Writes.{IsWriteTried}
+use Rattle.nv_table.specs.state.States.{PassState}
+use Rattle.nv_runner.specs.declared.answer.Answer.{Answer}
+use Rattle.nv_runner.specs.Tries.{AnswersAs}
 use Rattle.nv_runner.specs.TryLaws.{write_drawn}
-use Rattle.nv_runner.proofs.CallLaws.{write_admitted}
+use Rattle.nv_runner.proofs.CallLaws.{full_more, without_answers, write_admitted}
 use Rattle.nv_runner.proofs.TryLaws.{on_still, room_none, write_answer_on, write_on}
 use Rattle.nv_runner.proofs.make.make_write.Goals as goal
 use Rattle.nv_runner.proofs.OpenLaws.{told_behind}
@@ -68,6 +71,8 @@ loop-preserved g c =
           (write_on c.tries_go_on.ensures.writes c.args.mount.now.fds c.args.worker c.args.fd c.args.at c.args.bytes.now c.args.mount.now.board.opened c.args.pass.now c.loop.pass c.pwrite.new.pass c.pwrite.result
           so_far.board.same_mount so_far.later.number so_far.on c.sees_a_run.ensures.mount so_far.idle write.idle write.done write.kept write.tried)))
           room.on;
+      full = full_more c.args.mount.now.fds c.args.worker c.args.fd c.args.at c.args.bytes.now so_far.full.0 c.args.pass.now c.loop.pass c.pwrite.new.pass c.makes_room.new.pass c.in-Err.refusal so_far.full.1
+          (subst (λ (r : Result Done Refusal). IsWriteTried c.args.mount.now.fds c.args.fd c.args.at c.args.bytes.now c.loop.pass c.pwrite.new.pass r) c.in-Err.is write.tried) (search rules) (room.batch (search rules));
       unplaced = search rules;
       workspace = search rules;
       bare = search rules;
@@ -79,3 +84,25 @@ pub returns-in-Ok-clause-admitted : goal.returns-in-Ok-clause-admitted
 returns-in-Ok-clause-admitted g c =
     write_admitted c.args.mount.now.fds c.args.fd c.args.at c.args.bytes.now c.loop.pass c.pwrite.new.pass c.in-Ok.done
     (subst (λ (r : Result Done Refusal). IsWriteTried c.args.mount.now.fds c.args.fd c.args.at c.args.bytes.now c.loop.pass c.pwrite.new.pass r) c.in-Ok.is c.pwrite.ensures.tried)
+
+pub returns-in-Ok-clause-made : goal.returns-in-Ok-clause-made
+returns-in-Ok-clause-made g c =
+    let full = c.loop.invariant.full in
+    record { result = c.pwrite.result; by = record { full = full.0; last = c.loop.pass; before = full.1; tried = c.pwrite.ensures.tried }; answers = (c.in-Ok.done.len, c.in-Ok.is) }
+
+pub returns-then-not-makes_room-clause-made : goal.returns-then-not-makes_room-clause-made
+returns-then-not-makes_room-clause-made g c =
+    let full = c.loop.invariant.full in
+    let fds = c.args.mount.now.fds in
+    let last = c.makes_room.new.pass in
+    let tried = subst (λ (r : Result Done Refusal). IsWriteTried fds c.args.fd c.args.at c.args.bytes.now c.loop.pass c.pwrite.new.pass r) c.in-Err.is c.pwrite.ensures.tried in
+    record {
+      result = Err c.in-Err.refusal;
+      by = record {
+        full = full.0;
+        last = c.loop.pass;
+        before = full.1;
+        tried = subst (λ (p : PassState). IsWriteTried fds c.args.fd c.args.at c.args.bytes.now c.loop.pass p (Err c.in-Err.refusal)) (sym (c.makes_room.ensures.none (search rules))) tried;
+      };
+      answers = subst (λ (a : Answer). AnswersAs a (Err c.in-Err.refusal)) (sym c.without_place.ensures) (without_answers c.in-Err.refusal _);
+    }
