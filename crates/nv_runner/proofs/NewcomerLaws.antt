@@ -1,6 +1,6 @@
 -- Newcomers: the passes that pass 0 makes and takes in, in the run.
-use Rattle.std.proofs.Common.{◌≡◌, ◌≢◌, ℕ, ◌+◌, ◌<◌, ◌≤◌, ◌==◌, false, List, [], ◌∷◌, ◌++◌, refl, sym, ap, subst, ◌∙◌, arith}
-use Rattle.std.specs.Prelude.{Option}
+use Rattle.std.proofs.Common.{◌≡◌, ◌≢◌, ℕ, ◌+◌, ◌<◌, ◌≤◌, ◌==◌, false, true, List, [], ◌∷◌, ◌++◌, refl, sym, ap, subst, ◌∙◌, arith, append-nil}
+use Rattle.std.specs.Prelude.{All, Option}
 use Rattle.std.proofs.lemmas.Bool.{ne_eqb}
 use Rattle.std.proofs.lemmas.List.{append_assoc}
 use Rattle.std.proofs.lemmas.List.Elements.{All-append, All-cons, All-nil}
@@ -15,13 +15,14 @@ use Rattle.nv_core.proofs.steps.FrameLaws.{others_all}
 use Rattle.nv_core.proofs.steps.RunLaws.{run_parts, after_parts}
 use Rattle.nv_core.proofs.invariant.KeepsLoaded.{more_made}
 use Rattle.nv_core.proofs.invariant.HistoryLaws.{begins_all}
+use Rattle.nv_table.specs.passes.PassesMade.{IsSplit, IsTakenIn}
 use Rattle.nv_table.specs.passes.Seats.{PassingTells, joined}
 use Rattle.nv_table.specs.state.Opened.{Opened, mount_of, state_of}
 use Rattle.nv_table.specs.state.States.{PassState}
 use Rattle.nv_table.specs.state.Views.{PassView, pass_of}
 use Rattle.nv_runner.specs.Newcomers.{JoinsGoOn, NewcomersAreUnborn, NewcomersBeginBehind, SplitsGoOn}
-use Rattle.nv_runner.specs.Runs.{CleansNothing, GoesOn, is_cleaning, is_cleaning_op}
-use Rattle.nv_runner.proofs.RunLaws.{others_clean}
+use Rattle.nv_runner.specs.Runs.{CleansNothing, GoesOn, OnlyMakesPasses, is_cleaning, is_cleaning_op, is_of_passes, is_of_passes_op}
+use Rattle.nv_runner.proofs.RunLaws.{others_any, others_clean}
 
 -- ---- a pass that isn't made yet has no events
 
@@ -84,6 +85,43 @@ passing_on worker before old new op found opened number run plain middle new_ope
         ap (λ (o : Opened). drawn_of o.sizes ((state_of o one.run).passes one.number)) opened
         ∙ ap (λ n. drawn_of other.opened.sizes ((state_of other.opened one.run).passes n)) number
         ∙ ap (λ r. drawn_of other.opened.sizes ((state_of other.opened r).passes other.number)) run
+
+-- and the pass makes no other
+passing_makes : (before : PassView) (old new : PassState) (op : Op) (found : ℕ) → before.number ≡ old.view.number → before.run ≡ old.view.run → is_of_passes_op op ≡ true
+    → (middle : PassView) → new.view.run ≡ middle.run → PassingTells before op found middle → OnlyMakesPasses old new
+passing_makes before old new op found number run plain middle new_run is =
+    let event : Event = record { by = before.number; act = TakesStep op found } in
+    let rest = is.knew.all.rest in
+    let Made : ℕ → Event → Type 0 = λ n event. event.by ≡ n → is_of_passes event.act ≡ true in
+    record {
+      more = rest ++ event ∷ [];
+      run = new_run ∙ passing_run before middle op found is ∙ ap (λ r. r ++ (rest ++ event ∷ [])) run;
+      only = subst (λ n. All (Made n) (rest ++ event ∷ [])) number
+          (All-append (Made before.number) rest (event ∷ []) (others_any (λ event. is_of_passes event.act ≡ true) before.number rest is.knew.all.quiet)
+          (All-cons (Made before.number) event [] (λ same. plain) (All-nil (Made before.number))));
+    }
+
+pub split_makes : (old new other : PassState) → IsSplit old new other → OnlyMakesPasses old new
+split_makes old new other is = passing_makes old.view old new Split is.found refl refl refl is.middle (ap (λ (p : PassState). p.view.run) is.parent_is) is.made
+
+pub join_makes : (old other new : PassState) → IsTakenIn old other new → OnlyMakesPasses old new
+join_makes old other new is = passing_makes (joined old.view is.last) old new (Join other.view.number) is.found refl refl refl is.view (ap (λ (p : PassState). p.view.run) is.is) is.taken
+
+pub makes_both : (old middle new : PassState) → middle.view.number ≡ old.view.number → OnlyMakesPasses old middle → OnlyMakesPasses middle new → OnlyMakesPasses old new
+makes_both old middle new same first last =
+    let Made : ℕ → Event → Type 0 = λ n event. event.by ≡ n → is_of_passes event.act ≡ true in
+    record {
+      more = first.more ++ last.more;
+      run = last.run ∙ ap (λ r. r ++ last.more) first.run ∙ append_assoc old.view.run first.more last.more;
+      only = All-append (Made old.view.number) first.more last.more first.only (subst (λ n. All (Made n) last.more) same last.only);
+    }
+
+pub makes_none : (old new : PassState) → new ≡ old → OnlyMakesPasses old new
+makes_none old new same = record {
+  more = [];
+  run = ap (λ (p : PassState). p.view.run) same ∙ sym (append-nil old.view.run);
+  only = All-nil (λ (event : Event). event.by ≡ old.view.number → is_of_passes event.act ≡ true);
+}
 
 -- ---- laws
 

@@ -27,7 +27,7 @@ use Rattle.nv_table.proofs.steps.TakenLaws.{behind_on}
 use Rattle.nv_mirror.specs.Answers.{IsUnplaced}
 use Rattle.nv_calls.specs.histories.Faults.{open_in, open_writes}
 use Rattle.nv_runner.specs.Workers.{IsNewcomer, IsZeroStill}
-use Rattle.nv_runner.proofs.NewcomerLaws.{joins_go_on, newcomers_are_unborn, newcomers_begin_behind, splits_go_on}
+use Rattle.nv_runner.proofs.NewcomerLaws.{join_makes, joins_go_on, makes_both, makes_none, newcomers_are_unborn, newcomers_begin_behind, split_makes, splits_go_on}
 use Rattle.nv_runner.proofs.ShiftRuns.{on_none}
 use Rattle.nv_runner.proofs.TryLaws.{on_both}
 use Rattle.nv_runner.proofs.HistoryMembers.{one_mapped}
@@ -199,12 +199,13 @@ pub unplaced_on : (old middle new : PassView) → IsUnplaced old middle → IsUn
 unplaced_on old middle new one more = record { seen = more.seen ∙ one.seen; mine = more.mine ∙ one.mine }
 
 pub still_on : (old middle new : PassState) → IsZeroStill old middle → IsZeroStill middle new → IsZeroStill old new
-still_on old middle new one more = record { number = more.number ∙ one.number; opens = more.opens ∙ one.opens; on = λ worker. on_both worker 0 0 old middle new one.number (one.on worker) (more.on worker); unplaced = unplaced_on old.view middle.view new.view one.unplaced more.unplaced; spare = more.spare ∙ one.spare }
+still_on old middle new one more = record { number = more.number ∙ one.number; makes = makes_both old middle new one.number one.makes more.makes; opens = more.opens ∙ one.opens; on = λ worker. on_both worker 0 0 old middle new one.number (one.on worker) (more.on worker); unplaced = unplaced_on old.view middle.view new.view one.unplaced more.unplaced; spare = more.spare ∙ one.spare }
 
 -- by nothing
 pub still_same : (old new : PassState) → new ≡ old → IsZeroStill old new
 still_same old new same = record {
   number = ap (λ (p : PassState). p.view.number) same;
+  makes = makes_none old new same;
   on = λ worker. on_none worker old new same;
   opens = ap open_writes same;
   unplaced = record { seen = ap (λ (p : PassState). (pass_of p.view).seen) same; mine = ap (λ (p : PassState). (pass_of p.view).mine) same };
@@ -215,6 +216,7 @@ still_same old new same = record {
 pub split_still : (old new other : PassState) → IsSplit old new other → IsZeroStill old new
 split_still old new other is = record {
   number = split_number old new other is;
+  makes = split_makes old new other is;
   on = λ worker. splits_go_on worker old new other is;
   opens = ap (λ (p : PassState). open_in (pass_of p.view).faulted) is.parent_is ∙ ap (λ (p : Pass). open_in p.faulted) is.made.pass;
   unplaced = record {
@@ -227,6 +229,7 @@ split_still old new other is = record {
 pub join_still : (old other new : PassState) → IsTakenIn old other new → IsZeroStill old new
 join_still old other new is = record {
   number = join_number old other new is;
+  makes = join_makes old other new is;
   on = λ worker. joins_go_on worker old other new is;
   opens = ap (λ (p : PassState). open_in (pass_of p.view).faulted) is.is ∙ ap (λ (p : Pass). open_in p.faulted) is.taken.pass;
   unplaced = record {

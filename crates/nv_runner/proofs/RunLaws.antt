@@ -1,6 +1,6 @@
 -- Runs: how one goes on by the steps of a pass.
 use Rattle.std.proofs.Common.{◌≡◌, ℕ, ◌+◌, Bool, true, false, if◌then◌else◌, List, [], ◌∷◌, ◌++◌, refl, sym, ap, subst, ◌∙◌, arith, append-nil}
-use Rattle.std.specs.Prelude.{Option, Some, None}
+use Rattle.std.specs.Prelude.{All, Option, Some, None}
 use Rattle.std.proofs.lemmas.List.{append_assoc}
 use Rattle.std.proofs.lemmas.List.Elements.{All-nil, All-cons, All-append}
 use Rattle.nv_plain.specs.declared.call.FileCall.{FileCall}
@@ -64,12 +64,15 @@ went_as calls one other old new same went = subst (λ n. Went calls n old new) s
 
 -- ---- one step
 
--- events of others
-pub others_clean : (number : ℕ) (rest : List Event) → own number rest ≡ [] → CleansNothing number rest
-others_clean number [] none = All-nil (λ (event : Event). event.by ≡ number → is_cleaning event.act ≡ false)
-others_clean number (event ∷ later) none =
+-- of events of others anything is so that is said of its own
+pub others_any : (P : Event → Type 0) (number : ℕ) (rest : List Event) → own number rest ≡ [] → All (λ event. event.by ≡ number → P event) rest
+others_any P number [] none = All-nil (λ (event : Event). event.by ≡ number → P event)
+others_any P number (event ∷ later) none =
     let apart = others_all number event later none in
-    All-cons (λ (event : Event). event.by ≡ number → is_cleaning event.act ≡ false) event later (λ is. absurd (apart.0 (sym is))) (others_clean number later apart.1)
+    All-cons (λ (event : Event). event.by ≡ number → P event) event later (λ is. absurd (apart.0 (sym is))) (others_any P number later apart.1)
+
+pub others_clean : (number : ℕ) (rest : List Event) → own number rest ≡ [] → CleansNothing number rest
+others_clean number rest none = others_any (λ event. is_cleaning event.act ≡ false) number rest none
 
 act_cleans : (opens : Option FileCall) (op : Op) (found : ℕ) → is_cleaning (act_of opens op found) ≡ is_cleaning_op op
 act_cleans None op found = refl

@@ -44,6 +44,7 @@ module _ {L B : Type 0} (mount : MountState) (batch : Option ℕ) (ended : List 
     some = ap (λ l. calls_made l ++ calls_of_thread worker.thread calls) new.none;
     last = worker.pass;
     each = made_none mount.fds batch worker.made worker.pass new.none;
+    behind = inl new.none;
     quiet = unplaced_still worker.pass.view;
     on = on_none batch worker.pass worker.pass refl;
     keeps = keeps_still worker.pass;
@@ -59,6 +60,7 @@ module _ {L B : Type 0} (mount : MountState) (batch : Option ℕ) (ended : List 
     some = worked.some.some ∙ ap (λ thread. calls_of_thread thread calls) (sym worked.thread);
     last = new.pass;
     each = worked.some.each;
+    behind = inr refl;
     quiet = unplaced_still new.pass.view;
     on = on_none batch new.pass new.pass refl;
     keeps = keeps_still new.pass;
@@ -74,6 +76,7 @@ module _ {L B : Type 0} (mount : MountState) (batch : Option ℕ) (ended : List 
     some = ap (λ l. calls_made l ++ calls_of_thread new.thread calls) (cleaned.made ∙ is.none);
     last = old.pass;
     each = made_none mount.fds batch new.made old.pass (cleaned.made ∙ is.none);
+    behind = inl (cleaned.made ∙ is.none);
     quiet = cleaned.unplaced;
     on = cleaned.on;
     keeps = cleaned.keeps;
@@ -92,6 +95,7 @@ module _ {L B : Type 0} (mount : MountState) (batch : Option ℕ) (ended : List 
         some = served.some;
         last = served.last;
         each = served.each;
+        behind = served.behind;
         quiet = served.quiet;
         on = served.on;
         keeps = served.keeps;

@@ -79,6 +79,7 @@ module _ {L B : Type 0} (mount : MountState) (batch : Option ℕ) (ended : List 
     unfailed = served.newcomer.unfailed;
     last = served.last;
     made = served.each;
+    behind = served.behind;
     quiet = served.quiet;
     on = served.on;
     keeps = served.keeps;

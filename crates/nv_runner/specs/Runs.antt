@@ -1,7 +1,7 @@
 -- Runs: how the run that a pass has seen goes on, and what the pass draws of the log meanwhile.
 use Rattle.std.specs.Prelude.{◌≡◌, ℕ, ◌+◌, Bool, true, false, List, ◌++◌, All, Option, None}
 use Rattle.nv_core.specs.state.Words.{Sizes}
-use Rattle.nv_core.specs.steps.Ops.{Op, ByCleaner}
+use Rattle.nv_core.specs.steps.Ops.{Op, ByCleaner, Split, Join}
 use Rattle.nv_core.specs.steps.Events.{Act, BeginsCall, TakesStep, Event}
 use Rattle.nv_core.specs.invariant.Draws.{drawn_of}
 use Rattle.nv_table.specs.state.States.{PassState}
@@ -42,6 +42,24 @@ is_cleaning act = false
 -- none of a pass's own events among some is one of a cleaner
 abbrev pub CleansNothing : (number : ℕ) → List Event → Type 0
 CleansNothing number events = All (λ event. event.by ≡ number → is_cleaning event.act ≡ false) events
+
+-- ---- passes that are made and taken in
+
+-- a step makes a pass, or takes one in
+abbrev pub is_of_passes_op : Op → Bool
+is_of_passes_op Split = true
+is_of_passes_op (Join number) = true
+is_of_passes_op op = false
+
+abbrev pub is_of_passes : Act → Bool
+is_of_passes (TakesStep op found) = is_of_passes_op op
+is_of_passes act = false
+
+-- A pass has seen a run go on. It made passes and took some in meanwhile, and did nothing else: it made no call, ran no batch and called no device.
+pub record OnlyMakesPasses (old new : PassState) : Type 0 where
+  pub more : List Event
+  pub run : new.view.run ≡ old.view.run ++ more
+  pub only : All (λ event. event.by ≡ old.view.number → is_of_passes event.act ≡ true) more
 
 -- ---- how a run goes on
 

@@ -32,7 +32,8 @@ pub record Shift : Type 0 where
   pub start : PassState
   pub now : PassState
 
--- It was fresh, and no event of its pass came before it; it made these calls one behind the other, and is idle. What else it did, such as a cleaner's batches, placed nothing and drew nothing, and left the writes that faults had ended.
+-- It was fresh, and no event of its pass came before it; it made these calls one behind the other, and is idle. It did nothing behind the last of them; one that made none, as the cleaner, may have run batches, which placed nothing and drew nothing,
+-- and left the writes that faults had ended.
 pub record IsShift (fds : List Fd) (worker : Option ℕ) (opened : Opened) (shift : Shift) : Type 0 where
   pub mount : shift.start.view.opened ≡ opened
   pub fresh : (pass_of shift.start.view).mine ≡ []
@@ -40,6 +41,7 @@ pub record IsShift (fds : List Fd) (worker : Option ℕ) (opened : Opened) (shif
   pub unfailed : open_writes shift.start ≡ []
   pub last : PassState
   pub made : AreMade fds worker shift.made shift.start last
+  pub behind : (shift.made ≡ []) ⊎ (shift.now ≡ last)
   pub quiet : IsUnplaced last.view shift.now.view
   pub on : GoesOn worker 0 last shift.now
   pub keeps : KeepsFaults last shift.now

@@ -1,5 +1,5 @@
 -- Workers: the pass of a thread in a round, what its calls work in, and the calls that it made.
-use Rattle.std.specs.Prelude.{◌≡◌, ◌≢◌, ℕ, ◌+◌, Bool, true, List, [], ◌∷◌, ◌++◌, map, Option, Some, None}
+use Rattle.std.specs.Prelude.{◌≡◌, ◌≢◌, ◌⊎◌, ℕ, ◌+◌, Bool, true, List, [], ◌∷◌, ◌++◌, map, Option, Some, None}
 use Rattle.std.specs.List.{range_with_len}
 use Rattle.nv_core.specs.state.Passes.{IsOneOf}
 use Rattle.nv_core.specs.steps.Events.{own}
@@ -15,7 +15,7 @@ use Rattle.nv_calls.specs.histories.Faults.{open_writes}
 use Rattle.nv_trace.specs.declared.trace_call.TracedCall.{TracedCall}
 use Rattle.nv_runner.specs.Lists.{AreMade, MadeCall, SomeWereMade, calls_made}
 use Rattle.nv_runner.specs.OpenWrites.{KeepsFaults}
-use Rattle.nv_runner.specs.Runs.{GoesOn}
+use Rattle.nv_runner.specs.Runs.{GoesOn, OnlyMakesPasses}
 use Rattle.nv_runner.specs.Shifts.{calls_of_thread}
 
 -- whose it is, its pass, what its calls work in, the calls that it made, and whether it has done its part
@@ -71,9 +71,10 @@ pub record IsZero (mount : MountState) (zero : PassState) : Type 0 where
   pub number : zero.view.number ≡ 0
   pub idle : IsIdle zero
 
--- It placed nothing meanwhile, drew nothing and made no cleaner's step, no fault ended a write of it, and the parts that have no slot are with it.
+-- It only made passes and took some in meanwhile: so it placed nothing, drew nothing and made no cleaner's step, no fault ended a write of it, and the parts that have no slot are with it.
 pub record IsZeroStill (old new : PassState) : Type 0 where
   pub number : new.view.number ≡ old.view.number
+  pub makes : OnlyMakesPasses old new
   pub on : (worker : Option ℕ) → GoesOn worker 0 old new
   pub opens : open_writes new ≡ open_writes old
   pub unplaced : IsUnplaced old.view new.view
@@ -85,7 +86,7 @@ pub record IsNewWorker {L B : Type 0} (mount : MountState) (ended : List Past) (
   pub newcomer : IsNewcomer mount.board.opened ended worker.pass
   pub none : worker.made ≡ []
 
--- What a worker did since pass 0 made its pass: it made some first ones of its thread's calls among these, and placed nothing else.
+-- What a worker did since pass 0 made its pass: it made some first ones of its thread's calls among these, and nothing behind them. One that made none, as the cleaner, may have run batches.
 pub record HasServed {L B : Type 0} (mount : MountState) (batch : Option ℕ) (ended : List Past) (calls : List TracedCall) (worker : WorkerState L B) : Type 0 where
   pub ready : IsReady mount worker
   pub start : PassState
@@ -94,6 +95,7 @@ pub record HasServed {L B : Type 0} (mount : MountState) (batch : Option ℕ) (e
   pub some : calls_made worker.made ++ left ≡ calls_of_thread worker.thread calls
   pub last : PassState
   pub each : AreMade mount.fds batch worker.made start last
+  pub behind : (worker.made ≡ []) ⊎ (worker.pass ≡ last)
   pub quiet : IsUnplaced last.view worker.pass.view
   pub on : GoesOn batch 0 last worker.pass
   pub keeps : KeepsFaults last worker.pass
