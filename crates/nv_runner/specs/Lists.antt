@@ -40,8 +40,15 @@ pub record AllWereMade (fds : List Fd) (worker : Option ℕ) (calls : List Trace
   pub all : calls_made made ≡ calls
   pub each : AreMade fds worker made start now
 
--- Some first ones were, but not all.
+-- Some first ones were, but not all: this one is the next.
 pub record SomeWereMade (fds : List Fd) (worker : Option ℕ) (calls : List TracedCall) (made : List MadeCall) (start now : PassState) : Type 0 where
+  pub next : TracedCall
+  pub left : List TracedCall
+  pub some : calls_made made ++ next ∷ left ≡ calls
+  pub each : AreMade fds worker made start now
+
+-- Some first ones were, maybe all.
+pub record FirstWereMade (fds : List Fd) (worker : Option ℕ) (calls : List TracedCall) (made : List MadeCall) (start now : PassState) : Type 0 where
   pub left : List TracedCall
   pub some : calls_made made ++ left ≡ calls
   pub each : AreMade fds worker made start now

@@ -13,7 +13,7 @@ use Rattle.nv_mount.specs.Mounts.{MountState}
 use Rattle.nv_mirror.specs.Answers.{IsUnplaced}
 use Rattle.nv_calls.specs.histories.Faults.{open_writes}
 use Rattle.nv_trace.specs.declared.trace_call.TracedCall.{TracedCall}
-use Rattle.nv_runner.specs.Lists.{AreMade, MadeCall, SomeWereMade, calls_made}
+use Rattle.nv_runner.specs.Lists.{AreMade, FirstWereMade, MadeCall, calls_made}
 use Rattle.nv_runner.specs.OpenWrites.{KeepsFaults}
 use Rattle.nv_runner.specs.Runs.{GoesOn, OnlyMakesPasses}
 use Rattle.nv_runner.specs.Shifts.{calls_of_thread}
@@ -39,7 +39,7 @@ pub record HasWorked {L B : Type 0} (mount : MountState) (batch : Option ℕ) (c
   pub thread : new.thread ≡ old.thread
   pub ready : IsReady mount new
   pub later : IsLater old.pass new.pass
-  pub some : SomeWereMade mount.fds batch (calls_of_thread old.thread calls) new.made old.pass new.pass
+  pub some : FirstWereMade mount.fds batch (calls_of_thread old.thread calls) new.made old.pass new.pass
 
 -- all calls of its thread among these were made
 abbrev pub HasMadeAll : {L B : Type 0} → List TracedCall → WorkerState L B → Type 0

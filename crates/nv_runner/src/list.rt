@@ -1,5 +1,5 @@
 //! The calls of one thread.
-ghost use Rattle.std.specs.Prelude.{◌≡◌, ◌≤◌, [], length, OnOk, OnErr};
+ghost use Rattle.std.specs.Prelude.{◌≡◌, [], length, OnOk, OnErr};
 ghost use Rattle.nv_table.specs.invariant.Idle.{IsIdle, IsLater};
 ghost use Rattle.nv_table.specs.state.States.{IsOf};
 ghost use Rattle.nv_table.specs.state.Workspaces.{IsWorkspace};
@@ -19,13 +19,14 @@ use std::sync::Wait;
 
 // How many calls are of the thread.
 fn count_of(calls: &[TracedCall], thread: u64) -> usize
-    ensures { result ≤ length calls.now }
+    ensures { result ≡ length (calls_of_thread thread calls.now) }
 {
     let mut count = 0;
     for call in calls {
-        if call.thread == thread {
-            count += 1;
+        if call.thread != thread {
+            continue;
         }
+        count += 1;
     }
     count
 }
@@ -92,8 +93,12 @@ pub fn make_all<'a, R: Wait, G: Gate, L: Lines + Drop, B: Backing + Drop>(
     ensures made { OnOk result (AllWereMade mount.now.fds worker (calls_of_thread thread calls.now) (made_calls answered.new.items) pass.old pass.new) }
     ensures memory { OnErr result (SomeWereMade mount.now.fds worker (calls_of_thread thread calls.now) (made_calls answered.new.items) pass.old pass.new) }
 {
+    let count = count_of(calls, thread);
+    if count == 0 {
+        return Ok(());
+    }
     let mut rooms = read_rooms(alloc, mount, calls, thread)?;
-    answered.reserve_exact(count_of(calls, thread))?;
+    answered.reserve_exact(count)?;
     for call in calls {
         if call.thread != thread {
             continue;

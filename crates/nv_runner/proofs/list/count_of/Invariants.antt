@@ -1,6 +1,10 @@
--- They are no more than the calls so far.
-use Rattle.std.proofs.Common.{◌≤◌}
+-- With those of the calls that are left they are all of the thread's.
+use Rattle.std.proofs.Common.{◌≡◌, ◌+◌, ◌≤◌, drop, length}
+use Rattle.nv_runner.specs.Shifts.{calls_of_thread}
 use Rattle.nv_runner.proofs.list.count_of.Given as goal
 
 abbrev pub invariant-loop-call : goal.invariant-loop-call
-invariant-loop-call l = l.count ≤ l.call-index
+invariant-loop-call l = record {
+  few : l.count ≤ l.call-index;
+  all : l.count + length (calls_of_thread l.thread (drop l.call-index l.calls)) ≡ length (calls_of_thread l.thread l.calls);
+}
