@@ -12,7 +12,7 @@ use Rattle.nv_core.specs.content.Content.{RunsKeepContent}
 use Rattle.nv_core.specs.crash.CrashImages.{AddedInAnyOrder, FaultsAreFated, RunsKeepRegion, StatesSurviveCrashes}
 use Rattle.nv_core.specs.invariant.Flights.{FlightsAreNumbered, NoTwoInFlightOfAPage}
 use Rattle.nv_core.specs.crash.EmptyLog.{EmptyLogsRest}
-use Rattle.nv_core.specs.log.LogContent.{RunsKeepTheLog}
+use Rattle.nv_core.specs.log.LogContent.{GroupsAreInImages, NoOldWordCounts, RunsKeepTheLog}
 use Rattle.nv_table.specs.ends.Closing.{IsClosed}
 use Rattle.nv_table.specs.invariant.BetweenSteps.{KnowsTaken}
 use Rattle.nv_table.specs.state.Opened.{Opened, mount_of, IsRunOf}
@@ -62,11 +62,11 @@ module _ {L B : Type 0} (device : L → ℕ) (history : L → PartHistory) (faul
       rests_where_empty device history faults room store_device store_history store_faults pass.view parts stores placed tail many_parts many_stores whole
       sound tell keeps region_stays empty each mount zero_is knows all
 
-  pub crash : OwnEventsTell → RunsKeepTheLog → RunsKeepRegion → StatesSurviveCrashes → FaultsAreFated → AddedInAnyOrder → FlightsAreNumbered → NoTwoInFlightOfAPage
+  pub crash : OwnEventsTell → RunsKeepTheLog → GroupsAreInImages → NoOldWordCounts → RunsKeepRegion → StatesSurviveCrashes → FaultsAreFated → AddedInAnyOrder → FlightsAreNumbered → NoTwoInFlightOfAPage
       → CrashesLeaveWholeWrites pass.view (map history parts) (map store_history stores)
-  crash tell keeps region_stays survive fated ordered flights pages =
+  crash tell keeps in_images none_old region_stays survive fated ordered flights pages =
       whole_writes device history faults room store_device store_history store_faults pass.view parts stores placed tail many_parts many_stores whole
-      sound tell keeps region_stays survive fated ordered flights pages mount zero_is knows all
+      sound tell keeps in_images none_old region_stays survive fated ordered flights pages mount zero_is knows all
 
   pub go_on_telling : RunsKeepTheLog → DevicesGoOnTelling pass (map history parts) (map store_history stores)
   go_on_telling keeps files log opens spare =

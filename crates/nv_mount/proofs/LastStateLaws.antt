@@ -14,6 +14,7 @@ use Rattle.nv_core.specs.steps.Frames.{OwnEventsTell}
 use Rattle.nv_core.specs.steps.Order.{Values}
 use Rattle.nv_core.specs.invariant.ControlFacts.{HasDrawn}
 use Rattle.nv_core.specs.invariant.InvariantLaws.{RunsAreSound}
+use Rattle.nv_core.specs.invariant.LogWindow.{InWindow}
 use Rattle.nv_core.specs.invariant.Ownership.{HoldsLocks, one_if, is_among}
 use Rattle.nv_core.specs.invariant.Sound.{Sound}
 use Rattle.nv_core.specs.content.Content.{Opens}
@@ -35,6 +36,8 @@ use Rattle.nv_table.specs.state.Layout.{cell_of}
 use Rattle.nv_table.specs.state.Opened.{mount_of, IsRunOf, state_of}
 use Rattle.nv_table.specs.state.Views.{PassView, pass_of, made_of}
 use Rattle.nv_table.proofs.state.LayoutLaws.{cell_there}
+use Rattle.nv_mount.specs.WholeWrites.{WasDrawn}
+use Rattle.nv_mount.proofs.DrawnGroups.{run_drawn}
 use Rattle.nv_mount.proofs.WholeRunLaws.{all_taken, joined_then}
 
 -- ---- a pass that holds nothing has no write that is to be placed
@@ -91,6 +94,7 @@ pub record LastLog (view : PassView) (files : Files) (names : List (List ℕ)) :
   pub placed : ℕ → Bool
   pub content : LogContent view.opened.sizes (mount_of view.opened).values files tails log placed (state_of view.opened view.run)
   pub region : HasRegion view.opened.sizes names tails log (state_of view.opened view.run)
+  pub drawn : (n : ℕ) → InWindow (state_of view.opened view.run) n → WasDrawn view.opened view.run (log.group n).call (log.group n).first
 
 pub last_log : RunsAreSound → RunsKeepTheLog → RunsKeepRegion → (view : PassView) → IsMount (mount_of view.opened) → IsRunOf view.opened view.run → (files : Files) (names : List (List ℕ))
     → OpensLog (mount_of view.opened) view.opened.next → Opens (mount_of view.opened) files → OpensRegion (mount_of view.opened) names → LastLog view files names
@@ -103,6 +107,7 @@ last_log sound keeps region_stays view mount is_run files names log opens region
       placed = placed_after_run view.opened.sizes core view.run (λ _. false);
       content = keeps (mount_of view.opened) files view.opened.next first (λ _. false) view.run mount log opens.stores is_run;
       region = region_stays (mount_of view.opened) files names first (λ _. false) view.run mount log opens.stores region is_run;
+      drawn = λ n inside. run_drawn sound view.opened mount view.run first is_run n inside.0 inside.1;
     }
 
 -- ---- its cells keep these parts

@@ -14,3 +14,4 @@ mod ReorderLaws
 mod WholeWriteLaws
 mod ListLaws
 mod ImageLaws
+mod DrawnGroups

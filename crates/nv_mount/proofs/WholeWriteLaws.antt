@@ -1,16 +1,21 @@
 -- Laws about what recovery finds of the last state of a mount: the writes in flight that are kept.
-use Rattle.std.proofs.Common.{◌≡◌, ◌≢◌, ◌⊎◌, ℕ, ◌+◌, ◌-◌, ◌<◌, ◌≤◌, ◌==◌, ◌&&◌, ◌||◌, nat_le, nat_lt, not, Bool, true, false, if◌then◌else◌, List, [], ◌∷◌, ◌++◌, length, inl, inr, refl, sym, ap, subst, ◌∙◌, arith, IsPermutation}
-use Rattle.std.specs.List.{flat_map, list_any}
-use Rattle.std.proofs.lemmas.Bool.{cases_Bool, cases_eq, cases_lt, and_from, and_parts, or_cases, ltb-true, lt-ltb, leb-true}
+use Rattle.std.proofs.Common.{◌≡◌, ◌≢◌, ◌⊎◌, ℕ, zero, suc, ◌+◌, ◌-◌, ◌<◌, ◌≤◌, ◌==◌, ◌&&◌, ◌||◌, nat_le, nat_lt, not, Bool, true, false, if◌then◌else◌, List, [], ◌∷◌, ◌++◌, length, inl, inr, refl, sym, ap, subst, ◌∙◌, arith, IsPermutation}
+use Rattle.std.specs.Prelude.{filter}
+use Rattle.std.specs.List.{flat_map, list_any, range_with_len}
+use Rattle.std.proofs.lemmas.Bool.{cases_Bool, cases_eq, cases_lt, and_from, and_parts, or_cases, eqb-true, ltb-true, lt-ltb, leb-true}
+use Rattle.std.proofs.lemmas.Nat.{mod_below}
 use Rattle.std.proofs.lemmas.List.Sorted.{IsPermutation-sym}
 use Rattle.std.proofs.lemmas.List.Sums.{sum_by-append}
 use Rattle.nv_core.specs.steps.Order.{Values}
 use Rattle.nv_plain.specs.Files.{Files}
-use Rattle.nv_plain.specs.Images.{Image, entry_of}
+use Rattle.nv_plain.specs.Images.{Entry, Image, entry_at, entry_of, header_of}
+use Rattle.nv_plain.specs.Layouts.{version_1}
 use Rattle.nv_plain.specs.Recovered.{recovered}
 use Rattle.nv_plain.specs.declared.call.FileCall.{FileCall}
+use Rattle.nv_plain.specs.declared.call.FileCall.TheVariants.{Read, Write, Sync}
+use Rattle.nv_header.specs.Regions.{ReadsAs}
 use Rattle.nv_core.specs.state.Words.{Sizes, HEAD, TAIL, PAGE, ENTRY, slot_of_entry}
-use Rattle.nv_core.specs.state.Passes.{Cleaning, Control, Idle, SeizeEntry, CommitGroup, PledgePage, ReadyEntry, TakePlace, SetStopAfterCommit, Fault, Pass, IsOneOf, is_write, first_page, times}
+use Rattle.nv_core.specs.state.Passes.{Cleaning, Control, Idle, SeizeEntry, CommitGroup, PledgePage, ReadyEntry, TakePlace, SetStopAfterCommit, Fault, Pass, IsOneOf, is_write, first_page, page_count, times}
 use Rattle.nv_core.specs.state.Core.{Core}
 use Rattle.nv_core.specs.steps.Frames.{OwnEventsTell}
 use Rattle.nv_core.specs.steps.Opening.{IsMount, opening}
@@ -25,7 +30,8 @@ use Rattle.nv_core.specs.invariant.Ownership.{HoldsLocks}
 use Rattle.nv_core.specs.invariant.Sound.{Sound}
 use Rattle.nv_core.specs.crash.CommutingWrites.{IsReordered, after_calls}
 use Rattle.nv_core.specs.crash.CrashImages.{AreImagesOfStores, AddedInAnyOrder, FaultsAreFated, StatesSurviveCrashes, Survives, is_in_flight, is_committed, is_added, added_unready, added_writes, IsFated, KeptInImage, Stored}
-use Rattle.nv_core.specs.log.EntryImages.{IsRegionImage}
+use Rattle.nv_core.specs.log.EntryImages.{IsRegionImage, ReadsOpenOrWhole, ReadsWhole}
+use Rattle.nv_core.specs.log.LogContent.{GroupsAreInImages, NoOldWordCounts}
 use Rattle.nv_core.specs.log.Faults.{IsRecorded}
 use Rattle.nv_core.specs.log.Groups.{Group, HasGroup, IsOwn}
 use Rattle.nv_core.specs.log.InFlight.{IsDrawn, IsFlying, IsWaiting}
@@ -36,6 +42,7 @@ use Rattle.nv_core.specs.steps.PassSteps.{fault_of}
 use Rattle.nv_core.specs.log.LivePieces.{calls_of, is_ready, is_waiting}
 use Rattle.nv_core.specs.log.Unready.{group_of_fault}
 use Rattle.nv_core.proofs.crash.CommutingLaws.{after_both}
+use Rattle.nv_core.proofs.crash.CrashGroups.{entry_is, some_entries}
 use Rattle.nv_core.proofs.crash.CrashHeader.{which_tail}
 use Rattle.nv_core.proofs.log.KeepsFaults.{failing_drawn}
 use Rattle.nv_core.proofs.invariant.KeepsLoaded.{holds_page}
@@ -49,7 +56,7 @@ use Rattle.nv_table.specs.state.Views.{Past, PassView, AreDistinctNumbers, pass_
 use Rattle.nv_table.proofs.passes.BetweenLaws.{distinct_run}
 use Rattle.nv_mount.specs.ClosedAtRest.{files_then}
 use Rattle.nv_mount.specs.WholeRuns.{history_then}
-use Rattle.nv_mount.specs.WholeWrites.{LeavesWholeWrites, at_hand, faults_then, flights_then, is_kept, kept_writes}
+use Rattle.nv_mount.specs.WholeWrites.{IsGroupOfRun, LeavesWholeWrites, WasDrawn, at_hand, faults_then, flights_then, is_kept, kept_writes}
 use Rattle.nv_mount.proofs.LastStateLaws.{LastLog, none_hold}
 use Rattle.nv_mount.proofs.ListLaws.{or_left, or_right, any_one, one_any, one_behind, one_of_flat, flat_one, number_of}
 use Rattle.nv_mount.proofs.ReorderLaws.{AreKeyed, AreLeft, all_left, count, counted_there, found, left, moved_count, moved_one}
@@ -121,9 +128,28 @@ freed_below sizes pass tails number (Cleaning batch (FreeEntry next)) stands at 
 freed_below sizes pass tails number (Cleaning batch AdvanceTail) stands at freed = let a = at.0 in let f = freed.1 in omega (arith, a, f)
 freed_below sizes pass tails number control stands at freed = absurd freed
 
+-- ---- numbers that pass a test
+
+kept_number : (test : ℕ → Bool) (from many n : ℕ) → IsOneOf (filter test (range_with_len from many)) n → (from ≤ n) × (test n ≡ true)
+kept_number test from zero n one = absurd one
+kept_number test from (suc many) n one = go (kept_number test (from + 1) many n) (test from) refl
+  where
+    rest : List ℕ
+    rest = filter test (range_with_len (from + 1) many)
+
+    go : (IsOneOf rest n → (from + 1 ≤ n) × (test n ≡ true)) → (b : Bool) → test from ≡ b → (from ≤ n) × (test n ≡ true)
+    go later true e = elim (subst (λ b. IsOneOf (if b then from ∷ rest else rest) n) e one) [
+      | inl is ↦ (omega (arith, is), ap test is ∙ e)
+      | inr more ↦ wider (later more)
+    ]
+      where
+        wider : (from + 1 ≤ n) × (test n ≡ true) → (from ≤ n) × (test n ≡ true)
+        wider there = let low = there.0 in (omega (arith, low), there.1)
+    go later false e = let there = later (subst (λ b. IsOneOf (if b then from ∷ rest else rest) n) e one) in let low = there.0 in (omega (arith, low), there.1)
+
 -- ---- what recovery finds of the last state of a mount
 
-module _ (sound : RunsAreSound) (tell : OwnEventsTell) (survive : StatesSurviveCrashes) (fated : FaultsAreFated) (ordered : AddedInAnyOrder) (flights : FlightsAreNumbered) (pages : NoTwoInFlightOfAPage)
+module _ (sound : RunsAreSound) (tell : OwnEventsTell) (in_images : GroupsAreInImages) (none_old : NoOldWordCounts) (survive : StatesSurviveCrashes) (fated : FaultsAreFated) (ordered : AddedInAnyOrder) (flights : FlightsAreNumbered) (pages : NoTwoInFlightOfAPage)
     (view : PassView) (mount : IsMount (mount_of view.opened)) (is_run : IsRunOf view.opened view.run) (zero_is : view.number ≡ 0) (knows : KnowsTaken view) (all : length view.ended ≡ made_of view)
     (files : Files) (names : List (List ℕ)) (last : LastLog view files names)
     (image : Image) (bytes : Files) (is : IsRegionImage view.opened.sizes (values_of view) image) (held : AreImagesOfStores view.opened.sizes (values_of view) bytes) where
@@ -516,12 +542,65 @@ module _ (sound : RunsAreSound) (tell : OwnEventsTell) (survive : StatesSurviveC
             (none_hold sound view mount is_run zero_is knows all tell owned taken past.number))
       ]))
 
+  -- ---- the groups that recovery finds
+
+  reads : ReadsAs version_1 sizes.page sizes.entries names (image 0 1 0) image
+  reads = last.region.header image is
+
+  -- each is that of a number of the window, and whole
+  record IsGroupThere (n : ℕ) : Type 0 where
+    pub inside : InWindow core n
+    pub leads : (last.log.group n).first ≡ n
+    pub whole : ReadsWhole sizes (last.log.group n).call n image
+
+  whole_call : (call : FileCall) (n : ℕ) → 1 ≤ page_count sizes call → (entry_of (image (1 + slot_of_entry sizes n))).commit ≡ n + 1 → ReadsOpenOrWhole sizes call n image → ReadsWhole sizes call n image
+  whole_call (Write file at bytes) n some commits (inl none) =
+      let same : n + 0 ≡ n = omega arith in absurd (none 0 some (subst (λ m. (entry_of (image (1 + slot_of_entry sizes m))).commit ≡ m + 1) (sym same) commits))
+  whole_call (Write file at bytes) n some commits (inr whole) = whole
+  whole_call (Read file at len) n some commits open_ = absurd open_
+  whole_call (Sync file) n some commits open_ = absurd open_
+
+  group_there : (n : ℕ) → IsOneOf groups n → IsGroupThere n
+  group_there n one =
+      let entries : 1 ≤ sizes.entries = some_entries sizes names (image 0 1 0) image reads in
+      let found = committed_at n one in
+      let commits : (entry_of (image (1 + slot_of_entry sizes n))).commit ≡ n + 1 = ap (λ (e : Entry). e.commit) (sym (entry_is sizes names (image 0 1 0) image reads n)) ∙ found.1 in
+      let low : last.tails.least ≤ n = elim (which_tail sizes at_opening names last.tails last.log core last.content.header last.region image is) [
+        | inl least ↦ (let f = found.0 in omega (arith, f, least))
+        | inr next ↦ (let f = found.0 in let order = last.content.retired.order in omega (arith, f, next, order))
+      ] in
+      let leads = (none_old sizes at_opening files last.tails last.log last.placed core entries is_sound last.content).each image is (slot_of_entry sizes n) n (mod_below n sizes.entries entries) refl low commits in
+      let grouped = last.content.groups.each n leads.within in
+      record {
+        inside = leads.within;
+        leads = leads.leads;
+        whole = whole_call (last.log.group n).call n (subst (λ c. 1 ≤ c) grouped.drawn.many grouped.drawn.some) commits
+            ((in_images sizes at_opening files last.tails last.log last.placed core entries is_sound last.content).groups n leads.within low leads.leads image is);
+      }
+    where
+      -- it is no lower than the tail, and its commit word is its own
+      committed_at : (n : ℕ) → IsOneOf groups n → (image 0 1 0 ≤ n) × ((entry_at image n).commit ≡ n + 1)
+      committed_at n one =
+          let there = kept_number (λ m. (entry_at image m).commit == m + 1) (header_of image).tail (header_of image).entries n one in
+          let low = there.0 in
+          let tail = reads.tail_is in
+          (omega (arith, low, tail), eqb-true (entry_at image n).commit (n + 1) there.1)
+
+  group_of_run : (n : ℕ) → IsOneOf groups n → IsGroupOfRun view image n
+  group_of_run n one =
+      let there = group_there n one in
+      record { call = (last.log.group n).call; drawn = subst (WasDrawn view.opened view.run (last.log.group n).call) there.leads (last.drawn n there.inside); whole = there.whole }
+
   pub leaves : LeavesWholeWrites view files names image bytes
   leaves = record {
     header = last.region.header image is;
     fits = survives.fits;
     flights = λ order moved. files_are order (all_moved (flights_then view) order moved all_flights);
     faults = λ owned taken order moved. files_are order (all_moved (faults_then view) order moved (all_faults owned taken));
+    groups = group_of_run;
+    own = λ write one is_one found.
+        let has = all_flights.fly write one is_one in
+        subst (λ (g : Group). ReadsWhole sizes g.call write.first image) (group_is has.0 write has.1) (group_there write.first found).whole;
     low = λ fault one write.
         let from = flat_one faulted everybody fault one in
         (fated sizes at_opening files names last.tails last.log last.placed core from.0.number fault image bytes is_sound last.content last.region is held

@@ -16,10 +16,13 @@ use Rattle.nv_core.specs.steps.PassSteps.{fault_of}
 use Rattle.nv_core.specs.content.Content.{Opens}
 use Rattle.nv_core.specs.crash.CommutingWrites.{after_calls}
 use Rattle.nv_core.specs.crash.CrashImages.{OpensRegion}
+use Rattle.nv_core.specs.log.EntryImages.{ReadsWhole}
 use Rattle.nv_core.specs.log.LogContent.{OpensLog}
+use Rattle.nv_core.specs.steps.Events.{Event, TakesStep}
+use Rattle.nv_core.specs.steps.Ops.{Draw}
 use Rattle.nv_table.specs.invariant.Idle.{TakenHoldNothing}
 use Rattle.nv_table.specs.passes.Seats.{past_of}
-use Rattle.nv_table.specs.state.Opened.{mount_of}
+use Rattle.nv_table.specs.state.Opened.{Opened, mount_of, state_of}
 use Rattle.nv_table.specs.state.Views.{PassView, pass_of, past_pass}
 use Rattle.nv_mount.specs.ClosedAtRest.{files_then}
 
@@ -57,14 +60,31 @@ RecoversTo files calls image bytes =
     (order : List Fault) → IsPermutation calls order
     → (recovered image bytes).files ≡ after_calls (kept_writes (recovered image bytes).first (recovered image bytes).groups order) files
 
+-- A write drew its numbers in a run, from this one on: while its pass made this call, which had loaded HEAD so, this event found HEAD unmoved.
+pub record WasDrawn (opened : Opened) (run : List Event) (call : FileCall) (number : ℕ) : Type 0 where
+  pub before : List Event
+  pub by : ℕ
+  pub after : List Event
+  pub lies : run ≡ before ++ record { by = by; act = TakesStep Draw number } ∷ after
+  pub call_is : ((state_of opened before).passes by).call ≡ call
+  pub loaded : ((state_of opened before).passes by).head ≡ number
+
+-- A group that an image has at this number was drawn in the run by a write, and the image has that write whole: its file, its offset and its bytes.
+pub record IsGroupOfRun (view : PassView) (image : Image) (leader : ℕ) : Type 0 where
+  pub call : FileCall
+  pub drawn : WasDrawn view.opened view.run call leader
+  pub whole : ReadsWhole view.opened.sizes call leader image
+
 -- The header reads as this region's, and the image fits. It recovers to the files after the history and then the writes in flight that are kept;
 -- where neither pass 0 nor one that it took in holds a cell, these are writes that faults ended. None of the latter has its first number below the
--- first one that recovery finds.
+-- first one that recovery finds. Each group that recovery finds was drawn in the run by a write that it has whole; that of a write in flight is its own.
 pub record LeavesWholeWrites (view : PassView) (files : Files) (names : List (List ℕ)) (image : Image) (bytes : Files) : Type 0 where
   pub header : ReadsAs version_1 view.opened.sizes.page view.opened.sizes.entries names (recovered image bytes).first image
   pub fits : Fits version_1 image
   pub flights : RecoversTo (files_then view files) (flights_then view) image bytes
   pub faults : (pass_of view).owned ≡ [] → TakenHoldNothing view → RecoversTo (files_then view files) (faults_then view) image bytes
+  pub groups : (leader : ℕ) → IsOneOf (recovered image bytes).groups leader → IsGroupOfRun view image leader
+  pub own : (write : Fault) → IsOneOf (flights_then view) write → is_write write.call ≡ true → IsOneOf (recovered image bytes).groups write.first → ReadsWhole view.opened.sizes write.call write.first image
   pub low : (fault : Fault) → IsOneOf (faults_then view) fault → is_write fault.call ≡ true → (recovered image bytes).first ≤ fault.first
 
 -- Whatever a power failure leaves of parts and stores that tell does so.
