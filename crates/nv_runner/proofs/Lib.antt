@@ -37,6 +37,7 @@ pub mod StandLaws
 pub mod CauseLaws
 pub mod FailedLaws
 pub mod FaithfulLaws
+pub mod KeptWholeLaws
 pub mod DrawSteps
 pub mod DrawRuns
 pub mod DrawMoments

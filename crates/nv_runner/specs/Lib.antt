@@ -20,6 +20,7 @@ pub mod TryLaws
 pub mod Told
 pub mod OpenRuns
 pub mod FaithfulRuns
+pub mod KeptCalls
 pub mod FailedDevices
 pub mod DrawnNumbers
 pub mod RunNumbers

@@ -3,6 +3,7 @@ ghost use Rattle.nv_runner.specs.DrawnNumbers.{OneThreadDrawsByLine};
 ghost use Rattle.nv_runner.specs.FailedDevices.{FaultsAreOfTheirDevices};
 ghost use Rattle.nv_runner.specs.FaithfulRuns.{EmptiedLogsGoOn, FilesAreOfTheHistory, RunsAreFaithful, RunsAreNumbered, UnstoppedRunsLeaveNothingOpen};
 ghost use Rattle.nv_runner.specs.Histories.{SortedAreHistory, ThreadsAreLegal};
+ghost use Rattle.nv_runner.specs.KeptCalls.{OpenCallsAreKeptWhole};
 ghost use Rattle.nv_runner.specs.Lists.{PlacedAreMine, PlacedStand};
 ghost use Rattle.nv_runner.specs.OpenRuns.{LeftOpenAreKept, OpenInRun};
 ghost use Rattle.nv_runner.specs.Lives.{RunsLeaveLives};
@@ -121,12 +122,14 @@ pub fn newcomers_begin_behind()
 
 /// A report that shows the sorted calls of a run of a trace that was brought to its end, over a new mount that was closed then, is faithful to the trace: its history is
 /// legal, each call stands in it once, in the order of lines and rounds, each refusal has its cause, and it shows the files that the stores have then, with those of the calls left open that are kept.
-/// The calls that drew numbers did so in a row, and a log that was left empty goes on with the number behind the last of them.
+/// The calls that drew numbers did so in a row, and a log that was left empty goes on with the number behind the last of them. A call that was left open is among the groups that a power failure leaves
+/// only as itself, with its file, its offset and its bytes.
 pub fn runs_are_faithful()
     ensures faithful { RunsAreFaithful }
     ensures numbers { RunsAreNumbered }
     ensures tails { EmptiedLogsGoOn }
     ensures files { FilesAreOfTheHistory }
+    ensures kept { OpenCallsAreKeptWhole }
 {}
 
 /// A call of a run is answered a fault of the region only where a part of the region has failed since the mount was opened, and one of a store only where a store has: by that device's own count.
