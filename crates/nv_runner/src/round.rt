@@ -75,7 +75,7 @@ fn serve<
 }
 
 /// Makes the calls of one round, each thread its own in their order, and all threads at the same time, each by a pass that pass 0 makes, and takes in behind them. Where `batch`
-/// tells the most entries of a batch, a cleaner runs beside them. What the calls are answered goes to the end of `answered`. Where memory is wanting, some first ones of each
+/// tells the most entries of a batch, a cleaner runs beside them, by a pass of its own. What the calls are answered goes to the end of `answered`. Where memory is wanting, some first ones of each
 /// thread's calls were made.
 pub fn run_round<
     'a,
@@ -104,6 +104,7 @@ pub fn run_round<
     ensures still { IsZeroStill zero.old zero.new }
     ensures all_in { length zero.new.view.ended ≡ made_of zero.new.view }
     ensures few { made_of zero.new.view ≤ made_of zero.old.view + 9 }
+    ensures crew { OnOk result (made_of zero.new.view ≡ made_of zero.old.view + length (crew_of threads batch)) }
     ensures run { HasRun mount.now.fds batch (made_calls answered.new.items) zero.new }
     ensures within { AreMoreOf calls.now (made_calls answered.old.items) (made_calls answered.new.items) }
     ensures all { OnOk result (IsPermutation (calls_made (made_calls answered.new.items)) (calls_made (made_calls answered.old.items) ++ calls.now)) }

@@ -66,3 +66,9 @@ returns-clause-all g c =
 
 pub returns-clause-still : goal.returns-clause-still
 returns-clause-still g c = still_on c.args.zero.now c.serve-result.new.zero c.take_in_all.new.zero c.serve-result.ensures.still c.take_in_all.ensures.still
+
+pub returns-clause-crew : goal.returns-clause-crew
+returns-clause-crew g c =
+    let workers = c.serve-result.new.workers.items in
+    both_ok c.serve-result.result c.serve-result.ensures.crew c.serve-result.ensures.crew
+    (λ crew _. omega (arith, ap length crew, length-map workers (λ (w : WorkerState g.row.L.Denot g.row.B.Denot). w.thread), c.take_in_all.ensures.made, c.serve-result.ensures.made))
