@@ -11,7 +11,7 @@ use Rattle.nv_clean.specs.declared.batch.CleanControl.TheVariants as cleans
 use Rattle.nv_clean.specs.declared.batch.CleanRefusal.{CleanRefusal}
 use Rattle.nv_clean.specs.declared.clean.CleanProgress.TheVariants.{More, Ended}
 use Rattle.nv_clean.specs.declared.clean.Cleaned.{Cleaned}
-use Rattle.nv_schedule.specs.Callers.{CleanerHasCome}
+use Rattle.nv_schedule.specs.Callers.{CleanerHasCome, IsAtBatch}
 
 abbrev pub new_machine : (most : ℕ) → CleanState
 new_machine most = record { batch = new_batch most; owned = []; control = cleans.Begin; refusal = None }
@@ -21,6 +21,11 @@ fresh_batch most start idle = record {
   way = record { called = batch_begins start idle; apart = tt; fresh = λ at. (refl, refl, refl, refl) };
   told = record { steps = []; made = refl; own = tt; begun = (refl, refl); refused = refl; stops = refl; moved = λ n is. absurd (cc); retired = λ over none. absurd (cc) };
 }
+
+pub batch_at : (most : ℕ) (begun now : PassState) (machine : CleanState) → machine ≡ new_machine most → IsAtBatch most None begun now → IsAtBatch most (Some machine) begun now
+batch_at most begun now machine is at =
+    subst (λ (m : CleanState). IsOpen m.control × IsBatchUnderWay most m begun now) (sym is)
+    (tt, subst (λ (p : PassState). IsBatchUnderWay most (new_machine most) p now) at.0 (fresh_batch most now at.1))
 
 -- the next one is taken up
 pub batch_taken_up : (most : ℕ) (start now : PassState) (machine : CleanState) → machine ≡ new_machine most

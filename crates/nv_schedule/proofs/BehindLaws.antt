@@ -159,7 +159,7 @@ module _ (before : List Event) (old new : PassState) (shares : SharesMoment old.
       (subst (InTurn (trail ++ made)) (sym one.is)
       (in_turn_both trail one.run made (in_turn_on trail before one.run (begins_both before (longer old.view.run before) one.run middle_is.1 (goes_before made one)) turn)))
 
-  pub comes_behind : (made : List Event) → MovesBy made old new → ComeBehind made before (longer new.view.run (longer old.view.run before))
+  pub comes_behind : {allowed : Type 0} (made : List Event) → MovesBy allowed made old new → ComeBehind made before (longer new.view.run (longer old.view.run before))
   comes_behind made (inl none) trail turn =
       subst (λ l. InTurn l (longer new.view.run (longer old.view.run before))) (sym (ap (λ l. trail ++ l) none.1 ∙ append-nil trail))
       (in_turn_on trail before (longer new.view.run (longer old.view.run before)) (begins_both before (longer old.view.run before) (longer new.view.run (longer old.view.run before)) middle_is.1 after_is.1) turn)

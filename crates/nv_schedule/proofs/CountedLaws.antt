@@ -179,7 +179,7 @@ turn_stops : RunsAreSound → OwnEventsTell → (fds : List Fd) (answered : Bool
     → old.pass.view.number ≢ 0 → (pass_of new.pass.view).left ≡ [] → some_fails made ≡ true → (pass_of new.pass.view).stopped ≡ true
 turn_stops sound tell fds answered made old new turned mount other nothing failed = by turned.moved
   where
-    by : MovesBy made old.pass new.pass → (pass_of new.pass.view).stopped ≡ true
+    by : {allowed : Type 0} → MovesBy allowed made old.pass new.pass → (pass_of new.pass.view).stopped ≡ true
     by (inl still) = absurd (true≢false (sym failed ∙ ap some_fails still.1))
     by (inr one) = step_stops sound tell one.0 old.pass new.pass one.1 mount other nothing (sym (step_fails old.pass.view.number one.0) ∙ sym (ap some_fails one.2) ∙ failed)
 

@@ -92,6 +92,6 @@ step_is_deeds step old new taken other nothing =
 pub turn_is_deeds : (fds : List Fd) (answered : Bool) (made : List Event) (old new : CallerState) → HasTurned fds answered made old new → (start : PassState) → HasCome fds old.work start old.pass → old.pass.view.number ≢ 0 → AreDeeds made
 turn_is_deeds fds answered made old new turned start come other = by turned.moved
   where
-    by : MovesBy made old.pass new.pass → AreDeeds made
+    by : {allowed : Type 0} → MovesBy allowed made old.pass new.pass → AreDeeds made
     by (inl still) = subst AreDeeds (sym still.1) tt
     by (inr one) = subst AreDeeds (sym one.2) (step_is_deeds one.0 old.pass new.pass one.1 other (left_none fds new.work start new.pass (turned.come start come)))

@@ -1,6 +1,6 @@
 -- Faults: a step tells of the device calls that lie before it whether one of them has failed.
 use Rattle.std.proofs.Common.{◌≡◌, ℕ, ◌+◌, ◌||◌, ◌&&◌, not, ◌⊎◌, Bool, true, false, List, [], ◌∷◌, inl, inr, refl, sym, ap, subst, ◌∙◌}
-use Rattle.std.specs.Prelude.{Option, Some, None, is_some}
+use Rattle.std.specs.Prelude.{Option, Some, None, Err, is_some}
 use Rattle.nv_plain.specs.declared.call.FileCall.{FileCall}
 use Rattle.nv_core.specs.invariant.InvariantLaws.{RunsAreSound}
 use Rattle.nv_core.specs.state.Cleaner.{Batch, CleanerControl, WriteBack, SyncStores, MoveHeaderTail}
@@ -31,6 +31,7 @@ use Rattle.nv_mirror.specs.PassSteps.{HasTaken, PassStep, either_of, fault_at, f
 use Rattle.nv_mirror.specs.declared.answers.Refusal.{Refusal}
 use Rattle.nv_calls.specs.calls.Advances.{IsOneOrNone, Standing}
 use Rattle.nv_calls.specs.declared.progress.Progress.{Progress}
+use Rattle.nv_calls.specs.declared.progress.Progress.TheVariants.{Ended}
 use Rattle.nv_clean.specs.CleanSteps.{HasMadeOne, is_fault}
 use Rattle.nv_clean.specs.Cleaning.{CleanState, call_refusal, calls_refusal}
 use Rattle.nv_clean.specs.declared.batch.CleanRefusal.{CleanRefusal}
@@ -171,10 +172,11 @@ either_other : (one other : Option Refusal) → is_some one ≡ false → is_som
 either_other None other none = refl
 either_other (Some refusal) other none = absurd (cc)
 
-pub call_tells : {Machine : Type 0} (standing : Machine → Standing) (early : Option Refusal) (m next : Machine) (old new : PassState) (progress : Progress) → IsOneOrNone standing early m next old new progress
-    → IsAtCall (pass_of old.view).control → IsOneOrNoStep (is_some (standing m).fault) (is_some (standing next).fault) old new
-call_tells standing early m next old new progress (inl none) at = inl (none.same, ap (λ n. is_some (standing n).fault) none.stays)
-call_tells standing early m next old new progress (inr one) at =
+pub call_tells : {Machine : Type 0} (allowed : Type 0) (standing : Machine → Standing) (early : Option Refusal) (m next : Machine) (old new : PassState) (progress : Progress)
+    → ((refusal : Refusal) → early ≡ Some refusal → progress ≡ Ended (Err refusal) → allowed) → IsOneOrNone standing early m next old new progress
+    → IsAtCall (pass_of old.view).control → IsOneOrNoStep allowed (is_some (standing m).fault) (is_some (standing next).fault) old new
+call_tells allowed standing early m next old new progress such (inl none) at = inl (none.same, ap (λ n. is_some (standing n).fault) none.stays, such none.refusal none.early_is none.answer)
+call_tells allowed standing early m next old new progress such (inr one) at =
     inr (
       one.step,
       one.is,
@@ -183,7 +185,7 @@ call_tells standing early m next old new progress (inr one) at =
           ∙ sym (ap is_some one.fault ∙ either_other (standing m).fault (fault_in one.step.works) was),
     )
 
-pub batch_tells : (sizes : Sizes) (m next : CleanState) (old new : PassState) → HasMadeOne sizes m next old new → IsOneOrNoStep (is_fault m.refusal) (is_fault next.refusal) old new
+pub batch_tells : (sizes : Sizes) (m next : CleanState) (old new : PassState) → HasMadeOne sizes m next old new → IsOneOrNoStep ⊥ (is_fault m.refusal) (is_fault next.refusal) old new
 batch_tells sizes m next old new one =
     inr (
       one.step,
@@ -192,6 +194,11 @@ batch_tells sizes m next old new one =
           clean_fails old.view.opened.sizes one.step.works (values_of old.view) (pass_of old.view) (step_due one.step old new one.taken)
           ∙ sym (one.fault ∙ ap (λ b. b || is_fault (calls_refusal one.step.works)) was),
     )
+
+-- the same with what it tells told otherwise
+pub told_so : (allowed other : Type 0) (was was_so faulted faulted_so : Bool) (old new : PassState) → was ≡ was_so → faulted ≡ faulted_so → (allowed → other) → IsOneOrNoStep allowed was faulted old new → IsOneOrNoStep other was_so faulted_so old new
+told_so allowed other was was_so faulted faulted_so old new same same_now such (inl none) = inl (none.0, sym same_now ∙ none.1 ∙ same, such none.2)
+told_so allowed other was was_so faulted faulted_so old new same same_now such (inr one) = inr (one.0, one.1, λ not. one.2 (same ∙ not) ∙ same_now)
 
 -- ---- a pass whose last step is one of a call
 

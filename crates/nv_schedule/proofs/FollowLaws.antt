@@ -52,7 +52,7 @@ index_any (caller ∷ later) (suc place) d e less = index_any later place d e (o
 
 -- ---- an advance
 
-pub number_kept : (events : List Event) (old new : PassState) → MovesBy events old new → new.view.number ≡ old.view.number
+pub number_kept : {allowed : Type 0} (events : List Event) (old new : PassState) → MovesBy allowed events old new → new.view.number ≡ old.view.number
 number_kept events old new (inl still) = ap (λ (p : PassState). p.view.number) still.0
 number_kept events old new (inr one) = (made_one one.0 old new one.1).number
 

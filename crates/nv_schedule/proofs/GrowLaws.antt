@@ -34,7 +34,7 @@ record Moved (made : List Event) (old new : PassState) : Type 0 where
   grew : own old.view.number new.view.run ≡ own old.view.number old.view.run ++ own old.view.number made
   alone : (other : ℕ) → old.view.number ≢ other → own other made ≡ []
 
-moved_by : (made : List Event) (old new : PassState) → MovesBy made old new → Moved made old new
+moved_by : {allowed : Type 0} (made : List Event) (old new : PassState) → MovesBy allowed made old new → Moved made old new
 moved_by made old new (inl still) = record {
   number = ap (λ (p : PassState). p.view.number) still.0;
   grew = ap (λ (p : PassState). own old.view.number p.view.run) still.0 ∙ sym (ap (λ l. own old.view.number old.view.run ++ own old.view.number l) still.1 ∙ append-nil (own old.view.number old.view.run));

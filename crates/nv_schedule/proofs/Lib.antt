@@ -1,4 +1,5 @@
 mod AnswerLaws
+mod BarredLaws
 mod BatchLaws
 mod BegunLaws
 mod BehindLaws

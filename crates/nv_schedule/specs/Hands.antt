@@ -39,9 +39,9 @@ abbrev pub list_at_hand : Hand → List ℕ
 list_at_hand (Reading read) = read.list.items
 list_at_hand hand = []
 
--- A pass has made one step, behind the device calls that lie before it, or none. Where no device call had failed in the present call before, this says whether one of these has.
-abbrev pub IsOneOrNoStep : (was faulted : Bool) → (old new : PassState) → Type 0
-IsOneOrNoStep was faulted old new = ((new ≡ old) × (faulted ≡ was)) ⊎ ((step : PassStep) × HasTaken step old new × (was ≡ false → some_failed step.works ≡ faulted))
+-- A pass has made one step, behind the device calls that lie before it; or none, where this allows it. Where no device call had failed in the present call before, this says whether one of these has.
+abbrev pub IsOneOrNoStep : (allowed : Type 0) → (was faulted : Bool) → (old new : PassState) → Type 0
+IsOneOrNoStep allowed was faulted old new = ((new ≡ old) × (faulted ≡ was) × allowed) ⊎ ((step : PassStep) × HasTaken step old new × (was ≡ false → some_failed step.works ≡ faulted))
 
 -- A call is tried: it is under way since a start, at which its pass was idle.
 abbrev pub IsTrying : List Fd → TraceCall → Hand → (begun now : PassState) → Type 0

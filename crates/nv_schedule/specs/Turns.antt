@@ -1,5 +1,5 @@
 -- Turns: one advance of a caller.
-use Rattle.std.specs.Prelude.{◌≡◌, ◌⊎◌, ℕ, Bool, false, List, [], Option, Some}
+use Rattle.std.specs.Prelude.{◌≡◌, ◌⊎◌, ℕ, Bool, true, false, List, [], Option, Some, Result}
 use Rattle.nv_core.specs.state.Words.{Sizes}
 use Rattle.nv_core.specs.steps.Events.{Event}
 use Rattle.nv_table.specs.state.States.{PassState}
@@ -8,7 +8,12 @@ use Rattle.nv_table.specs.steps.SeatSteps.{act_of}
 use Rattle.nv_mount.specs.declared.fds.Fd.{Fd}
 use Rattle.nv_op.specs.declared.kinds.Kind.{Kind}
 use Rattle.nv_mirror.specs.PassSteps.{PassStep, HasTaken}
-use Rattle.nv_schedule.specs.Callers.{BatchEnds, CallEnds, CleanerHasCome, ThreadHasCome, kind_at_batch, next_of_calls}
+use Rattle.nv_clean.specs.Answers.{HasEnded}
+use Rattle.nv_clean.specs.Cleaning.{CleanState}
+use Rattle.nv_clean.specs.declared.batch.CleanRefusal.{CleanRefusal}
+use Rattle.nv_clean.specs.declared.clean.Cleaned.{Cleaned}
+use Rattle.nv_schedule.specs.Barred.{IsFirstAnsweredEarly}
+use Rattle.nv_schedule.specs.Callers.{BatchEnds, CallEnds, CleanerHasCome, IsAtBatch, ThreadHasCome, kind_at_batch, next_of_calls}
 use Rattle.nv_schedule.specs.Faulted.{batch_faulted, hand_faulted}
 use Rattle.nv_schedule.specs.Faults.{some_fails}
 use Rattle.nv_schedule.specs.declared.caller.Work.{Work}
@@ -43,14 +48,32 @@ WorkEnds answered old new = ⊥
 abbrev pub events_of : (number : ℕ) → PassStep → List Event
 events_of number step = table.events number step.works (act_of step.opens step.op step.found)
 
--- These are the events of an advance: those of one step, or none, where the call was refused by what it asks for.
-abbrev pub MovesBy : List Event → (old new : PassState) → Type 0
-MovesBy events old new = ((new ≡ old) × (events ≡ [])) ⊎ ((step : PassStep) × HasTaken step old new × (events ≡ events_of old.view.number step))
+-- These are the events of an advance: those of one step; or none, where this allows it.
+abbrev pub MovesBy : (allowed : Type 0) → List Event → (old new : PassState) → Type 0
+MovesBy allowed events old new = ((new ≡ old) × (events ≡ []) × allowed) ⊎ ((step : PassStep) × HasTaken step old new × (events ≡ events_of old.view.number step))
 
--- One advance of a caller, by these events: what its pass is at goes on, from wherever it has come, and its call is answered or not.
+-- A batch goes on that was at hand since a start; or it is over, and so answered.
+abbrev pub BatchCame : (answered : Bool) → (most : ℕ) → Option CleanState → (begun now : PassState) → Type 0
+BatchCame false most machine begun now = IsAtBatch most machine begun now
+BatchCame true most machine begun now = (result : Result Cleaned CleanRefusal) × HasEnded most begun now result
+
+abbrev pub BatchTurns : (answered : Bool) → (old new : Work) → (pass now : PassState) → Type 0
+BatchTurns answered (Batches old) (Batches new) pass now = (begun : PassState) → IsAtBatch old.most old.machine begun pass → BatchCame answered new.most new.machine begun now
+BatchTurns answered old new pass now = Unit {0}
+
+-- What its present call asks for bars it, and it was answered. A batch is never barred.
+abbrev pub IsBarredWork : Sizes → List Fd → (answered : Bool) → Work → Type 0
+IsBarredWork sizes fds answered (Calls thread) = IsFirstAnsweredEarly sizes fds thread.left answered
+IsBarredWork sizes fds answered (Batches cleaner) = ⊥
+
+abbrev pub IsBarred : List Fd → (answered : Bool) → CallerState → Type 0
+IsBarred fds answered caller = IsBarredWork caller.pass.view.opened.sizes fds answered caller.work
+
+-- One advance of a caller, by these events, of which there are none only where its call is barred: what its pass is at goes on, from wherever it has come, and its call is answered or not.
 pub record HasTurned (fds : List Fd) (answered : Bool) (events : List Event) (old new : CallerState) : Type 0 where
-  pub moved : MovesBy events old.pass new.pass
+  pub moved : MovesBy (IsBarred fds answered old) events old.pass new.pass
   pub ends : WorkEnds answered old.work new.work
+  pub batch : BatchTurns answered old.work new.work old.pass new.pass
   pub come : (start : PassState) → HasCome fds old.work start old.pass → HasCome fds new.work start new.pass
 
 -- a device call has failed in what a caller does at present

@@ -1,9 +1,10 @@
 //! The cleaner of a schedule: batches, one after another.
 ghost use Rattle.std.specs.Prelude.{◌≡◌, None, Some, false};
 ghost use Rattle.nv_table.specs.state.States.{IsOf, PassState};
-ghost use Rattle.nv_schedule.specs.Callers.{BatchEnds, CleanerHasCome, kind_at_batch};
+ghost use Rattle.nv_schedule.specs.Callers.{BatchEnds, CleanerHasCome, IsAtBatch, kind_at_batch};
 ghost use Rattle.nv_schedule.specs.Faulted.{batch_faulted};
 ghost use Rattle.nv_schedule.specs.Hands.{IsOneOrNoStep};
+ghost use Rattle.nv_schedule.specs.Turns.{BatchCame};
 
 use crate::turned::Turned;
 use nv_calls::Kind;
@@ -44,6 +45,7 @@ impl Batches {
     fn take_up(&mut self) -> CleanMachine
         ensures none { self.new ≡ record { most = self.old.most; machine = None } }
         ensures faulted { batch_faulted (Some result) ≡ batch_faulted self.old.machine }
+        ensures at { (begun now : PassState) → IsAtBatch self.old.most self.old.machine begun now → IsAtBatch self.old.most (Some result) begun now }
         ensures come { (start now : PassState) → CleanerHasCome self.old start now → CleanerHasCome (record { most = self.old.most; machine = Some result }) start now }
     {
         match self.machine.take() {
@@ -62,9 +64,10 @@ impl Batches {
         requires come { (start : PassState) × CleanerHasCome self.old start pass.old }
         ensures board { IsOf mount.now.board pass.new }
         ensures most { self.new.most ≡ self.old.most }
-        ensures moved { IsOneOrNoStep (batch_faulted self.old.machine) result.faulted pass.old pass.new }
+        ensures moved { IsOneOrNoStep ⊥ (batch_faulted self.old.machine) result.faulted pass.old pass.new }
         ensures none { result.faulted ≡ false → batch_faulted self.new.machine ≡ false }
         ensures ends { BatchEnds result.answered self.new.machine }
+        ensures batch { (begun : PassState) → IsAtBatch self.old.most self.old.machine begun pass.old → BatchCame result.answered self.new.most self.new.machine begun pass.new }
         ensures come { (start : PassState) → CleanerHasCome self.old start pass.old → CleanerHasCome self.new start pass.new }
     {
         let mut machine = self.take_up();

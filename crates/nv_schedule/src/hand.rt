@@ -7,6 +7,7 @@ ghost use Rattle.nv_table.specs.state.Workspaces.{IsWorkspace};
 ghost use Rattle.nv_calls.specs.calls.Advances.{IsOneOrNone};
 ghost use Rattle.nv_calls.specs.reads.ReadMachines.{IsReadUnderWay, IsSameRead, ReadGoes, early_of, standing};
 ghost use Rattle.nv_mount.specs.declared.fds.Fd.{Fd};
+ghost use Rattle.nv_schedule.specs.Barred.{IsRefusedEarly};
 ghost use Rattle.nv_schedule.specs.Faulted.{fault_at_hand};
 ghost use Rattle.nv_schedule.specs.Hands.{IsOneOrNoStep, IsTrying, TryGoes, kind_at_hand, list_at_hand};
 ghost use Rattle.nv_schedule.specs.Listed.{ends_by_fault, has_drawn, told_at_hand};
@@ -177,7 +178,7 @@ impl Hand {
         requires workspace { IsWorkspace mount.now.board.opened.sizes workspace.old }
         requires bare { workspace.old.parts.items ≡ [] }
         ensures board { IsOf mount.now.board pass.new }
-        ensures moved { IsOneOrNoStep (is_some (fault_at_hand self.old)) (is_some (fault_at_hand self.new)) pass.old pass.new }
+        ensures moved { IsOneOrNoStep (IsRefusedEarly pass.old.view.opened.sizes mount.now.fds call.now result) (is_some (fault_at_hand self.old)) (is_some (fault_at_hand self.new)) pass.old pass.new }
         ensures goes { (begun : PassState) → IsTrying mount.now.fds call.now self.old begun pass.old → TryGoes mount.now.fds call.now self.new begun pass.new result }
         ensures workspace { IsWorkspace mount.now.board.opened.sizes workspace.new }
         ensures bare { workspace.new.parts.items ≡ [] }

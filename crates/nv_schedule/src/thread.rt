@@ -8,6 +8,7 @@ ghost use Rattle.nv_table.specs.state.States.{IsOf, PassState};
 ghost use Rattle.nv_table.specs.state.Workspaces.{IsWorkspace};
 ghost use Rattle.nv_runner.specs.Shifts.{calls_of_thread};
 ghost use Rattle.nv_trace.specs.declared.trace_call.TracedCall.{TracedCall as AnyTraced};
+ghost use Rattle.nv_schedule.specs.Barred.{IsAnsweredEarly, IsFirstAnsweredEarly};
 ghost use Rattle.nv_schedule.specs.Callers.{CallEnds, CallGoes, IsAtCall, IsAtOwn, ThreadHasCome, next_of_calls};
 ghost use Rattle.nv_schedule.specs.Faulted.{fault_at_hand, hand_faulted};
 ghost use Rattle.nv_schedule.specs.Hands.{IsOneOrNoStep, kind_at_first, list_at_hand};
@@ -171,7 +172,7 @@ impl<'a> Thread<'a> {
         requires workspace { IsWorkspace mount.now.board.opened.sizes workspace.old }
         requires bare { workspace.old.parts.items ≡ [] }
         ensures board { IsOf mount.now.board pass.new }
-        ensures moved { IfOk result (λ turned. IsOneOrNoStep (hand_faulted self.old.hand) turned.faulted pass.old pass.new) }
+        ensures moved { IfOk result (λ turned. IsOneOrNoStep (IsFirstAnsweredEarly pass.old.view.opened.sizes mount.now.fds self.old.left turned.answered) (hand_faulted self.old.hand) turned.faulted pass.old pass.new) }
         ensures none { IfOk result (λ turned. turned.faulted ≡ false → hand_faulted self.new.hand ≡ false) }
         ensures ends { IfOk result (λ turned. CallEnds turned.answered self.old self.new) }
         ensures come { OnOk result ((start : PassState) → ThreadHasCome mount.now.fds self.old start pass.old → ThreadHasCome mount.now.fds self.new start pass.new) }
@@ -214,7 +215,7 @@ fn advance_call<L: Lines + Drop, B: Backing + Drop>(
     requires workspace { IsWorkspace mount.now.board.opened.sizes workspace.old }
     requires bare { workspace.old.parts.items ≡ [] }
     ensures board { IsOf mount.now.board pass.new }
-    ensures moved { IfOk result (λ told. IsOneOrNoStep (hand_faulted hand.old) told.1 pass.old pass.new) }
+    ensures moved { IfOk result (λ told. IsOneOrNoStep (IsAnsweredEarly pass.old.view.opened.sizes mount.now.fds call.now.call (is_some told.0)) (hand_faulted hand.old) told.1 pass.old pass.new) }
     ensures none { IfOk result (λ told. told.1 ≡ false → hand_faulted hand.new ≡ false) }
     ensures goes { IfOk result (λ told. (later : List AnyTraced) (last : PassState) → IsAtCall mount.now.fds (call.now ∷ later) hand.old last pass.old
         → CallGoes mount.now.fds call.now later hand.new last pass.new told.0) }

@@ -1,12 +1,17 @@
 -- The try at hand goes on, or the call begins anew, or is answered.
-use Rattle.std.proofs.Common.{◌∷◌, sym, ap, subst, ◌∙◌}
-use Rattle.std.specs.Prelude.{Option}
+use Rattle.std.proofs.Common.{◌∷◌, true, false, refl, sym, ap, subst, ◌∙◌}
+use Rattle.std.specs.Prelude.{Option, is_some}
+use Rattle.std.proofs.lemmas.Bool.{true≢false}
 use Rattle.nv_table.specs.state.Opened.{Opened, mount_of}
 use Rattle.nv_core.specs.steps.Opening.{IsMount}
 use Rattle.nv_schedule.specs.declared.hand.Hand.{Hand}
+use Rattle.nv_schedule.specs.Barred.{IsAnsweredEarly, IsRefusedEarly}
 use Rattle.nv_schedule.specs.Callers.{IsAtCall}
+use Rattle.nv_schedule.specs.Faulted.{fault_at_hand, hand_faulted}
 use Rattle.nv_schedule.specs.Hands.{TryGoes, list_at_hand}
 use Rattle.nv_schedule.specs.Tries.{answer_of}
+use Rattle.nv_schedule.proofs.BarredLaws.{is_barred, not_anew, not_more}
+use Rattle.nv_schedule.proofs.FaultLaws.{told_so}
 use Rattle.nv_schedule.proofs.WayLaws.{of_trying, over_idle, tried_more}
 use Rattle.nv_schedule.proofs.thread.advance_call.Goals as goal
 
@@ -55,3 +60,30 @@ returns-else-anew-clause-goes g c = λ later last at.
       },
       over_idle fds call (list_at_hand c.advance-progress.new.self) t.0 c.advance-progress.new.pass c.in-Ended.ended way.idle over,
     )
+
+pub returns-in-More-clause-moved : goal.returns-in-More-clause-moved
+returns-in-More-clause-moved g c =
+    let fds = c.args.mount.now.fds in
+    let sizes = c.args.pass.now.view.opened.sizes in
+    let call = c.args.call.now.call in
+    let progress = c.advance-progress.result in
+    told_so (IsRefusedEarly sizes fds call progress) (IsAnsweredEarly sizes fds call false) (is_some (fault_at_hand c.in_ok-tried.tried)) (hand_faulted c.args.hand.now) (is_some (fault_at_hand c.advance-progress.new.self)) c.faulted-faulted.result
+    c.args.pass.now c.advance-progress.new.pass c.in_ok-tried.ensures.faulted (sym c.faulted-faulted.ensures) (λ early. absurd (not_more sizes fds call progress c.in-More.is early)) c.advance-progress.ensures.moved
+
+pub returns-then-anew-clause-moved : goal.returns-then-anew-clause-moved
+returns-then-anew-clause-moved g c =
+    let fds = c.args.mount.now.fds in
+    let sizes = c.args.pass.now.view.opened.sizes in
+    let call = c.args.call.now.call in
+    let progress = c.advance-progress.result in
+    told_so (IsRefusedEarly sizes fds call progress) (IsAnsweredEarly sizes fds call false) (is_some (fault_at_hand c.in_ok-tried.tried)) (hand_faulted c.args.hand.now) (is_some (fault_at_hand c.advance-progress.new.self)) c.faulted-faulted.result
+    c.args.pass.now c.advance-progress.new.pass c.in_ok-tried.ensures.faulted (sym c.faulted-faulted.ensures) (λ early. absurd (true≢false (sym (sym c.anew.ensures ∙ c.if-anew.true) ∙ not_anew sizes fds call progress c.in-Ended.ended c.in-Ended.is early))) c.advance-progress.ensures.moved
+
+pub returns-else-anew-clause-moved : goal.returns-else-anew-clause-moved
+returns-else-anew-clause-moved g c =
+    let fds = c.args.mount.now.fds in
+    let sizes = c.args.pass.now.view.opened.sizes in
+    let call = c.args.call.now.call in
+    let progress = c.advance-progress.result in
+    told_so (IsRefusedEarly sizes fds call progress) (IsAnsweredEarly sizes fds call true) (is_some (fault_at_hand c.in_ok-tried.tried)) (hand_faulted c.args.hand.now) (is_some (fault_at_hand c.advance-progress.new.self)) c.faulted-faulted.result
+    c.args.pass.now c.advance-progress.new.pass c.in_ok-tried.ensures.faulted (sym c.faulted-faulted.ensures) (λ early. record { over = refl; barred = is_barred sizes fds call progress early }) c.advance-progress.ensures.moved

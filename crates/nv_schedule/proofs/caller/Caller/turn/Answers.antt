@@ -23,5 +23,5 @@ returns-in-Batches-clause-turned g c =
     let new : CallerState = record { pass = c.turn-in-Batches.new.pass; work = Batches c.turn-in-Batches.new.self } in
     subst (λ (old : CallerState). (events : List Event) × TurnTells fds turned events old new) c.self.view_is
     (subst (λ (work : Work). (events : List Event) × TurnTells fds turned events (record { pass = c.self.inside.pass; work = work }) new) (sym c.in-Batches.is)
-    (cleaner_turned fds turned c.in-Batches.batches c.turn-in-Batches.new.self c.self.inside.pass c.turn-in-Batches.new.pass c.turn-in-Batches.ensures.moved c.turn-in-Batches.ensures.none c.turn-in-Batches.ensures.most c.turn-in-Batches.ensures.ends
+    (cleaner_turned fds turned c.in-Batches.batches c.turn-in-Batches.new.self c.self.inside.pass c.turn-in-Batches.new.pass c.turn-in-Batches.ensures.moved c.turn-in-Batches.ensures.none c.turn-in-Batches.ensures.most c.turn-in-Batches.ensures.ends c.turn-in-Batches.ensures.batch
     c.turn-in-Batches.ensures.come))

@@ -1,12 +1,17 @@
 -- The try goes on as its machine does, of the bytes that the call has.
-use Rattle.std.proofs.Common.{ℕ, List, sym, subst}
-use Rattle.std.specs.Prelude.{is_some}
+use Rattle.std.proofs.Common.{◌≡◌, ℕ, List, refl, sym, ap, subst, ◌∙◌}
+use Rattle.std.specs.Prelude.{Option, Some, None, is_some}
+use Rattle.nv_plain.specs.Modes.{can_write}
+use Rattle.nv_calls.specs.calls.EarlyRefusals.{early_refusal}
+use Rattle.nv_calls.specs.fsync.SyncRuns.{file_of_fd}
 use Rattle.nv_calls.specs.fsync.SyncMachines as syncs
 use Rattle.nv_calls.specs.reads.ReadMachines as reads
 use Rattle.nv_calls.specs.writes.WriteMachines as writes
 use Rattle.nv_calls.specs.writes.WriteMachines.{IsWriteUnderWay, WriteGoes}
 use Rattle.nv_schedule.specs.declared.hand.Hand.{Hand}
 use Rattle.nv_schedule.specs.declared.hand.Hand.TheVariants.{Reading, Writing, Syncing}
+use Rattle.nv_runner.specs.Refusals.{early_of_call, unless_file}
+use Rattle.nv_schedule.specs.Barred.{IsRefusedEarly}
 use Rattle.nv_schedule.specs.Faulted.{fault_at_hand}
 use Rattle.nv_schedule.specs.Hands.{IsOneOrNoStep, IsTrying}
 use Rattle.nv_schedule.proofs.FaultLaws.{behind_call, call_tells}
@@ -43,8 +48,9 @@ returns-in-Reading-clause-moved g c =
     let machine = c.in-Reading.read.machine in
     let way = of_trying fds c.args.call.now c.args.self.now c.requires.trying.0 old c.requires.trying.1 in
     let at = behind_call c.runs_are_sound.ensures.runs c.passes_are_left_alone.ensures.own c.requires.trying.0 old way.idle c.sees_a_run.ensures.mount way.behind in
-    subst (λ (hand : Hand). IsOneOrNoStep (is_some (fault_at_hand hand)) (is_some (fault_at_hand (Reading c.advance.new.self))) old new) (sym c.in-Reading.is)
-    (call_tells (reads.standing sizes) (reads.early_of sizes fds machine) machine c.advance.new.self.machine old new c.advance.result c.advance.ensures.one at)
+    let trying = subst (λ (hand : Hand). IsTrying fds c.args.call.now hand c.requires.trying.0 old) c.in-Reading.is c.requires.trying.1 in
+    subst (λ (hand : Hand). IsOneOrNoStep (IsRefusedEarly old.view.opened.sizes fds c.args.call.now c.advance.result) (is_some (fault_at_hand hand)) (is_some (fault_at_hand (Reading c.advance.new.self))) old new) (sym c.in-Reading.is)
+    (call_tells (IsRefusedEarly old.view.opened.sizes fds c.args.call.now c.advance.result) (reads.standing sizes) (reads.early_of sizes fds machine) machine c.advance.new.self.machine old new c.advance.result (λ refusal early ended. record { refusal = refusal; early = ap (early_of_call sizes fds) trying.0 ∙ early; ended = ended }) c.advance.ensures.one at)
 
 pub returns-in-Pwrite-clause-moved : goal.returns-in-Pwrite-clause-moved
 returns-in-Pwrite-clause-moved g c =
@@ -54,8 +60,13 @@ returns-in-Pwrite-clause-moved g c =
     let machine = c.in-Writing.machine in
     let way = of_trying fds c.args.call.now c.args.self.now c.requires.trying.0 old c.requires.trying.1 in
     let at = behind_call c.runs_are_sound.ensures.runs c.passes_are_left_alone.ensures.own c.requires.trying.0 old way.idle c.sees_a_run.ensures.mount way.behind in
-    subst (λ (hand : Hand). IsOneOrNoStep (is_some (fault_at_hand hand)) (is_some (fault_at_hand (Writing c.advance-in-Writing.new.self))) old new) (sym c.in-Writing.is)
-    (call_tells writes.standing (writes.early_of old.view.opened.sizes fds machine) machine c.advance-in-Writing.new.self old new c.advance-in-Writing.result c.advance-in-Writing.ensures.one at)
+    let trying = subst (λ (hand : Hand). IsTrying fds c.args.call.now hand c.requires.trying.0 old) c.in-Writing.is c.requires.trying.1 in
+    subst (λ (hand : Hand). IsOneOrNoStep (IsRefusedEarly old.view.opened.sizes fds c.args.call.now c.advance-in-Writing.result) (is_some (fault_at_hand hand)) (is_some (fault_at_hand (Writing c.advance-in-Writing.new.self))) old new) (sym c.in-Writing.is)
+    (call_tells (IsRefusedEarly old.view.opened.sizes fds c.args.call.now c.advance-in-Writing.result) writes.standing (writes.early_of old.view.opened.sizes fds machine) machine c.advance-in-Writing.new.self old new c.advance-in-Writing.result (λ refusal early ended. record { refusal = refusal; early = ap (early_of_call old.view.opened.sizes fds) trying.1 ∙ ap (λ n. early_refusal can_write old.view.opened.sizes fds machine.fd machine.at n) trying.2.room ∙ early; ended = ended }) c.advance-in-Writing.ensures.one at)
+
+same_file : (file : Option ℕ) → unless_file file ≡ syncs.early_of_file file
+same_file None = refl
+same_file (Some file) = refl
 
 pub returns-in-Syncing-clause-moved : goal.returns-in-Syncing-clause-moved
 returns-in-Syncing-clause-moved g c =
@@ -65,5 +76,6 @@ returns-in-Syncing-clause-moved g c =
     let machine = c.in-Syncing.machine in
     let way = of_trying fds c.args.call.now c.args.self.now c.requires.trying.0 old c.requires.trying.1 in
     let at = behind_call c.runs_are_sound.ensures.runs c.passes_are_left_alone.ensures.own c.requires.trying.0 old way.idle c.sees_a_run.ensures.mount way.behind in
-    subst (λ (hand : Hand). IsOneOrNoStep (is_some (fault_at_hand hand)) (is_some (fault_at_hand (Syncing c.advance-in-Syncing.new.self))) old new) (sym c.in-Syncing.is)
-    (call_tells syncs.standing (syncs.early_of fds machine) machine c.advance-in-Syncing.new.self old new c.advance-in-Syncing.result c.advance-in-Syncing.ensures.one at)
+    let trying = subst (λ (hand : Hand). IsTrying fds c.args.call.now hand c.requires.trying.0 old) c.in-Syncing.is c.requires.trying.1 in
+    subst (λ (hand : Hand). IsOneOrNoStep (IsRefusedEarly old.view.opened.sizes fds c.args.call.now c.advance-in-Syncing.result) (is_some (fault_at_hand hand)) (is_some (fault_at_hand (Syncing c.advance-in-Syncing.new.self))) old new) (sym c.in-Syncing.is)
+    (call_tells (IsRefusedEarly old.view.opened.sizes fds c.args.call.now c.advance-in-Syncing.result) syncs.standing (syncs.early_of fds machine) machine c.advance-in-Syncing.new.self old new c.advance-in-Syncing.result (λ refusal early ended. record { refusal = refusal; early = ap (early_of_call old.view.opened.sizes fds) trying.0 ∙ same_file (file_of_fd fds machine.fd) ∙ early; ended = ended }) c.advance-in-Syncing.ensures.one at)

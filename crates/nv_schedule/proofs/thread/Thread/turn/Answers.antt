@@ -1,11 +1,16 @@
 -- Its present call goes on, or is answered and the next one is present.
 use Rattle.std.proofs.Common.{◌≡◌, true, false, ◌∷◌, ◌++◌, [], drop, refl, sym, ap, subst, ◌∙◌, rules}
-use Rattle.std.specs.Prelude.{Option}
+use Rattle.std.specs.Prelude.{List, Option, is_some}
+use Rattle.nv_trace.specs.declared.trace_call.TracedCall.{TracedCall}
+use Rattle.nv_runner.specs.declared.answer.Answer.{Answer}
 use Rattle.std.proofs.lemmas.List.{map-append}
 use Rattle.nv_runner.specs.Lists.{made_call, made_calls}
 use Rattle.nv_runner.specs.Shifts.{calls_of_thread}
 use Rattle.nv_schedule.specs.declared.hand.Hand.{Hand}
+use Rattle.nv_schedule.specs.Barred.{IsAnsweredEarly, IsFirstAnsweredEarly}
 use Rattle.nv_schedule.specs.Callers.{CallGoes, IsAtCall, ThreadState}
+use Rattle.nv_schedule.specs.Faulted.{hand_faulted}
+use Rattle.nv_schedule.proofs.FaultLaws.{told_so}
 use Rattle.nv_schedule.proofs.ThreadLaws.{at_present, come_on, come_past, first_and_rest, own_first, rest_whole}
 use Rattle.nv_schedule.proofs.thread.Thread.turn.Goals as goal
 
@@ -71,3 +76,29 @@ returns-in-Some-clause-come g c = λ start come.
     (c.in_ok-answer.ensures.goes after last
     (subst (λ (hand : Option Hand). IsAtCall fds (call ∷ after) hand last c.args.pass.now) (ap (λ (t : ThreadState). t.hand) (sym c.self.view_is)) at)))
     come
+
+pub returns-in-None-clause-moved : goal.returns-in-None-clause-moved
+returns-in-None-clause-moved g c =
+    let fds = c.args.mount.now.fds in
+    let sizes = c.args.pass.now.view.opened.sizes in
+    let calls = c.self.inside.left.now in
+    let call = c.call-item.result in
+    let is : calls ≡ call ∷ drop 1 calls = first_and_rest calls call c.in-len1-up.len_at_least c.call-item.is in
+    let present : c.args.self.now.left ≡ call ∷ calls_of_thread c.self.inside.number (drop 1 calls) =
+    ap (λ (t : ThreadState). t.left) (sym c.self.view_is) ∙ own_first c.self.inside.number calls call (drop 1 calls) c.self.invariant is in
+    told_so (IsAnsweredEarly sizes fds call.call (is_some c.in_ok-answer.answer)) (IsFirstAnsweredEarly sizes fds c.args.self.now.left false) (hand_faulted c.self.inside.hand) (hand_faulted c.args.self.now.hand) c.in_ok-answer.faulted c.in_ok-answer.faulted
+    c.args.pass.now c.advance_call.new.pass (ap (λ (t : ThreadState). hand_faulted t.hand) c.self.view_is) refl
+    (λ early. subst (λ (left : List TracedCall). IsFirstAnsweredEarly sizes fds left false) (sym present) (subst (λ (answer : Option Answer). IsAnsweredEarly sizes fds call.call (is_some answer)) c.in-None.is early)) c.in_ok-answer.ensures.moved
+
+pub returns-in-Some-clause-moved : goal.returns-in-Some-clause-moved
+returns-in-Some-clause-moved g c =
+    let fds = c.args.mount.now.fds in
+    let sizes = c.args.pass.now.view.opened.sizes in
+    let calls = c.self.inside.left.now in
+    let call = c.call-item.result in
+    let is : calls ≡ call ∷ drop 1 calls = first_and_rest calls call c.in-len1-up.len_at_least c.call-item.is in
+    let present : c.args.self.now.left ≡ call ∷ calls_of_thread c.self.inside.number (drop 1 calls) =
+    ap (λ (t : ThreadState). t.left) (sym c.self.view_is) ∙ own_first c.self.inside.number calls call (drop 1 calls) c.self.invariant is in
+    told_so (IsAnsweredEarly sizes fds call.call (is_some c.in_ok-answer.answer)) (IsFirstAnsweredEarly sizes fds c.args.self.now.left true) (hand_faulted c.self.inside.hand) (hand_faulted c.args.self.now.hand) c.in_ok-answer.faulted c.in_ok-answer.faulted
+    c.args.pass.now c.advance_call.new.pass (ap (λ (t : ThreadState). hand_faulted t.hand) c.self.view_is) refl
+    (λ early. subst (λ (left : List TracedCall). IsFirstAnsweredEarly sizes fds left true) (sym present) (subst (λ (answer : Option Answer). IsAnsweredEarly sizes fds call.call (is_some answer)) c.in-Some.is early)) c.in_ok-answer.ensures.moved
