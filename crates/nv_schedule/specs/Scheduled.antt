@@ -2,12 +2,15 @@
 use Rattle.std.specs.Prelude.{◌≡◌, ◌⊎◌, ℕ, ◌<◌, List, [], ◌∷◌, ◌++◌, length, map, slice_index_or, Result, Ok, Err}
 use Rattle.nv_plain.specs.Histories.{Answered}
 use Rattle.nv_bench.specs.Benches.{BenchState}
+use Rattle.nv_core.specs.state.Passes.{IsOneOf}
 use Rattle.nv_core.specs.state.Words.{Word}
 use Rattle.nv_core.specs.steps.Events.{Event, own}
+use Rattle.nv_core.specs.steps.Opening.{IsMount}
 use Rattle.nv_table.specs.passes.PassesMade.{PutsBack}
 use Rattle.nv_table.specs.passes.Seats.{past_of}
+use Rattle.nv_table.specs.state.Opened.{IsRunOf, Opened, mount_of}
 use Rattle.nv_table.specs.state.States.{IsOf, PassState}
-use Rattle.nv_table.specs.state.Views.{AllBegin, Past, PassView, made_of, pass_of}
+use Rattle.nv_table.specs.state.Views.{AllBegin, Past, PassView, SeesAll, made_of, pass_of}
 use Rattle.nv_mount.specs.Mounts.{MountState}
 use Rattle.nv_mount.specs.WholeRuns.{history_then}
 use Rattle.nv_mount.specs.declared.fds.Fd.{Fd}
@@ -139,9 +142,19 @@ HasTold mount tokens calls batch zero bench armed (Err TurnsUsed) =
 HasTold mount tokens calls batch zero bench armed (Err Fault) = (then_ : List CallerState) × HasFollowed mount tokens calls batch (Err Fault) then_ zero × (armed ≡ bench)
 HasTold mount tokens calls batch zero bench armed (Err NoMemory) = IsCutBySome tokens bench armed
 
--- A schedule over a new mount has come to this, whatever it is answered: the mount is the same, with the same parts, and has the calls of callers that have come to where they are.
+-- What a pass has seen is a run of the core, from the opening of this mount on, which has as many buffers as its sizes say: each event may come where those before it came, and each word is found as they left it.
+-- Each pass that it took in lies in that run with all its events.
+pub record HasSeenRunOf (opened : Opened) (zero : PassView) : Type 0 where
+  pub mount : IsMount (mount_of opened)
+  pub is_run : IsRunOf opened zero.run
+  pub joined : (past : Past) → IsOneOf zero.ended past → SeesAll past.number past.run zero.run
+
+-- A schedule over a new mount has come to this, whatever it is answered: the mount is the same, with the same parts, its run is a run of the core, and it has the calls of callers that have come to where they
+-- are.
 pub record HasScheduled (mount : MountState) (tokens : List Token) (calls : List TracedCall) (batch : ℕ) (start zero : PassState) (bench armed : BenchState) (outcome : Result ScheduledCalls ScheduleError) : Type 0 where
   pub opened : zero.view.opened ≡ start.view.opened
+  pub board : IsOf mount.board zero
+  pub run : HasSeenRunOf mount.board.opened zero.view
   pub spare : zero.spare ≡ start.spare
   pub called : (then_ : List CallerState) × HaveCalled mount calls batch then_ zero
   pub told : HasTold mount tokens calls batch zero bench armed outcome

@@ -3,7 +3,7 @@ use Rattle.std.proofs.Common.{sym, ap, subst, ◌∙◌}
 use Rattle.nv_core.specs.steps.Events.{own}
 use Rattle.nv_core.specs.steps.Opening.{IsMount}
 use Rattle.nv_table.proofs.steps.CallLaws.{fresh_is_idle}
-use Rattle.nv_table.specs.state.Opened.{Opened, mount_of}
+use Rattle.nv_table.specs.state.Opened.{IsRunOf, Opened, mount_of}
 use Rattle.nv_table.specs.state.Views.{PassView, made_of, pass_of}
 use Rattle.nv_schedule.specs.Flights.{flights_of}
 use Rattle.nv_schedule.specs.Orders.{deeds}
@@ -55,6 +55,12 @@ returns g c =
         zero,
         record {
           opened = taken.zero.board.same_mount ∙ sym c.requires.board.same_mount;
+          board = taken.zero.board;
+          run = record {
+            mount = subst (λ (o : Opened). IsMount (mount_of o)) c.requires.board.same_mount c.sees_a_run.ensures.mount;
+            is_run = subst (λ (o : Opened). IsRunOf o zero.view.run) taken.zero.board.same_mount told.whole.is_run;
+            joined = told.whole.joined;
+          };
           spare = taken.taken.aside.spare ∙ ran.aside.spare;
           called = (
             c.run_on-ran.new.callers.items,
