@@ -19,6 +19,7 @@ mod HandLaws
 mod KeptFaultLaws
 mod LifeLaws
 mod MidCallLaws
+mod NextKindLaws
 mod OpenCallLaws
 mod OrderLaws
 mod PresentDrawn

@@ -14,6 +14,7 @@ pub mod Growing
 pub mod Hands
 pub mod Listed
 pub mod Lives
+pub mod NextKinds
 pub mod Orders
 pub mod Ran
 pub mod Reaches

@@ -4,6 +4,7 @@ ghost use Rattle.nv_schedule.specs.Counted.{FaultsAreCounted};
 ghost use Rattle.nv_schedule.specs.FaithfulSchedules.{SchedulesAreFaithful};
 ghost use Rattle.nv_schedule.specs.Growing.{SchedulesGrow, TrailsAreDeeds};
 ghost use Rattle.nv_schedule.specs.Lives.{SchedulesLeaveLives};
+ghost use Rattle.nv_schedule.specs.NextKinds.{NextStepsAreTheCores};
 ghost use Rattle.nv_schedule.specs.RefusedCalls.{PlacedAreUnbarred, RefusalsHaveCauses};
 ghost use Rattle.nv_schedule.specs.Shares.{SharesAreHistory};
 ghost use Rattle.nv_schedule.specs.SortedOut.{SchedulesAreLegal, SchedulesAreTold};
@@ -18,6 +19,12 @@ use nv_runner::{refusals_have_causes, tries_go_on};
 pub fn schedules_are_the_deeds()
     ensures grow { SchedulesGrow }
     ensures deeds { TrailsAreDeeds }
+{}
+
+/// What a caller makes next, by which a token is told to be at its point, is what the core has next of its pass, where each device call before it ends well: it follows from where the pass stands in the core, and from
+/// which calls are left. What the caller has at hand of its call says nothing else of it.
+pub fn next_steps_are_the_cores()
+    ensures { NextStepsAreTheCores }
 {}
 
 /// Of the events of a schedule that was followed, and has no cut, none is a device call that failed; and one is of a schedule that met a fault.
