@@ -1,5 +1,5 @@
 -- Runs: what one over a region begins with, and what it leaves.
-use Rattle.std.specs.Prelude.{◌≡◌, ℕ, ◌+◌, Bool, List, All}
+use Rattle.std.specs.Prelude.{◌≡◌, ℕ, ◌+◌, ◌*◌, min, Bool, List, All}
 use Rattle.nv_pmem.specs.Images.{IsQuietPart}
 use Rattle.nv_pmem.specs.Part.{Part}
 use Rattle.nv_pmem.specs.Steps as lines
@@ -35,6 +35,10 @@ basis_over region pages files = record {
 -- it shows a part that tells, and is quiet
 abbrev pub IsQuietSpare : Value → Type 0
 IsQuietSpare value = (part : Part) × IsPart value part × IsQuietPart part
+
+-- a mount has a buffer for each page of its files, up to so many
+abbrev pub HasCache : (cache : ℕ) → MountState → Type 0
+HasCache cache mount = mount.board.opened.sizes.buffers ≡ min cache (mount.board.opened.sizes.files * mount.board.opened.sizes.pages)
 
 -- A mount and its pass 0 begin a run of the trace from this basis, whose names are those of the region. All devices tell, and the parts of the header and of the entries have their lines.
 pub record BeginsMount (basis : Basis) (trace : Traced) (mount : MountState) (pass : PassState) : Type 0 where

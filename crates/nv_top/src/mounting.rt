@@ -10,7 +10,7 @@ ghost use Rattle.nv_table.specs.state.Views.{first_view};
 ghost use Rattle.nv_mount.specs.RisenCounts.{failed_before};
 ghost use Rattle.nv_trace.specs.Said.{said_place};
 ghost use Rattle.nv_trace.specs.Shape.{IsWellFormed};
-ghost use Rattle.nv_top.specs.Runs.{BeginsMount, IsQuietSpare, basis_over};
+ghost use Rattle.nv_top.specs.Runs.{BeginsMount, HasCache, IsQuietSpare, basis_over};
 ghost use Rattle.nv_top.specs.Stops.{StopHasCause};
 ghost use Rattle.nv_top.specs.Words.{AreInLimits};
 ghost use Rattle.nv_top.specs.declared.ending.Stop.TheVariants as stops;
@@ -51,6 +51,7 @@ pub(crate) fn mount_over<L: Lines + Drop, B: Backing + Drop>(
     ensures new { IfOk result (λ made. made.1.view ≡ first_view made.0.board.opened) }
     ensures bare { IfOk result (λ made. made.1.now ≡ []) }
     ensures files { IfOk result (λ made. made.0.board.opened.sizes.files ≡ length region.names) }
+    ensures cache { IfOk result (λ made. HasCache options.cache made.0) }
     ensures counts { IfOk result (λ made. failed_before made.1 ≡ sum_by L.fault_count region.parts.items + sum_by B.fault_count stores.items) }
     ensures begins { IfOk result (λ made. (parts : List Part) (now : List Store)
         → AreNow (map L.history region.parts.items) parts → AreNow (map B.history stores.items) now

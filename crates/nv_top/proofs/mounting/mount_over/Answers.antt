@@ -1,5 +1,5 @@
-use Rattle.std.proofs.Common.{◌+◌, ◌<◌, List, length, map, sym, ap, subst, ◌∙◌}
-use Rattle.std.specs.Prelude.{All}
+use Rattle.std.proofs.Common.{◌≡◌, ◌+◌, ◌*◌, ◌<◌, List, length, map, refl, sym, ap, subst, ◌∙◌}
+use Rattle.std.specs.Prelude.{All, min}
 use Rattle.std.proofs.lemmas.List.Elements.{All-map}
 use Rattle.nv_plain.specs.Layouts.{version_1}
 use Rattle.nv_pmem.specs.Part.{Part}
@@ -58,3 +58,8 @@ returns-in-Ok-open-clause-spare g c parts are =
     let rest : Rest parts = row_tells_at (map history region.parts.items) Rest parts are region.is_region.tells in
     subst (λ (values : List Value). All IsQuietSpare values) (sym c.in-Ok-open.ensures.opened.begun.spare)
     (quiet_behind g.L.Lines.device history g.L.Lines.fault_count g.L.Lines.room (1 + region.geometry.entries) region.parts.items parts are rest.quiet.each)
+
+pub returns-in-Ok-open-clause-cache : goal.returns-in-Ok-open-clause-cache
+returns-in-Ok-open-clause-cache g c =
+    let Has : Sizes → Type 0 = λ sizes. sizes.buffers ≡ min c.args.options.cache (sizes.files * sizes.pages) in
+    subst Has (sym c.in-Ok-open.ensures.opened.begun.sizes_are) refl
