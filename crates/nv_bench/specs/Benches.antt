@@ -20,8 +20,8 @@ pub record BenchState : Type 0 where
   pub armed : ℕ
   -- how often they had failed when power last went off; 2^64 - 1 while it is armed
   pub settled : ℕ
-  -- the parts as power left them when it last went off; none where it doesn't tell, or power never went off
-  pub left : Option (List Part)
+  -- what its devices at home held when power last went off, as it left them; none where it doesn't tell, or power never went off
+  pub left : Option Holding
   -- the picks that power went off with, the last one first
   pub picked : List Pick
 
@@ -55,11 +55,11 @@ taken_back told faults bench =
 abbrev pub armed_with : ℕ → BenchState → BenchState
 armed_with k bench = record bench { arms = bench.arms + 1; armed = k; settled = 2 ^ 64 - 1 }
 
--- power went off, and left the parts that it tells of then
+-- power went off, and left what the bench tells of then
 abbrev pub powered_off : Pick → BenchState → BenchState
 powered_off pick bench = record bench {
   told = option_map (powered pick) bench.told;
   settled = bench.faults;
-  left = option_map (λ holding. (powered pick holding).parts) bench.told;
+  left = option_map (powered pick) bench.told;
   picked = pick ∷ bench.picked;
 }

@@ -5,7 +5,6 @@ use Rattle.std.proofs.Common.{ap, subst}
 use Rattle.std.proofs.lemmas.List.Elements.{All-nil, All-cons}
 use Rattle.nv_plain.specs.Faults.{saturated}
 use Rattle.nv_pmem.specs.MemPart.{part_now, part_faults}
-use Rattle.nv_pmem.specs.Part.{Part}
 use Rattle.nv_pmem.specs.declared.mem_part.MemPart.{MemPart}
 use Rattle.nv_store.specs.Disk.{disk_store}
 use Rattle.nv_store.specs.MemStore.{store_now, store_told_whole}
@@ -16,6 +15,7 @@ use Rattle.nv_bench.specs.Holding.{Holding, NamedStore, named_stores}
 use Rattle.nv_bench.specs.Laws.{AreWholeStores}
 use Rattle.nv_bench.specs.Naming.{HasDistinctStores}
 use Rattle.nv_bench.specs.BenchStores.{held_stores, bench_store_faults}
+use Rattle.nv_bench.specs.declared.bench_stores.BenchStores.{BenchStores}
 use Rattle.nv_bench.specs.declared.mem_bench.MemBench.{MemBench}
 
 -- what its devices at home hold
@@ -26,10 +26,11 @@ held_by bench = record { parts = map part_now bench.parts.items; stores = held_s
 abbrev pub faults_by : MemBench → ℕ
 faults_by bench = saturated (bench.gone + sum_by part_faults bench.parts.items + bench_store_faults bench.bench_stores)
 
--- what parts are, of some rows of them the first
-abbrev pub latest_of : {A : Type 0} → List (Vec MemPart A) → Option (List Part)
-latest_of [] = None
-latest_of (parts ∷ past) = Some (map part_now parts.items)
+-- what devices hold, of some rows of them the first
+abbrev pub latest_of : {A : Type 0} → List (Vec MemPart A) → List BenchStores → Option Holding
+latest_of [] stores = None
+latest_of (parts ∷ past) [] = None
+latest_of (parts ∷ past) (stores ∷ earlier) = Some (record { parts = map part_now parts.items; stores = held_stores stores })
 
 -- all that is seen of it; it tells all
 abbrev pub mem_state : MemBench → BenchState
@@ -41,7 +42,7 @@ mem_state bench = record {
   arms = bench.arms;
   armed = bench.armed;
   settled = bench.settled;
-  left = latest_of bench.left.states;
+  left = latest_of bench.left_parts.states bench.left_stores.states;
   picked = bench.picked.states;
 }
 

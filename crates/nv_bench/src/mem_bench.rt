@@ -28,8 +28,9 @@ pub struct MemBench {
     arms: u64,
     armed: u64,
     settled: u64,
-    // The parts as power left them, each time that it went off.
-    left: Past<Vec<MemPart>>,
+    // The parts and the stores as power left them, each time that it went off.
+    left_parts: Past<Vec<MemPart>>,
+    left_stores: Past<BenchStores>,
     // The picks that it went off with.
     picked: Past<Pick>,
     ghost home: { is_open ≡ true → vec_len parts ≡ 0 },
@@ -64,7 +65,8 @@ impl MemBench {
             arms: 0,
             armed: 0,
             settled: 0,
-            left: Past::new(),
+            left_parts: Past::new(),
+            left_stores: Past::new(),
             picked: Past::new(),
         })
     }
@@ -98,7 +100,8 @@ impl MemBench {
             arms: 0,
             armed: 0,
             settled: 0,
-            left: Past::new(),
+            left_parts: Past::new(),
+            left_stores: Past::new(),
             picked: Past::new(),
         })
     }
@@ -205,7 +208,8 @@ impl Bench for MemBench {
         self.bench_stores.lose_power(&mut picker);
         self.fuse.disarm();
         self.settled = self.faults();
-        self.left.note(&self.parts);
+        self.left_parts.note(&self.parts);
+        self.left_stores.note(&self.bench_stores);
         self.picked.note(&pick);
         Ok(())
     }

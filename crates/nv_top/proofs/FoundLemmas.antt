@@ -167,21 +167,25 @@ next_finds_run show options holding told trace text ran own =
 
 pub next_finds_stopped : NextFindsStopped
 next_finds_stopped options old new holding trace text run own =
-    let rests = run.stopped.rests in
-    finds_rested run.basis.sizes.page run.basis.sizes.entries (next_in run.stopped.parts run.basis.files) run.basis.names (files_shown run.basis trace run.stopped.report) rests.now rests.others rests.disks rests.rest rests.stores_are rests.files_are
-    (shown_many run.basis trace run.stopped.report ∙ basis_many options holding trace.names run.basis run.begun) own
+    let names = run.basis.names in
+    let power = run.stopped.lost.power in
+    let rests = run.stopped.lost.rests in
+    subst (λ files. FindsFiles names files rests.now) run.stopped.shows
+    (finds_rested run.basis.sizes.page run.basis.sizes.entries (next_in power.parts run.basis.files) names (files_named power.parts names power.stores) rests.now (without_stores names holding.stores) rests.rests.held rests.rests.rest
+    rests.rests.stores_are rests.rests.files_are (named_many power.parts names power.stores) own)
 
 pub next_finds_scheduled : NextFindsScheduled
 next_finds_scheduled options old new holding trace text run own =
     let names = run.basis.names in
-    let power = run.scheduled.power in
-    let rests = run.scheduled.rests in
-    finds_rested run.basis.sizes.page run.basis.sizes.entries (next_in power.parts run.basis.files) names (files_named power.parts names power.stores) rests.now rests.others rests.disks rests.rest rests.stores_are rests.files_are
+    let power = run.scheduled.left.lost.power in
+    let rests = run.scheduled.left.lost.rests in
+    finds_rested run.basis.sizes.page run.basis.sizes.entries (next_in power.parts run.basis.files) names (files_named power.parts names power.stores) rests.now (without_stores names holding.stores) rests.rests.held rests.rests.rest
+    rests.rests.stores_are rests.rests.files_are
     (named_many power.parts names power.stores) own
 
 pub next_finds_shown : NextFindsShown
 next_finds_shown options old new holding trace text run own =
-    subst (λ files. FindsFiles run.basis.names files run.scheduled.rests.now) run.scheduled.shows (next_finds_scheduled options old new holding trace text run own)
+    subst (λ files. FindsFiles run.basis.names files run.scheduled.left.lost.rests.now) run.scheduled.shows (next_finds_scheduled options old new holding trace text run own)
 
 pub next_finds_recovered : NextFindsRecovered
 next_finds_recovered holding told text recovered own =

@@ -182,11 +182,11 @@ schedule_refused options left old new trace why whole refused =
     (told_at old.told (λ holding. IsTraceRefused forms.Sched options left old new holding why) holding told (refused_from forms.Sched options left old new trace why whole run), all.1))
 
 -- so was a schedule followed whose trace was read
-pub used_from : (options : RunOptions) (left : Option (List ℕ)) (told : Option Holding) (trace : Traced)
-    → IfSome left (λ input. ending_of forms.Sched input ≡ Whole trace) → IfSome told (λ holding. HasUsedTurnsOn options holding trace) → IfSome told (UsesTurns options left)
-used_from options None told trace whole used = if_told told (UsesTurns options None) (λ holding is. tt)
-used_from options (Some input) told trace whole used =
-    if_told told (UsesTurns options (Some input)) (λ holding is. (trace, whole, told_at told (λ holding. HasUsedTurnsOn options holding trace) holding is used))
+pub used_from : (options : RunOptions) (left : Option (List ℕ)) (old new : BenchState) (trace : Traced)
+    → IfSome left (λ input. ending_of forms.Sched input ≡ Whole trace) → IfSome old.told (λ holding. HasUsedTurnsOn options old new holding trace) → IfSome old.told (UsesTurns options left old new)
+used_from options None old new trace whole used = if_told old.told (UsesTurns options None old new) (λ holding is. tt)
+used_from options (Some input) old new trace whole used =
+    if_told old.told (UsesTurns options (Some input) old new) (λ holding is. (trace, whole, told_at old.told (λ holding. HasUsedTurnsOn options old new holding trace) holding is used))
 
 -- why a recovery is refused
 pub recovery_refused : (left : Option (List ℕ)) (old new : BenchState) (why : Refusal)

@@ -4,6 +4,7 @@ pub mod EndingLemmas
 pub mod FateLemmas
 pub mod HeadlineLemmas
 pub mod HomeLemmas
+pub mod PoweredHomes
 pub mod LoadLemmas
 pub mod NameLemmas
 pub mod NumberLemmas

@@ -60,9 +60,14 @@ left_quiet {want} {names} {files} {was} {told} quiet leaves =
           (kept_in_all (λ (named : NamedStore). IsQuietStore named.store) names was.stores quiet.stores) leaves.left.synced;
     })
 
-rests_quiet : {page entries : ℕ} {names : List (List ℕ)} {next : ℕ} {files : _} {told : Option Holding} → RestsWith page entries names next files told → IfSome told IsQuietHolding
-rests_quiet {page} {entries} {names} {next} {files} {told} rests =
-    told_quiet told rests.now rests.told_is (record { parts = rests.rest.quiet; stores = both_still rests.others names rests.disks rests.now.stores rests.stores_are rests.still rests.synced })
+rests_quiet : {page entries next many : ℕ} {files : _} {told : Option Holding} (names : List (List ℕ)) (was : Holding) → IsQuietHolding was
+    → RestsWith page entries names next files many (without_stores names was.stores) told → IfSome told IsQuietHolding
+rests_quiet {page} {entries} {next} {many} {files} {told} names was quiet rests =
+    told_quiet told rests.now rests.told_is (record {
+      parts = rests.rests.rest.quiet;
+      stores = both_still (without_stores names was.stores) names rests.rests.held rests.now.stores rests.rests.stores_are
+          (kept_in_all (λ (named : NamedStore). IsQuietStore named.store) names was.stores quiet.stores) rests.rests.durable;
+    })
 
 module _ (old new : BenchState) (holding : Holding) (ready : IsReady old) (told : old.told ≡ Some holding) (room : new.arms < 2 ^ 63) (counts : new.faults ≡ expected_faults old new) where
   was_quiet : IsQuietHolding holding
@@ -120,7 +125,7 @@ module _ (old new : BenchState) (holding : Holding) (ready : IsReady old) (told 
 
 run_quiet : (stop : Option ℕ) (options : _) (old new : BenchState) (holding : Holding) (trace : Traced) (text : List ℕ) → IsQuietHolding holding → IsShownOf stop options old new holding trace text → IfSome new.told IsQuietHolding
 run_quiet None options old new holding trace text quiet shown = left_quiet quiet shown.left
-run_quiet (Some k) options old new holding trace text quiet shown = rests_quiet shown.stopped.rests
+run_quiet (Some k) options old new holding trace text quiet shown = rests_quiet shown.basis.names holding quiet shown.stopped.lost.rests
 
 run_ready : (stop : Option ℕ) (pick : Pick) (old new : BenchState) (holding : Holding) → IsReady old → old.told ≡ Some holding → new.arms < 2 ^ 63 → new.faults ≡ expected_faults old new → IsLeftAfter stop pick old new → IfSome new.told IsQuietHolding → IsReady new
 run_ready None pick old new holding ready told room counts left quiet = given_ready old new holding ready told room counts left quiet
@@ -136,7 +141,8 @@ next_is_ready (Run options) input old new holding text ready told room has left 
 next_is_ready (Sched options) input old new holding text ready told room has left counts shown =
     let Shown : Option (List ℕ) → Type 0 = λ input. IsShown (Sched options) input old new holding text in
     let report = subst Shown has.1 shown in
-    schedule_ready old new holding ready told room counts left.0 (rests_quiet report.2.scheduled.rests)
+    schedule_ready old new holding ready told room counts left.0
+    (rests_quiet report.2.basis.names holding (told_at old.told IsQuietHolding holding told ready.quiet) report.2.scheduled.left.lost.rests)
 next_is_ready Recover input old new holding text ready told room has left counts shown =
     given_ready old new holding ready told room counts left (left_quiet (told_at old.told IsQuietHolding holding told ready.quiet) shown.left)
 next_is_ready (Look files) input old new holding text ready told room has left counts shown = look_ready old new holding ready told room counts files left
@@ -169,13 +175,13 @@ next_begins_behind show options later holding told trace text ran wanted basis s
 
 pub next_begins_behind_stop : NextBeginsBehindStop
 next_begins_behind_stop options later old new holding trace text run wanted basis second =
-    let rests = run.stopped.rests in
-    (begins_at run.basis.sizes.page run.basis.sizes.entries (next_in run.stopped.parts run.basis.files) run.basis.names rests.now later wanted basis rests.rest second).0
+    let rests = run.stopped.lost.rests in
+    (begins_at run.basis.sizes.page run.basis.sizes.entries (next_in run.stopped.lost.power.parts run.basis.files) run.basis.names rests.now later wanted basis rests.rests.rest second).0
 
 pub next_begins_behind_schedule : NextBeginsBehindSchedule
 next_begins_behind_schedule options later old new holding trace text run wanted basis second =
-    let rests = run.scheduled.rests in
-    (begins_at run.basis.sizes.page run.basis.sizes.entries (next_in run.scheduled.power.parts run.basis.files) run.basis.names rests.now later wanted basis rests.rest second).0
+    let rests = run.scheduled.left.lost.rests in
+    (begins_at run.basis.sizes.page run.basis.sizes.entries (next_in run.scheduled.left.lost.power.parts run.basis.files) run.basis.names rests.now later wanted basis rests.rests.rest second).0
 
 pub next_begins_behind_recovery : NextBeginsBehindRecovery
 next_begins_behind_recovery later holding told text recovered wanted basis second =

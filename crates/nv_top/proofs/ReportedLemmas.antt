@@ -130,7 +130,7 @@ Arms (Gen load) given old new result = Unit {0}
 -- what a schedule leaves of which a token has used its advances up: with which pick power went off, and how far it was followed
 abbrev pub EndsInTurns : Command → (given : Option (List ℕ)) → (old new : BenchState) → Type 0
 EndsInTurns (Run options) given old new = ⊥
-EndsInTurns (Sched options) given old new = (new.picked ≡ options.image ∷ old.picked) × IfSome old.told (UsesTurns options given)
+EndsInTurns (Sched options) given old new = (new.picked ≡ options.image ∷ old.picked) × IfSome old.told (UsesTurns options given old new)
 EndsInTurns Recover given old new = ⊥
 EndsInTurns (Look files) given old new = ⊥
 EndsInTurns (Gen load) given old new = ⊥

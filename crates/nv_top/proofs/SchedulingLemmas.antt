@@ -5,20 +5,21 @@ use Rattle.std.specs.Result.{IsErrAnd}
 use Rattle.std.specs.List.Sorted.{IsStrictlyIncreasing}
 use Rattle.std.proofs.lemmas.List.{append-nil}
 use Rattle.nv_plain.specs.Files.{Files}
-use Rattle.nv_plain.specs.Images.{Image, header_of}
+use Rattle.nv_plain.specs.Images.{header_of}
 use Rattle.nv_plain.specs.Layouts.{version_1}
 use Rattle.nv_pmem.specs.Rows.{row_words}
 use Rattle.nv_pmem.specs.Steps as lines
 use Rattle.nv_pmem.specs.declared.picker.Pick.{Pick}
 use Rattle.nv_store.specs.Steps as backing
 use Rattle.nv_bench.specs.Benches.{BenchState, armed_with}
-use Rattle.nv_bench.specs.Holding.{Holding}
+use Rattle.nv_bench.specs.Holding.{Holding, NamedStore}
+use Rattle.nv_bench.specs.Powered.{powered}
 use Rattle.nv_open.specs.Held.{files_named, header_names}
-use Rattle.nv_open.specs.Lending.{stores_named}
+use Rattle.nv_open.specs.Lending.{stores_named, without_stores}
 use Rattle.nv_open.specs.Refusals.{head_image}
 use Rattle.nv_recover.specs.Standing.{ReadableStandsForRecovered, files_of}
 use Rattle.nv_core.specs.state.Values.{Value}
-use Rattle.nv_table.specs.state.Opened.{Opened, mount_of}
+use Rattle.nv_table.specs.state.Opened.{mount_of}
 use Rattle.nv_table.specs.state.States.{PassState}
 use Rattle.nv_core.specs.steps.Opening.{IsMount}
 use Rattle.nv_header.specs.FileNames.{AreFileNames}
@@ -44,14 +45,15 @@ use Rattle.nv_schedule.specs.declared.schedule_error.ScheduleError.TheVariants.{
 use Rattle.nv_schedule.specs.declared.scheduled.ScheduledCalls.{ScheduledCalls}
 use Rattle.nv_top.specs.Outcomes.{shown_report}
 use Rattle.nv_top.specs.Reports.{report_text}
-use Rattle.nv_top.specs.Scheduling.{HasScheduledOn, IsArmedAt, IsArmedAtSome, ShowsOutcome}
-use Rattle.nv_top.specs.Stopping.{IsSettledStop, RestsWith, ShowsOpen, StopSettles, next_in}
+use Rattle.nv_top.specs.Commands.{HasRecovered, recovery_of}
+use Rattle.nv_top.specs.Scheduling.{HasLostPowerBehind, HasScheduledOn, HasUsedTurns, HoldsCells, IsArmedAt, IsArmedAtSome, ShowsOutcome}
+use Rattle.nv_top.specs.Stopping.{IsSettledStop, RestsWith, ShowsOpen, StopSettles}
 use Rattle.nv_top.specs.declared.ending.Stop.{Stop}
 use Rattle.nv_top.specs.declared.ending.Stop.TheVariants as stops
 use Rattle.nv_top.specs.declared.words.RunOptions.{RunOptions}
 use Rattle.nv_top.proofs.FollowedLemmas.{files_are, is_faithful, schedule_more}
 use Rattle.nv_top.proofs.NameLemmas.{names_plain}
-use Rattle.nv_top.proofs.StoppingLemmas.{HasClosedOver, each_allowed, names_read, still_opened}
+use Rattle.nv_top.proofs.StoppingLemmas.{HasClosedOver, each_allowed, lost_power, names_read}
 
 module _ (basis : Basis) (trace : Traced) (mount : MountState) (pass zero : PassState) (part_values store_values : List Value)
     (parts : List lines.PartHistory) (held : List backing.StoreHistory) (faults placed tail : ℕ)
@@ -60,34 +62,23 @@ module _ (basis : Basis) (trace : Traced) (mount : MountState) (pass zero : Pass
     (failed : Type 0) (saw : SawStop zero.view → failed) (allowed : AreFileNames version_1 basis.names)
     (formed : IsWellFormed trace) (few : length trace.calls < 2 ^ 60) (rise : IsStrictlyIncreasing (lines_in trace)) (no_rounds : has_rounds trace.form ≡ false) (is_mount : IsMount (mount_of mount.board.opened))
     (begin_so : SchedulesBegin) (told_so : SchedulesAreTold) (legal_so : SchedulesAreLegal) (faithful_so : SchedulesAreFaithful) (files_so : DescriptorsSayFiles) (kept_so : LeftOpenAreKept)
-    (stand_so : ReadableStandsForRecovered) (before : List Pick) (bench : BenchState) (text : List ℕ) (after_power : Holding) (shows_so : ShowsOutcome after_power outcome bench.told text)
-    (power_left : bench.left ≡ Some after_power.parts) (picked : bench.picked ≡ options.image ∷ before)
+    (stand_so : ReadableStandsForRecovered) (before : List Pick) (bench : BenchState) (text : List ℕ) (home after_power : Holding) (shows_so : ShowsOutcome after_power outcome bench.told text)
+    (power_left : bench.left ≡ Some after_power) (picked : bench.picked ≡ options.image ∷ before) (cells : HoldsCells zero.view basis.names home) (power_is : after_power ≡ powered options.image home)
+    (many : ℕ) (many_so : length after_power.parts ≡ many) (others : List NamedStore) (others_so : without_stores basis.names after_power.stores ≡ others)
     (left : LeavesWholeWrites zero.view basis.files basis.names (row_words after_power.parts) (files_of (stores_named basis.names after_power.stores))) where
-  abbrev image : Image
-  image = row_words after_power.parts
-
-  abbrev bytes : Files
-  bytes = files_of (stores_named basis.names after_power.stores)
-
   abbrev begun : List TracedCall
   begun = map (λ call. call.now) shows_so.calls.unanswered.items
 
   names_so : header_names after_power.parts ≡ basis.names
   names_so = names_read after_power.parts ∙ left.header.names_are
 
-  same_opened : zero.view.opened ≡ mount.board.opened
-  same_opened = still_opened basis trace mount pass zero part_values store_values parts held faults placed tail over
-
-  pub has_scheduled : HasScheduledOn failed options before basis trace bench text
+  pub has_scheduled : HasScheduledOn failed options before basis trace many others bench text
   has_scheduled =
       let found = shows_so.shown.found in
       let shown = shows_so.shown.shown in
       let followed : HasScheduled mount trace.tokens trace.calls options.batch pass zero lent armed (Ok shows_so.calls) =
       subst (λ outcome. HasScheduled mount trace.tokens trace.calls options.batch pass zero lent armed outcome) shows_so.is_ok scheduled in
-      let header = header_of (head_image after_power.parts) in
       let files : List (List ℕ) → Files = λ names. files_named after_power.parts names after_power.stores in
-      let page_so : header.page ≡ basis.sizes.page = left.header.page_is ∙ ap (λ (o : Opened). o.sizes.page) same_opened ∙ sym over.begins.is_mount.page in
-      let entries_so : header.entries ≡ basis.sizes.entries = left.header.entries_is ∙ ap (λ (o : Opened). o.sizes.entries) same_opened ∙ sym over.begins.is_mount.entries in
       record {
         mount = mount;
         start = pass;
@@ -97,6 +88,7 @@ module _ (basis : Basis) (trace : Traced) (mount : MountState) (pass zero : Pass
         armed = armed;
         calls = shows_so.calls;
         followed = followed;
+        stopped = saw;
         sorted = shows_so.sorted;
         sorted_out = shows_so.sorted_out;
         report = shown_report shows_so.sorted shown.open_calls basis.names (files basis.names);
@@ -105,21 +97,69 @@ module _ (basis : Basis) (trace : Traced) (mount : MountState) (pass zero : Pass
             formed few rise no_rounds is_mount begin_so told_so legal_so faithful_so files_so kept_so stand_so after_power left found shows_so.shown.log shown.open_calls shown.are_open);
         plain = names_plain version_1.name_limit basis.names (files basis.names).contents (each_allowed basis.names allowed);
         text_is = shown.text_is ∙ ap (λ names. report_text (shown_report shows_so.sorted shown.open_calls names (files names))) names_so;
-        picked = picked;
-        power = after_power;
-        power_left = power_left;
-        whole = left;
+        left = record {
+          lost = lost_power basis trace mount pass zero part_values store_values parts held faults placed tail over stand_so options.image before bench after_power found.next power_left picked many many_so others others_so left
+              (shows_so.shown.log.next basis.files) shows_so.shown.left;
+          home = home;
+          cells = cells;
+          power_is = power_is;
+          whole = left;
+        };
         shows = files_are basis trace mount pass zero part_values store_values parts held faults placed tail over options.batch followed.told.0 shows_so.calls shows_so.sorted followed.told.1 followed.told.2 shows_so.sorted_out
             formed few rise no_rounds is_mount begin_so told_so legal_so faithful_so files_so kept_so stand_so after_power left found shows_so.shown.log shown.open_calls shown.are_open;
-        stands = stand_so version_1 version_1.header_lines image bytes left.header.readable;
         found = found;
         log = shows_so.shown.log;
         shown = subst (λ names. ShowsOpen shows_so.sorted begun found names (files names) text) names_so shows_so.shown.shown;
-        rests = subst (λ page. RestsWith page basis.sizes.entries basis.names (next_in after_power.parts basis.files) (files basis.names) bench.told) page_so
-            (subst (λ entries. RestsWith header.page entries basis.names (next_in after_power.parts basis.files) (files basis.names) bench.told) entries_so
-            (subst (λ next. RestsWith header.page header.entries basis.names next (files basis.names) bench.told) (shows_so.shown.log.next basis.files)
-            (subst (λ names. RestsWith header.page header.entries names found.next (files names) bench.told) names_so shows_so.shown.left)));
       }
+
+-- ---- a token that has used its advances up
+
+module _ (basis : Basis) (trace : Traced) (mount : MountState) (pass zero : PassState) (part_values store_values : List Value)
+    (parts : List lines.PartHistory) (held : List backing.StoreHistory) (faults placed tail : ℕ)
+    (over : HasClosedOver basis trace mount pass zero part_values store_values parts held faults placed tail)
+    (options : RunOptions) (lent armed : BenchState) (scheduled : HasScheduled mount trace.tokens trace.calls options.batch pass zero lent armed (Err TurnsUsed))
+    (failed : Type 0) (saw : SawStop zero.view → failed) (stand_so : ReadableStandsForRecovered) (bench : BenchState) (text : List ℕ) (home power : Holding) (recovered_so : HasRecovered power bench.told text)
+    (power_left : bench.left ≡ Some power) (picked : bench.picked ≡ options.image ∷ lent.picked) (cells : HoldsCells zero.view basis.names home) (power_is : power ≡ powered options.image home)
+    (many : ℕ) (many_so : length power.parts ≡ many) (others : List NamedStore) (others_so : without_stores basis.names power.stores ≡ others)
+    (arms : bench.arms ≡ armed.arms) (armed_so : bench.armed ≡ armed.armed)
+    (left : LeavesWholeWrites zero.view basis.files basis.names (row_words power.parts) (files_of (stores_named basis.names power.stores))) where
+  -- the region rests as the recovery left it
+  rests_recovered : RestsWith (header_of (head_image power.parts)).page (header_of (head_image power.parts)).entries (header_names power.parts) (recovery_of power).next
+      (files_named power.parts (header_names power.parts) power.stores) (length power.parts) (without_stores (header_names power.parts) power.stores) bench.told
+  rests_recovered =
+      let now = recovered_so.left in
+      let names = header_names power.parts in
+      let files = files_named power.parts names power.stores in
+      let others = without_stores names power.stores in
+      let Sized : ℕ → ℕ → ℕ → Type 0 = λ page entries next. RestsWith page entries names next files (length power.parts) others bench.told in
+      subst (λ page. Sized page (header_of (head_image power.parts)).entries (recovery_of power).next) recovered_so.page_is
+      (subst (λ entries. Sized now.left.page entries (recovery_of power).next) recovered_so.entries_is (subst (λ next. Sized now.left.page now.left.entries next) recovered_so.next_is (record {
+        now = now.now;
+        told_is = now.told_is;
+        rests = record { rest = now.left.rest; held = now.left.disks; stores_are = now.left.stores_are; files_are = now.left.files_are; durable = now.left.synced };
+        many_are = now.left.many;
+      })))
+
+  pub has_used : HasUsedTurns failed options basis trace many others lent bench
+  has_used = record {
+    mount = mount;
+    start = pass;
+    begins = over.begins;
+    last = zero;
+    lent = lent;
+    armed = armed;
+    followed = scheduled;
+    stopped = saw;
+    armed_at = (arms ∙ ap (λ (s : BenchState). s.arms) scheduled.told.2, armed_so ∙ ap (λ (s : BenchState). s.armed) scheduled.told.2);
+    left = record {
+      lost = lost_power basis trace mount pass zero part_values store_values parts held faults placed tail over stand_so options.image lent.picked bench power (recovery_of power).next power_left picked many many_so others others_so left
+          refl rests_recovered;
+      home = home;
+      cells = cells;
+      power_is = power_is;
+      whole = left;
+    };
+  }
 
 -- ---- what a bench was armed at
 
@@ -162,6 +202,22 @@ from_lent tokens old lent new arms armed is =
 
 pub all_from_lent : (tokens : List Token) (old lent new : BenchState) → lent.arms ≡ old.arms → lent.armed ≡ old.armed → IsArmedAt tokens lent new → IsArmedAt tokens old new
 all_from_lent tokens old lent new arms armed is = (is.0 ∙ same_arms (cuts_of tokens) lent old arms, is.1 ∙ same_armed (cuts_of tokens) lent old armed)
+
+-- a schedule that ended in its turns, on a bench that was lent since
+pub used_from_lent : (failed : Type 0) (options : RunOptions) (basis : Basis) (trace : Traced) (many : ℕ) (others : List NamedStore) (old lent new : BenchState) → lent.arms ≡ old.arms → lent.armed ≡ old.armed → lent.picked ≡ old.picked
+    → HasUsedTurns failed options basis trace many others lent new → HasUsedTurns failed options basis trace many others old new
+used_from_lent failed options basis trace many others old lent new arms armed picked used = record {
+  mount = used.mount;
+  start = used.start;
+  begins = used.begins;
+  last = used.last;
+  lent = used.lent;
+  armed = used.armed;
+  followed = used.followed;
+  stopped = used.stopped;
+  armed_at = all_from_lent used.followed.told.1.ran.before old lent new arms armed used.armed_at;
+  left = subst (λ before. HasLostPowerBehind used.last.view options.image before basis many others new) picked used.left;
+}
 
 pub IfSome-weaker : {X : Type 0} (found : Option X) (P Q : X → Type 0) → ((x : X) → P x → Q x) → IfSome found P → IfSome found Q
 IfSome-weaker None P Q on holds = tt

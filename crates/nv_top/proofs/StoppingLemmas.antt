@@ -1,5 +1,5 @@
 -- A run that was stopped, after power went off and the region was recovered: its report is faithful.
-use Rattle.std.proofs.Common.{◌<◌, ◌≡◌, ◌^◌, ℕ, ◌+◌, ◌≤◌, All, List, [], ◌∷◌, ◌++◌, Option, Some, None, IfSome, Result, Ok, Err, option_map, map, length, sum_by, true, refl, sym, ap, subst, ◌∙◌, arith, IsPermutation}
+use Rattle.std.proofs.Common.{◌<◌, ◌≡◌, ◌^◌, ℕ, ◌+◌, ◌≤◌, All, List, [], ◌∷◌, ◌++◌, get_or, Option, Some, None, IfSome, Result, Ok, Err, option_map, map, length, sum_by, true, refl, sym, ap, subst, ◌∙◌, arith, IsPermutation}
 use Rattle.std.specs.Prelude.{MatchOption}
 use Rattle.std.specs.List.{flat_map}
 use Rattle.std.specs.List.Sorted.{IsStrictlyIncreasing}
@@ -14,17 +14,18 @@ use Rattle.nv_plain.specs.Layouts.{version_1}
 use Rattle.nv_plain.specs.Names.{is_name}
 use Rattle.nv_plain.specs.Recovered.{recovered}
 use Rattle.nv_pmem.specs.Part.{Part}
-use Rattle.nv_pmem.specs.RowStates.{AreNow, row_tells_at}
+use Rattle.nv_pmem.specs.Draws.{draws_of}
+use Rattle.nv_pmem.specs.RowStates.{AreNow, IsNow, row_tells_at}
 use Rattle.nv_pmem.specs.Rows.{InEachRowImage, IsRowImage, RowTells, row_words}
 use Rattle.nv_pmem.specs.Steps as lines
 use Rattle.nv_pmem.specs.declared.picker.Pick.{Pick}
 use Rattle.nv_store.specs.Steps as stores
-use Rattle.nv_open.proofs.Homes.{kept_in_all}
+use Rattle.nv_open.proofs.Homes.{all_behind, own_stores}
 use Rattle.nv_store.specs.Store.{IsQuietStore, Store}
 use Rattle.nv_bench.specs.Benches.{BenchState, armed_with, told_back, with_faults}
 use Rattle.nv_bench.specs.Holding.{Holding, IsQuietHolding, NamedStore, named_stores}
 use Rattle.nv_bench.specs.Laws.{AreWholeStores, PowerLeavesAnImage}
-use Rattle.nv_bench.specs.Powered.{powered}
+use Rattle.nv_bench.specs.Powered.{powered, powered_parts}
 use Rattle.nv_header.specs.FileNames.{AreFileNames}
 use Rattle.nv_header.specs.Heads.{first_names}
 use Rattle.nv_header.specs.Regions.{IsAtRest}
@@ -39,7 +40,9 @@ use Rattle.nv_core.specs.crash.CommutingWrites.{after_calls}
 use Rattle.nv_core.specs.crash.CrashImages.{OpensRegion}
 use Rattle.nv_core.specs.log.LogContent.{OpensLog}
 use Rattle.nv_core.specs.state.Passes.{IsOneOf}
-use Rattle.nv_core.specs.state.Values.{Value, faults_of}
+use Rattle.nv_core.specs.content.StorePages.{store_of_value}
+use Rattle.nv_core.specs.log.Written.{IsPart}
+use Rattle.nv_core.specs.state.Values.{Bare, Value, faults_of}
 use Rattle.nv_core.proofs.content.PatchLaws.{history_after}
 use Rattle.nv_table.specs.state.Opened.{Opened, mount_of}
 use Rattle.nv_table.specs.state.States.{PassState}
@@ -75,15 +78,17 @@ use Rattle.nv_top.specs.Fates.{fate_of, fated, fated_report}
 use Rattle.nv_top.specs.Outcomes.{shown_report}
 use Rattle.nv_top.specs.Reports.{report_text}
 use Rattle.nv_top.specs.Runs.{BeginsMount}
-use Rattle.nv_top.specs.Stopping.{HasFate, HaveFates, HasStoppedOn, IsAway, RestsWith, ShowsOpen, ShowsRecovered, next_in}
+use Rattle.nv_top.specs.Scheduling.{HoldsCells}
+use Rattle.nv_top.specs.Stopping.{HasFate, HasLostPower, HaveFates, HasStoppedOn, IsAway, RestsWith, ShowsOpen, ShowsRecovered, next_in}
 use Rattle.nv_top.specs.Stops.{CountHasCause, StopHasCause}
 use Rattle.nv_top.specs.declared.ending.Stop.{Stop}
 use Rattle.nv_top.specs.declared.ending.Stop.TheVariants.{Usage, BadLine, InputLong, Read, Device, Region, NoMemory, Turns}
 use Rattle.nv_top.proofs.FateLemmas.{after_fates, numbers_low, open_write, open_writes_are}
 use Rattle.nv_top.proofs.HomeLemmas.{images_again}
+use Rattle.nv_top.proofs.PoweredHomes.{others_left, powered_many}
 use Rattle.nv_top.proofs.NameLemmas.{names_plain}
 use Rattle.nv_top.proofs.RowLemmas.{present}
-use Rattle.nv_store.proofs.RowReads.{length_now}
+use Rattle.nv_store.proofs.RowReads.{length_now, now_at}
 
 -- ---- what a bench may tell
 
@@ -119,18 +124,20 @@ told_again old lent holding names now disks told_is home lent_is =
 -- a recovery's report shows what the bench stood for
 pub shows : (old lent : BenchState) (new_told : Option Holding) (holding : Holding) (sorted : SortedCalls) (begun : List TracedCall) (text : List ℕ) (found : recover.Recovered) (page entries next : ℕ) (names shown : List (List ℕ))
     (parts_row : List lines.PartHistory) (row : List stores.StoreHistory)
-    → old.told ≡ Some holding → IsQuietHolding holding → old.lent ≡ [] → lent ≡ with_faults lent.faults (all_lent names old) → names ≡ shown
+    → old.told ≡ Some holding → length parts_row ≡ length holding.parts → old.lent ≡ [] → lent ≡ with_faults lent.faults (all_lent names old) → names ≡ shown
     → ((now : List Store) → AreNow row now → ShowsOpen sorted begun found shown (files_of now) text)
     → IsRecovered holding.parts page entries names next found
     → HoldFiles row (files_named holding.parts names holding.stores)
     → All (λ history. 0 < length history) parts_row → RowTells parts_row (IsAtRest version_1 page entries names next)
     → ((now : List Part) (disks : List Store) → AreNow parts_row now → AreNow row disks → new_told ≡ told_back now disks lent)
     → ShowsRecovered holding sorted begun new_told text
-shows old lent new_told holding sorted begun text found page entries next names shown parts_row row told_is quiet home lent_is same text_of recovered holds tell rest gives =
+shows old lent new_told holding sorted begun text found page entries next names shown parts_row row told_is many home lent_is same text_of recovered holds tell rest gives =
     let now = present parts_row tell in
     let header = header_of (head_image holding.parts) in
-    let Rests : List (List ℕ) → Type 0 = λ names. RestsWith header.page header.entries names found.next (files_named holding.parts names holding.stores) new_told in
+    let Rests : List (List ℕ) → Type 0 = λ names. RestsWith header.page header.entries names found.next (files_named holding.parts names holding.stores) (length holding.parts) (without_stores names holding.stores) new_told in
     let files = files_named holding.parts names holding.stores in
+    let others = without_stores names holding.stores in
+    let Sized : ℕ → ℕ → ℕ → Type 0 = λ page entries next. RestsWith page entries names next files (length holding.parts) others new_told in
     record {
       found = found;
       log = recovered.log;
@@ -138,17 +145,17 @@ shows old lent new_told holding sorted begun text found page entries next names 
           (subst (λ files. ShowsOpen sorted begun found names files text) holds.files_are
           (subst (λ names. ShowsOpen sorted begun found names (files_of holds.held) text) (sym same) (text_of holds.held holds.are)));
       left = subst Rests recovered.names_are
-          (subst (λ page. RestsWith page header.entries names found.next files new_told) recovered.page_is (subst (λ entries. RestsWith page entries names found.next files new_told) recovered.entries_is
-          (subst (λ next. RestsWith page entries names next files new_told) recovered.next_is (record {
-            now = record { parts = now.states; stores = without_stores names holding.stores ++ named_stores names holds.held };
+          (subst (λ page. Sized page header.entries found.next) recovered.page_is (subst (λ entries. Sized page entries found.next) recovered.entries_is (subst (λ next. Sized page entries next) recovered.next_is (record {
+            now = record { parts = now.states; stores = others ++ named_stores names holds.held };
             told_is = gives now.states holds.held now.are holds.are ∙ told_again old lent holding names now.states holds.held told_is home lent_is;
-            rest = row_tells_at parts_row (IsAtRest version_1 page entries names next) now.states now.are rest;
-            others = without_stores names holding.stores;
-            still = kept_in_all (λ (named : NamedStore). IsQuietStore named.store) names holding.stores quiet.stores;
-            disks = holds.held;
-            stores_are = refl;
-            files_are = holds.files_are;
-            synced = holds.quiet;
+            rests = record {
+              rest = row_tells_at parts_row (IsAtRest version_1 page entries names next) now.states now.are rest;
+              held = holds.held;
+              stores_are = refl;
+              files_are = holds.files_are;
+              durable = holds.quiet;
+            };
+            many_are = length_now parts_row now.states now.are ∙ many;
           }))));
     }
 
@@ -282,6 +289,36 @@ module _ (basis : Basis) (trace : Traced) (mount : MountState) (pass zero : Pass
       (row_tells_at parts (InEachRowImage (λ image. RowTells held (λ disks. (bytes : Files) → AreStoreImages disks bytes → LeavesWholeWrites zero.view basis.files basis.names image bytes)))
       states are (over.closed.crash basis.files basis.names log_opens files_open region_opens) image is) bytes images
 
+  -- what a recovery makes of it
+  abbrev pub lost_power : ReadableStandsForRecovered → (pick : Pick) (before : List Pick) (bench : BenchState) (power : Holding) (next : ℕ) → bench.left ≡ Some power → bench.picked ≡ pick ∷ before
+      → (many : ℕ) → length power.parts ≡ many → (others : List NamedStore) → without_stores basis.names power.stores ≡ others
+      → LeavesWholeWrites zero.view basis.files basis.names (row_words power.parts) (files_of (stores_named basis.names power.stores)) → next ≡ next_in power.parts basis.files
+      → RestsWith (header_of (head_image power.parts)).page (header_of (head_image power.parts)).entries (header_names power.parts) next (files_named power.parts (header_names power.parts) power.stores)
+      (length power.parts) (without_stores (header_names power.parts) power.stores) bench.told
+      → HasLostPower pick before basis many others bench
+  lost_power stand_so pick before bench power next power_left picked many many_so others others_so left next_so rests =
+      let header = header_of (head_image power.parts) in
+      let page = basis.sizes.page in
+      let entries = basis.sizes.entries in
+      let files : List (List ℕ) → Files = λ names. files_named power.parts names power.stores in
+      let named = files basis.names in
+      let ends = next_in power.parts basis.files in
+      let page_so : header.page ≡ page = left.header.page_is ∙ ap (λ (o : Opened). o.sizes.page) still_opened ∙ sym over.begins.is_mount.page in
+      let entries_so : header.entries ≡ entries = left.header.entries_is ∙ ap (λ (o : Opened). o.sizes.entries) still_opened ∙ sym over.begins.is_mount.entries in
+      let Rests : (page entries : ℕ) → List (List ℕ) → (next : ℕ) → (many : ℕ) → List NamedStore → Type 0 = λ page entries names next many others. RestsWith page entries names next (files names) many others bench.told in
+      record {
+        picked = picked;
+        power = power;
+        power_left = power_left;
+        stands = stand_so version_1 version_1.header_lines (row_words power.parts) (files_of (stores_named basis.names power.stores)) left.header.readable;
+        rests = subst (λ others. Rests page entries basis.names ends many others) others_so
+            (subst (λ many. Rests page entries basis.names ends many (without_stores basis.names power.stores)) many_so
+            (subst (λ page. Rests page entries basis.names ends (length power.parts) (without_stores basis.names power.stores)) page_so
+            (subst (λ entries. Rests header.page entries basis.names ends (length power.parts) (without_stores basis.names power.stores)) entries_so
+            (subst (λ next. Rests header.page header.entries basis.names next (length power.parts) (without_stores basis.names power.stores)) next_so
+            (subst (λ names. Rests header.page header.entries names next (length power.parts) (without_stores names power.stores)) (names_read power.parts ∙ left.header.names_are) rests)))));
+      }
+
 -- ---- what a run tells whose mount was closed
 
 -- a run of a trace over a mount that was opened from its basis was brought to its end, and the mount closed
@@ -372,8 +409,8 @@ module _ (basis : Basis) (trace : Traced) (mount : MountState) (pass zero : Pass
     -- ---- the report
 
     module _ (faithful_so : RunsAreFaithful) (numbered_so : RunsAreNumbered) (stand_so : ReadableStandsForRecovered) (failed : Type 0) (saw : SawStop zero.view → failed) (allowed : AreFileNames version_1 basis.names)
-        (bench : BenchState) (text : List ℕ) (after_power : Holding) (shows_so : ShowsRecovered after_power sorted [] bench.told text) (power_left : bench.left ≡ Some after_power.parts) (before : List Pick)
-        (picked : bench.picked ≡ plan.image ∷ before)
+        (bench : BenchState) (text : List ℕ) (after_power : Holding) (shows_so : ShowsRecovered after_power sorted [] bench.told text) (power_left : bench.left ≡ Some after_power) (before : List Pick)
+        (picked : bench.picked ≡ plan.image ∷ before) (many : ℕ) (many_so : length after_power.parts ≡ many) (others : List NamedStore) (others_so : without_stores basis.names after_power.stores ≡ others)
         (left : LeavesWholeWrites zero.view basis.files basis.names (row_words after_power.parts) (files_of (stores_named basis.names after_power.stores))) where
       abbrev found : recover.Recovered
       found = shows_so.found
@@ -416,13 +453,8 @@ module _ (basis : Basis) (trace : Traced) (mount : MountState) (pass zero : Pass
             each = have_fates after_power.parts basis.files found numbered.0.drawn items shows_so.log (low image (files_of (stores_named basis.names after_power.stores)) left found shows_so.log) numbered.1;
           }
 
-      pub has_stopped : HasStoppedOn failed plan.worker plan.image before basis trace bench text
+      pub has_stopped : HasStoppedOn failed plan.worker plan.image before basis trace many others bench text
       has_stopped =
-          let header = header_of (head_image after_power.parts) in
-          let NamesRest : List (List ℕ) → Type 0 = λ names. RestsWith header.page header.entries names found.next shown_files bench.told in
-          let FilesRest : Files → Type 0 = λ files. RestsWith basis.sizes.page basis.sizes.entries basis.names (next_in after_power.parts basis.files) files bench.told in
-          let page_so : header.page ≡ basis.sizes.page = left.header.page_is ∙ ap (λ (o : Opened). o.sizes.page) same_opened ∙ sym run.begins.is_mount.page in
-          let entries_so : header.entries ≡ basis.sizes.entries = left.header.entries_is ∙ ap (λ (o : Opened). o.sizes.entries) same_opened ∙ sym run.begins.is_mount.entries in
           record {
             report = report;
             faithful = is_faithful;
@@ -431,14 +463,10 @@ module _ (basis : Basis) (trace : Traced) (mount : MountState) (pass zero : Pass
                 shows_so.shown.text_is
                 ∙ ap (λ open_calls. report_text (shown_report sorted open_calls (header_names after_power.parts) shown_files)) (shows_so.shown.are_open.none refl)
                 ∙ ap (λ names. report_text (fated_report sorted found names shown_files)) names_so;
-            picked = picked;
-            parts = after_power.parts;
-            power_left = power_left;
+            lost = lost_power basis trace mount pass zero part_values store_values parts held faults placed tail closed_over stand_so plan.image before bench after_power found.next power_left picked many many_so others others_so left
+                (shows_so.log.next basis.files) shows_so.left;
+            shows = ap (λ names. files_named after_power.parts names after_power.stores) (sym names_so) ∙ files_are;
             fated = fates;
-            rests = subst FilesRest files_are
-                (subst (λ page. RestsWith page basis.sizes.entries basis.names (next_in after_power.parts basis.files) shown_files bench.told) page_so
-                (subst (λ entries. RestsWith header.page entries basis.names (next_in after_power.parts basis.files) shown_files bench.told) entries_so
-                (subst (λ next. RestsWith header.page header.entries basis.names next shown_files bench.told) (shows_so.log.next basis.files) (subst NamesRest names_so shows_so.left))));
           }
 
 -- ---- the bench
@@ -456,8 +484,8 @@ given_home k start armed home left parts held gives armed_is told_is now disks n
     ∙ ap (λ (s : BenchState). told_back now disks s) armed_is
     ∙ ap (λ (told : Option Holding). option_map (λ (holding : Holding). home_with holding start.lent now disks) told) told_is
 
--- what power leaves of a run whose devices all came back
-pub record IsLeftBehind (basis : Basis) (zero : PassState) (parts : List lines.PartHistory) (pick : Pick) (given off : Option Holding) : Type 0 where
+-- what power leaves of a run whose devices all came back, beside this that was left at home
+pub record IsLeftBehind (basis : Basis) (zero : PassState) (parts : List lines.PartHistory) (pick : Pick) (left : Holding) (given off : Option Holding) : Type 0 where
   pub before : Holding
   pub parts_are : AreNow parts before.parts
   pub given_is : given ≡ Some before
@@ -465,14 +493,36 @@ pub record IsLeftBehind (basis : Basis) (zero : PassState) (parts : List lines.P
   pub after_is : after ≡ powered pick before
   pub off_is : off ≡ Some after
   pub whole : LeavesWholeWrites zero.view basis.files basis.names (row_words after.parts) (files_of (stores_named basis.names after.stores))
+  pub cells : HoldsCells zero.view basis.names before
+  pub many_are : length after.parts ≡ length parts
+  pub others_are : without_stores basis.names after.stores ≡ left.stores
 
 module _ (basis : Basis) (trace : Traced) (mount : MountState) (pass zero : PassState) (part_values store_values : List Value)
     (parts : List lines.PartHistory) (held : List stores.StoreHistory) (faults placed tail : ℕ)
     (over : HasClosedOver basis trace mount pass zero part_values store_values parts held faults placed tail)
-    (power_so : PowerLeavesAnImage) (many : length held ≡ mount.board.opened.sizes.files) (named_so : AreFileNames version_1 basis.names) (pick : Pick) (left : Holding) (given off : Option Holding)
+    (power_so : PowerLeavesAnImage) (many_parts : 1 + mount.board.opened.sizes.entries ≤ length parts) (many : length held ≡ mount.board.opened.sizes.files)
+    (part_shown : (slot : ℕ) (now : Part) → slot < length parts → IsNow (get_or parts slot []) now → IsPart (get_or part_values slot Bare) now)
+    (store_shown : (file : ℕ) (now : Store) → file < length held → IsNow (get_or held file []) now → store_of_value (get_or store_values file Bare) ≡ Some now)
+    (named_so : AreFileNames version_1 basis.names) (pick : Pick) (left : Holding) (still : All (λ (named : NamedStore). IsQuietStore named.store) left.stores) (given off : Option Holding)
     (gives : (now : List Part) (disks : List Store) → AreNow parts now → AreNow held disks → given ≡ Some (home_with left basis.names now disks))
     (powers : off ≡ option_map (powered pick) given) (whole : (holding : Holding) → given ≡ Some holding → AreWholeStores holding) (away : IsAway basis.names left) where
-  pub left_behind : IsLeftBehind basis zero parts pick given off
+  -- the cells kept what came back
+  holds_cells : (states : List Part) (disks : List Store) → AreNow parts states → AreNow held disks → stores_named basis.names (left.stores ++ named_stores basis.names disks) ≡ disks
+      → HoldsCells zero.view basis.names (home_with left basis.names states disks)
+  holds_cells states disks are stand found =
+      let opened = still_opened basis trace mount pass zero part_values store_values parts held faults placed tail over in
+      let entries = ap (λ (o : Opened). o.sizes.entries) opened in
+      let files = ap (λ (o : Opened). o.sizes.files) opened in
+      let whole = over.closed.whole in
+      record {
+        parts = λ slot least. subst (λ value. IsPart value (get_or states slot [])) (whole.parts_show slot least)
+            (part_shown slot (get_or states slot []) (omega (arith, least, entries, many_parts)) (now_at parts states slot [] are (omega (arith, least, entries, many_parts))));
+        stores = λ file none least.
+            ap store_of_value (sym (whole.stores_show file least)) ∙ store_shown file (get_or disks file none) (omega (arith, least, files, many)) (now_at held disks file none stand (omega (arith, least, files, many)))
+            ∙ ap (λ (these : List Store). Some (get_or these file none)) (sym found);
+      }
+
+  pub left_behind : IsLeftBehind basis zero parts pick left given off
   left_behind =
       let tell = devices_tell basis trace mount pass zero part_values store_values parts held faults placed tail over in
       let states = present parts tell.0 in
@@ -480,8 +530,12 @@ module _ (basis : Basis) (trace : Traced) (mount : MountState) (pass zero : Pass
       let before = home_with left basis.names states.states disks.states in
       let after = powered pick before in
       let given_is : given ≡ Some before = gives states.states disks.states states.are disks.are in
-      let image = (power_so pick before (whole before given_is)).0 in
+      let all_whole = whole before given_is in
+      let image = (power_so pick before all_whole).0 in
       let long : length basis.names ≡ length disks.states = over.begins.is_mount.names ∙ sym many ∙ sym (length_now held disks.states disks.are) in
+      let found : stores_named basis.names before.stores ≡ disks.states =
+      all_behind basis.names left.stores (named_stores basis.names disks.states) away ∙ own_stores basis.names disks.states long named_so.distinct in
+      let draws = draws_of pick in
       record {
         before = before;
         parts_are = states.are;
@@ -492,6 +546,9 @@ module _ (basis : Basis) (trace : Traced) (mount : MountState) (pass zero : Pass
         whole = power_leaves basis trace mount pass zero part_values store_values parts held faults placed tail over states.states disks.states states.are disks.are
             (row_words after.parts) (files_of (stores_named basis.names after.stores)) image.parts
             (images_again basis.names left.stores disks.states before after refl long named_so.distinct away image);
+        cells = holds_cells states.states disks.states states.are disks.are found;
+        many_are = powered_many draws states.states ∙ length_now parts states.states states.are;
+        others_are = others_left (powered_parts draws states.states).1 basis.names left.stores disks.states long away all_whole still;
       }
 
 -- ---- counts

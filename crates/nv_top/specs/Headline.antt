@@ -1,11 +1,13 @@
 -- The top call: what each command makes of a bench, and what it shows.
-use Rattle.std.specs.Prelude.{◌≡◌, ◌⊎◌, ℕ, Bool, List, true, if◌then◌else◌, Option, Some, None, IfSome, max}
+use Rattle.std.specs.Prelude.{◌≡◌, ◌⊎◌, ℕ, Bool, List, length, true, if◌then◌else◌, Option, Some, None, IfSome, max}
 use Rattle.std.specs.Option.{option_and_then}
 use Rattle.nv_plain.specs.Faults.{Rose}
 use Rattle.nv_pmem.specs.declared.picker.Pick.{Pick}
 use Rattle.nv_bench.specs.Benches.{BenchState}
 use Rattle.nv_bench.specs.Holding.{Holding}
+use Rattle.nv_bench.specs.Opening.{opened}
 use Rattle.nv_open.specs.Held.{told_after}
+use Rattle.nv_open.specs.Lending.{without_stores}
 use Rattle.nv_open.specs.Refusals.{IsRefusedFor}
 use Rattle.nv_open.specs.declared.error.Refusal.{Refusal}
 use Rattle.nv_open.specs.declared.error.Refusal.TheVariants as refusals
@@ -84,32 +86,34 @@ IsLeftBy (Gen load) old new = IsGivenBack old new
 abbrev pub expected_faults : (old new : BenchState) → ℕ
 expected_faults old new = max old.faults new.settled
 
--- The text is that of a faithful report of a run of the trace that was stopped, on a bench that held this, and had lost power with those picks, and is that now.
+-- The text is that of a faithful report of a run of the trace that was stopped, on a bench that held this, and had lost power with those picks, and is that now. It has as many parts as it had when it was opened, and the stores of other
+-- names as they were.
 pub record HasStopped (failed : Type 0) (options : RunOptions) (before : List Pick) (holding : Holding) (bench : BenchState) (trace : Traced) (text : List ℕ) : Type 0 where
   pub basis : Basis
   pub begun : IsBasis options holding trace.names basis
-  pub stopped : HasStoppedOn failed options.worker options.image before basis trace bench text
+  pub stopped : HasStoppedOn failed options.worker options.image before basis trace (length (opened (Some begun.geometry) holding.parts)) (without_stores basis.names holding.stores) bench text
 
 -- what the report of a run of a trace, stopped or not, shows of a bench that held this
 abbrev pub IsShownOf : (stop : Option ℕ) → RunOptions → (old new : BenchState) → Holding → Traced → (text : List ℕ) → Type 0
 IsShownOf None options old new holding trace text = HasRunOn Report options holding new.told trace text
 IsShownOf (Some k) options old new holding trace text = HasStopped (Rose old.faults new.faults) options old.picked holding new trace text
 
--- The text is that of a report of a trace whose schedule was followed on a bench that held this, and had lost power with those picks, and is that now.
+-- The text is that of a report of a trace whose schedule was followed on a bench that held this, and had lost power with those picks, and is that now. Its parts and its other stores are as behind a stop.
 pub record HasFollowed (failed : Type 0) (options : RunOptions) (before : List Pick) (holding : Holding) (bench : BenchState) (trace : Traced) (text : List ℕ) : Type 0 where
   pub basis : Basis
   pub begun : IsBasis options holding trace.names basis
-  pub scheduled : HasScheduledOn failed options before basis trace bench text
+  pub scheduled : HasScheduledOn failed options before basis trace (length (opened (Some begun.geometry) holding.parts)) (without_stores basis.names holding.stores) bench text
 
--- The schedule of a trace was followed so far on a bench that held this.
-pub record HasUsedTurnsOn (options : RunOptions) (holding : Holding) (trace : Traced) : Type 0 where
+-- The schedule of a trace was followed up to a token that has used its advances up, on a bench that held this, and is that now: it was armed at the cuts before that token, and lost power behind that run. Its parts and its other stores
+-- are as behind a stop.
+pub record HasUsedTurnsOn (options : RunOptions) (old new : BenchState) (holding : Holding) (trace : Traced) : Type 0 where
   pub basis : Basis
   pub begun : IsBasis options holding trace.names basis
-  pub used : HasUsedTurns options basis trace
+  pub used : HasUsedTurns (Rose old.faults new.faults) options basis trace (length (opened (Some begun.geometry) holding.parts)) (without_stores basis.names holding.stores) old new
 
 -- so was that of the trace that was read
-abbrev pub UsesTurns : RunOptions → (input : Option (List ℕ)) → Holding → Type 0
-UsesTurns options input holding = IfSome input (λ input. (trace : Traced) × (ending_of forms.Sched input ≡ Whole trace) × HasUsedTurnsOn options holding trace)
+abbrev pub UsesTurns : RunOptions → (input : Option (List ℕ)) → (old new : BenchState) → Holding → Type 0
+UsesTurns options input old new holding = IfSome input (λ input. (trace : Traced) × (ending_of forms.Sched input ≡ Whole trace) × HasUsedTurnsOn options old new holding trace)
 
 -- what the report of a command shows of a bench that held this, and of the input that it had
 abbrev pub IsShown : Command → (input : Option (List ℕ)) → (old new : BenchState) → Holding → (text : List ℕ) → Type 0

@@ -69,13 +69,13 @@ pub record BeginsAt (page entries next : ℕ) (basis : Basis) : Type 0 where
 abbrev pub NextBeginsBehindStop : Type 0
 NextBeginsBehindStop =
     (options later : RunOptions) (old new : BenchState) (holding : Holding) (trace : Traced) (text : List ℕ) (run : HasStopped (Rose old.faults new.faults) options old.picked holding new trace text) (wanted : List (List ℕ)) (basis : Basis)
-    → IsBasis later run.stopped.rests.now wanted basis → BeginsAt run.basis.sizes.page run.basis.sizes.entries (next_in run.stopped.parts run.basis.files) basis
+    → IsBasis later run.stopped.lost.rests.now wanted basis → BeginsAt run.basis.sizes.page run.basis.sizes.entries (next_in run.stopped.lost.power.parts run.basis.files) basis
 
 -- So does a run behind a schedule.
 abbrev pub NextBeginsBehindSchedule : Type 0
 NextBeginsBehindSchedule =
     (options later : RunOptions) (old new : BenchState) (holding : Holding) (trace : Traced) (text : List ℕ) (run : HasFollowed (Rose old.faults new.faults) options old.picked holding new trace text) (wanted : List (List ℕ)) (basis : Basis)
-    → IsBasis later run.scheduled.rests.now wanted basis → BeginsAt run.basis.sizes.page run.basis.sizes.entries (next_in run.scheduled.power.parts run.basis.files) basis
+    → IsBasis later run.scheduled.left.lost.rests.now wanted basis → BeginsAt run.basis.sizes.page run.basis.sizes.entries (next_in run.scheduled.left.lost.power.parts run.basis.files) basis
 
 -- Behind a recovery it begins with the sizes that the header said, at the next number that the recovery shows.
 abbrev pub NextBeginsBehindRecovery : Type 0
@@ -111,14 +111,14 @@ NextFindsRun =
 abbrev pub NextFindsStopped : Type 0
 NextFindsStopped =
     (options : RunOptions) (old new : BenchState) (holding : Holding) (trace : Traced) (text : List ℕ) (run : HasStopped (Rose old.faults new.faults) options old.picked holding new trace text)
-    → HasOwnNames run.stopped.rests.now → FindsFiles run.basis.names (files_shown run.basis trace run.stopped.report) run.stopped.rests.now
+    → HasOwnNames run.stopped.lost.rests.now → FindsFiles run.basis.names (files_shown run.basis trace run.stopped.report) run.stopped.lost.rests.now
 
 -- So it does behind a schedule: it finds those that the bench stood for as power left it.
 abbrev pub NextFindsScheduled : Type 0
 NextFindsScheduled =
     (options : RunOptions) (old new : BenchState) (holding : Holding) (trace : Traced) (text : List ℕ) (run : HasFollowed (Rose old.faults new.faults) options old.picked holding new trace text)
-    → HasOwnNames run.scheduled.rests.now
-    → FindsFiles run.basis.names (files_named run.scheduled.power.parts run.basis.names run.scheduled.power.stores) run.scheduled.rests.now
+    → HasOwnNames run.scheduled.left.lost.rests.now
+    → FindsFiles run.basis.names (files_named run.scheduled.left.lost.power.parts run.basis.names run.scheduled.left.lost.power.stores) run.scheduled.left.lost.rests.now
 
 -- Behind a recovery it finds the files that the recovery shows, which are those that the bench stood for before.
 abbrev pub NextFindsRecovered : Type 0
@@ -137,7 +137,7 @@ NextFindsLooked =
 abbrev pub NextFindsShown : Type 0
 NextFindsShown =
     (options : RunOptions) (old new : BenchState) (holding : Holding) (trace : Traced) (text : List ℕ) (run : HasFollowed (Rose old.faults new.faults) options old.picked holding new trace text)
-    → HasOwnNames run.scheduled.rests.now → FindsFiles run.basis.names (files_shown run.basis trace run.scheduled.report) run.scheduled.rests.now
+    → HasOwnNames run.scheduled.left.lost.rests.now → FindsFiles run.basis.names (files_shown run.basis trace run.scheduled.report) run.scheduled.left.lost.rests.now
 
 -- ---- the history of two commands
 

@@ -37,7 +37,7 @@ pub record HasReported (over : Option Command) (given left : Option (List ℕ)) 
   pub device_fault : result ≡ Err Device → Rose (expected_faults old new) new.faults
   pub device_sound : result ≢ Err Device → new.faults ≤ expected_faults old new
   pub turns : result ≡ Err Turns → (options : RunOptions) × (over ≡ Some (Sched options)) × (new.picked ≡ options.image ∷ old.picked)
-  pub turns_used : result ≡ Err Turns → (options : RunOptions) → over ≡ Some (Sched options) → IfSome old.told (UsesTurns options given)
+  pub turns_used : result ≡ Err Turns → (options : RunOptions) → over ≡ Some (Sched options) → IfSome old.told (UsesTurns options given old new)
   pub region : (why : Refusal) → result ≡ Err (Region why) → (command : Command) → over ≡ Some command → IfSome old.told (λ holding. IsCommandRefused command given old new holding why)
   pub unarmed : (why : Refusal) → result ≡ Err (Region why) → IfSome given (λ input. IfSome old.told (λ holding. new.arms ≡ old.arms))
   pub complete : (command : Command) → over ≡ Some command → IfSome old.told (λ holding. IsUnhindered command given holding (Rose before now) (Rose (expected_faults old new) new.faults) → IfErr result IsOwnStop)

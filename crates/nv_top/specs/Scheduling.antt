@@ -1,17 +1,24 @@
 -- Scheduling: a schedule that is followed over a bench, and what it leaves.
-use Rattle.std.specs.Prelude.{◌≡◌, ℕ, false, List, [], ◌∷◌, ◌++◌, map, Option, Some, Result, Ok, Err}
-use Rattle.nv_plain.specs.Recovered.{recovered}
+use Rattle.std.specs.Prelude.{◌≡◌, ℕ, ◌<◌, ◌≤◌, false, List, [], ◌∷◌, ◌++◌, map, slice_index_or, Option, Some, Result, Ok, Err}
 use Rattle.nv_pmem.specs.Rows.{row_words}
 use Rattle.nv_pmem.specs.declared.picker.Pick.{Pick}
 use Rattle.nv_bench.specs.Benches.{BenchState}
-use Rattle.nv_bench.specs.Holding.{Holding}
+use Rattle.nv_bench.specs.Holding.{Holding, NamedStore}
+use Rattle.nv_bench.specs.Powered.{powered}
+use Rattle.nv_store.specs.Store.{Store}
 use Rattle.nv_open.specs.Held.{files_named}
 use Rattle.nv_open.specs.Lending.{stores_named}
 use Rattle.nv_recover.specs.Standing.{files_of}
 use Rattle.nv_recover.specs.Recovering.{HasFoundAll}
 use Rattle.nv_recover.specs.declared.recovering.Recovered as recover
+use Rattle.nv_core.specs.content.StorePages.{store_of_value}
+use Rattle.nv_core.specs.log.Written.{IsPart}
+use Rattle.nv_core.specs.state.Words.{STORE}
+use Rattle.nv_table.specs.state.Layout.{cell_of}
 use Rattle.nv_table.specs.state.States.{PassState}
+use Rattle.nv_table.specs.state.Views.{PassView, values_of}
 use Rattle.nv_mount.specs.Mounts.{MountState}
+use Rattle.nv_mount.specs.RisenCounts.{SawStop}
 use Rattle.nv_mount.specs.WholeWrites.{LeavesWholeWrites}
 use Rattle.nv_trace.specs.Traced.{Traced}
 use Rattle.nv_trace.specs.declared.token.Token.{Token}
@@ -29,7 +36,7 @@ use Rattle.nv_schedule.specs.declared.scheduled.ScheduledCalls.{ScheduledCalls}
 use Rattle.nv_top.specs.Readings.{HavePlainNames}
 use Rattle.nv_top.specs.Reports.{report_text}
 use Rattle.nv_top.specs.Runs.{BeginsMount}
-use Rattle.nv_top.specs.Stopping.{RestsWith, ShowsOpen, ShowsRecovered, next_in}
+use Rattle.nv_top.specs.Stopping.{HasLostPower, ShowsOpen, ShowsRecovered}
 use Rattle.nv_top.specs.declared.words.RunOptions.{RunOptions}
 
 -- All that was lent came back to a bench that may have been armed meanwhile, and have lost power since: it is as it was, but for what it tells, its counts, and what power left, with which picks.
@@ -63,8 +70,23 @@ pub record ShowsOutcome (holding : Holding) (outcome : Result ScheduledCalls Sch
   pub sorted_out : AreSortedOut (made_calls calls.answered.items) sorted
   pub shown : ShowsRecovered holding sorted (map (λ call. call.now) calls.unanswered.items) told text
 
--- The schedule of a trace was followed over a mount of this basis, on a bench that was lent meanwhile, up to a token that made 100,000 advances and didn't come to its point.
-pub record HasUsedTurns (options : RunOptions) (basis : Basis) (trace : Traced) : Type 0 where
+-- A bench holds at home what the cells of a run kept at its end, as a pass saw it last: the parts of the header and of the entries, and the stores of these names.
+pub record HoldsCells (view : PassView) (names : List (List ℕ)) (home : Holding) : Type 0 where
+  pub parts : (slot : ℕ) → slot ≤ view.opened.sizes.entries → IsPart (values_of view (cell_of view.opened.sizes slot)) (slice_index_or home.parts slot [])
+  pub stores : (file : ℕ) (none : Store) → file < view.opened.sizes.files → store_of_value (values_of view (STORE file)) ≡ Some (slice_index_or (stores_named names home.stores) file none)
+
+-- Power went off behind the run that a pass saw last so, and left the image that the pick names of what that run's cells kept. It recovers to the files after the history of all callers and then the kept ones of their writes in flight,
+-- each whole.
+pub record HasLostPowerBehind (view : PassView) (pick : Pick) (before : List Pick) (basis : Basis) (many : ℕ) (others : List NamedStore) (bench : BenchState) : Type 0 where
+  pub lost : HasLostPower pick before basis many others bench
+  pub home : Holding
+  pub cells : HoldsCells view basis.names home
+  pub power_is : lost.power ≡ powered pick home
+  pub whole : LeavesWholeWrites view basis.files basis.names (row_words lost.power.parts) (files_of (stores_named basis.names lost.power.stores))
+
+-- The schedule of a trace was followed over a mount of this basis, on a bench that was lent meanwhile, up to a token that made 100,000 advances and didn't come to its point. It was armed at the cuts before that token, and power went off
+-- behind that run. A pass saw STOP set only where this says so.
+pub record HasUsedTurns (failed : Type 0) (options : RunOptions) (basis : Basis) (trace : Traced) (many : ℕ) (others : List NamedStore) (old bench : BenchState) : Type 0 where
   pub mount : MountState
   pub start : PassState
   pub begins : BeginsMount basis trace mount start
@@ -72,11 +94,13 @@ pub record HasUsedTurns (options : RunOptions) (basis : Basis) (trace : Traced) 
   pub lent : BenchState
   pub armed : BenchState
   pub followed : HasScheduled mount trace.tokens trace.calls options.batch start last lent armed (Err TurnsUsed)
+  pub stopped : SawStop last.view → failed
+  pub armed_at : IsArmedAt followed.told.1.ran.before old bench
+  pub left : HasLostPowerBehind last.view options.image old.picked basis many others bench
 
 -- The text is that of a report of a trace whose schedule was followed over a mount of this basis, on a bench that was lent meanwhile, and armed at its cuts. The calls that it lists are those that were
--- begun. Power went off once more than with those picks, with that of the options, and left the bench with an image that recovers to the files after the history of all callers and then the kept ones of
--- their writes in flight, each whole. These are the files shown, with which the bench rests, and the fates are by the log of that image. The report is faithful to the trace; devices failed only where this says so.
-pub record HasScheduledOn (failed : Type 0) (options : RunOptions) (before : List Pick) (basis : Basis) (trace : Traced) (bench : BenchState) (text : List ℕ) : Type 0 where
+-- begun. Power went off behind it; what it left stood for the files that are shown, and the fates are by the log of that. The report is faithful to the trace; devices failed, and a pass saw STOP set, only where this says so.
+pub record HasScheduledOn (failed : Type 0) (options : RunOptions) (before : List Pick) (basis : Basis) (trace : Traced) (many : ℕ) (others : List NamedStore) (bench : BenchState) (text : List ℕ) : Type 0 where
   pub mount : MountState
   pub start : PassState
   pub begins : BeginsMount basis trace mount start
@@ -85,19 +109,15 @@ pub record HasScheduledOn (failed : Type 0) (options : RunOptions) (before : Lis
   pub armed : BenchState
   pub calls : ScheduledCalls
   pub followed : HasScheduled mount trace.tokens trace.calls options.batch start last lent armed (Ok calls)
+  pub stopped : SawStop last.view → failed
   pub sorted : SortedCalls
   pub sorted_out : AreSortedOut (made_calls calls.answered.items) sorted
   pub report : Report
   pub faithful : IsFaithfulSchedule failed basis trace report
   pub plain : HavePlainNames report.files
   pub text_is : text ≡ report_text report
-  pub picked : bench.picked ≡ options.image ∷ before
-  pub power : Holding
-  pub power_left : bench.left ≡ Some power.parts
-  pub whole : LeavesWholeWrites last.view basis.files basis.names (row_words power.parts) (files_of (stores_named basis.names power.stores))
-  pub shows : files_named power.parts basis.names power.stores ≡ files_shown basis trace report
-  pub stands : files_named power.parts basis.names power.stores ≡ (recovered (row_words power.parts) (files_of (stores_named basis.names power.stores))).files
+  pub left : HasLostPowerBehind last.view options.image before basis many others bench
+  pub shows : files_named left.lost.power.parts basis.names left.lost.power.stores ≡ files_shown basis trace report
   pub found : recover.Recovered
-  pub log : HasFoundAll (row_words power.parts) found
-  pub shown : ShowsOpen sorted (map (λ call. call.now) calls.unanswered.items) found basis.names (files_named power.parts basis.names power.stores) text
-  pub rests : RestsWith basis.sizes.page basis.sizes.entries basis.names (next_in power.parts basis.files) (files_named power.parts basis.names power.stores) bench.told
+  pub log : HasFoundAll (row_words left.lost.power.parts) found
+  pub shown : ShowsOpen sorted (map (λ call. call.now) calls.unanswered.items) found basis.names (files_named left.lost.power.parts basis.names left.lost.power.stores) text

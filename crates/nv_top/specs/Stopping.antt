@@ -1,5 +1,5 @@
 -- Stopping: a run that is stopped at a device call, and what it leaves.
-use Rattle.std.specs.Prelude.{◌≡◌, ◌⊎◌, ℕ, ◌+◌, ◌≤◌, Bool, false, List, [], ◌∷◌, ◌++◌, All, Option, Some, Result, Ok, Err}
+use Rattle.std.specs.Prelude.{◌≡◌, ◌⊎◌, ℕ, ◌+◌, ◌≤◌, Bool, false, List, [], ◌∷◌, length, All, Option, Some, Result, Ok, Err}
 use Rattle.nv_plain.specs.Faults.{Rose}
 use Rattle.nv_plain.specs.Files.{Files}
 use Rattle.nv_plain.specs.Images.{header_of}
@@ -8,11 +8,11 @@ use Rattle.nv_plain.specs.Recovered.{recovered}
 use Rattle.nv_pmem.specs.Part.{Part}
 use Rattle.nv_pmem.specs.Rows.{row_words}
 use Rattle.nv_pmem.specs.declared.picker.Pick.{Pick}
-use Rattle.nv_store.specs.Store.{IsQuietStore, Store}
-use Rattle.nv_header.specs.Regions.{IsAtRest}
-use Rattle.nv_recover.specs.Standing.{AreQuietStores, files_of}
+use Rattle.nv_open.specs.Lending.{stores_named, without_stores}
+use Rattle.nv_open.specs.Unopened.{IsAtRestWith}
+use Rattle.nv_recover.specs.Standing.{files_of}
 use Rattle.nv_bench.specs.Benches.{BenchState}
-use Rattle.nv_bench.specs.Holding.{Holding, NamedStore, is_named, named_stores}
+use Rattle.nv_bench.specs.Holding.{Holding, NamedStore, is_named}
 use Rattle.nv_open.specs.Held.{files_named, header_names}
 use Rattle.nv_open.specs.Refusals.{head_image}
 use Rattle.nv_recover.specs.Recovering.{HasFoundAll}
@@ -76,18 +76,13 @@ IsSettledStop settled now (Err stop) = StopSettles settled now stop
 abbrev pub IsAway : List (List ℕ) → Holding → Type 0
 IsAway names holding = All (λ name. All (λ named. is_named name named ≡ false) holding.stores) names
 
--- A bench tells that it holds a region of these sizes with these names, at rest with an empty log that goes on with this number, and behind its other
--- stores those of these names, which hold these files, durable; the others are quiet.
-pub record RestsWith (page entries : ℕ) (names : List (List ℕ)) (next : ℕ) (files : Files) (told : Option Holding) : Type 0 where
+-- A bench tells that it holds a region of these sizes with these names, in so many parts, at rest with an empty log that goes on with this number; and
+-- behind these other stores those of its names, which hold these files, durable.
+pub record RestsWith (page entries : ℕ) (names : List (List ℕ)) (next : ℕ) (files : Files) (many : ℕ) (others : List NamedStore) (told : Option Holding) : Type 0 where
   pub now : Holding
   pub told_is : told ≡ Some now
-  pub rest : IsAtRest version_1 page entries names next now.parts
-  pub others : List NamedStore
-  pub still : All (λ named. IsQuietStore named.store) others
-  pub disks : List Store
-  pub stores_are : now.stores ≡ others ++ named_stores names disks
-  pub files_are : files_of disks ≡ files
-  pub synced : AreQuietStores disks
+  pub rests : IsAtRestWith page entries names next files others now
+  pub many_are : length now.parts ≡ many
 
 -- The text is that of the report of the sorted calls, with these files, and with what became of those that were left open.
 pub record ShowsOpen (sorted : SortedCalls) (begun : List TracedCall) (found : recover.Recovered) (names : List (List ℕ)) (files : Files) (text : List ℕ) : Type 0 where
@@ -95,14 +90,15 @@ pub record ShowsOpen (sorted : SortedCalls) (begun : List TracedCall) (found : r
   pub are_open : AreShownOpen found.first found.groups sorted.open_calls.items begun open_calls
   pub text_is : text ≡ report_text (shown_report sorted open_calls names files)
 
--- The text is that of a report of what a recovery made of a bench that held this, and the bench rests with the files shown, and with the sizes that the header said; the log goes on where it was found to end.
+-- The text is that of a report of what a recovery made of a bench that held this, and the bench rests with the files shown, and with the sizes that the header said; the log goes on where it was found to end. It has as many parts as
+-- before, and the stores of other names are as they were.
 -- Beside the calls that were sorted out, these were begun and drew no number.
 pub record ShowsRecovered (holding : Holding) (sorted : SortedCalls) (begun : List TracedCall) (told : Option Holding) (text : List ℕ) : Type 0 where
   pub found : recover.Recovered
   pub log : HasFoundAll (row_words holding.parts) found
   pub shown : ShowsOpen sorted begun found (header_names holding.parts) (files_named holding.parts (header_names holding.parts) holding.stores) text
   pub left : RestsWith (header_of (head_image holding.parts)).page (header_of (head_image holding.parts)).entries (header_names holding.parts) found.next
-      (files_named holding.parts (header_names holding.parts) holding.stores) told
+      (files_named holding.parts (header_names holding.parts) holding.stores) (length holding.parts) (without_stores (header_names holding.parts) holding.stores) told
 
 -- the fate of a write that drew this number, by what the log recovers to that stands in these parts
 abbrev pub fate_in : List Part → Files → ℕ → Fate
@@ -125,15 +121,21 @@ pub record HaveFates (basis : Basis) (parts : List Part) (report : Report) : Typ
   pub drew : DrewInARow (entries_taken basis.sizes.page) basis.next (drawing_calls report)
   pub each : All (HasFate parts basis.files drew.drawn) report.open_calls
 
--- The text is that of a faithful report of a run of the trace, whose fates are those of the parts as power left them, and the bench rests
--- with the files that it shows, and with the sizes of the basis; its log goes on where that ended which power left. Power went off once more than with those picks, with this one.
-pub record HasStoppedOn (failed : Type 0) (worker : Bool) (pick : Pick) (before : List Pick) (basis : Basis) (trace : Traced) (bench : BenchState) (text : List ℕ) : Type 0 where
+-- Power went off once more than with those picks, with this one, and left this of a bench. That was recovered: the bench rests with the files that it recovers to, and with the sizes of the basis; the log goes on where that of what power
+-- left ended. The bench has so many parts, and these other stores.
+pub record HasLostPower (pick : Pick) (before : List Pick) (basis : Basis) (many : ℕ) (others : List NamedStore) (bench : BenchState) : Type 0 where
+  pub picked : bench.picked ≡ pick ∷ before
+  pub power : Holding
+  pub power_left : bench.left ≡ Some power
+  pub stands : files_named power.parts basis.names power.stores ≡ (recovered (row_words power.parts) (files_of (stores_named basis.names power.stores))).files
+  pub rests : RestsWith basis.sizes.page basis.sizes.entries basis.names (next_in power.parts basis.files) (files_named power.parts basis.names power.stores) many others bench.told
+
+-- The text is that of a faithful report of a run of the trace. Power went off behind it, with this pick; what it left stood for the files that are shown, and the fates are by the log of that.
+pub record HasStoppedOn (failed : Type 0) (worker : Bool) (pick : Pick) (before : List Pick) (basis : Basis) (trace : Traced) (many : ℕ) (others : List NamedStore) (bench : BenchState) (text : List ℕ) : Type 0 where
   pub report : Report
   pub faithful : IsFaithful failed worker basis trace report
   pub plain : HavePlainNames report.files
   pub text_is : text ≡ report_text report
-  pub picked : bench.picked ≡ pick ∷ before
-  pub parts : List Part
-  pub power_left : bench.left ≡ Some parts
-  pub fated : HaveFates basis parts report
-  pub rests : RestsWith basis.sizes.page basis.sizes.entries basis.names (next_in parts basis.files) (files_shown basis trace report) bench.told
+  pub lost : HasLostPower pick before basis many others bench
+  pub shows : files_named lost.power.parts basis.names lost.power.stores ≡ files_shown basis trace report
+  pub fated : HaveFates basis lost.power.parts report

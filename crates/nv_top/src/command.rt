@@ -105,9 +105,9 @@ pub fn nv_main<R: Threads + Wait + Sync, I: Source, O: Sink, B: Bench, G: Gate +
     // Only a schedule ends with status 8. Power went off then, with its pick.
     ensures turns { result ≡ TURNS_USED → (options : RunOptions) × (command_over B.can_lose_power (map string_bytes words.now) ≡ Some (commands.Sched options))
         × ((B.state bench.new).picked ≡ options.image ∷ (B.state bench.old).picked) }
-    // Then its tokens were followed up to one that made 100,000 advances short of its point; with status 0 they were to the end (`report`).
+    // Then its tokens were followed up to one that made 100,000 advances short of its point, and power went off behind that run: what it left was recovered. With status 0 they were followed to the end (`report`).
     ensures turns_used { result ≡ TURNS_USED → (options : RunOptions) → command_over B.can_lose_power (map string_bytes words.now) ≡ Some (commands.Sched options)
-        → IfSome (B.state bench.old).told (UsesTurns options (I.left src.old)) }
+        → IfSome (B.state bench.old).told (UsesTurns options (I.left src.old) (B.state bench.old) (B.state bench.new)) }
 
     // With status 7 the line says why the region is refused. It is refused at entry, never after a stop's power failure. It is as it was then, or, where there would be too many files, at rest.
     ensures region { result ≡ BAD_REGION → (why : Refusal) × Appends (O.written out.old) (O.written out.new) (region_line why)

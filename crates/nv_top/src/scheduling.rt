@@ -1,5 +1,5 @@
 //! A schedule of a trace, the loss of power behind it, and the recovery.
-ghost use Rattle.std.specs.Prelude.{◌≡◌, ◌+◌, ◌^◌, ◌<◌, ◌≤◌, max, [], ◌∷◌, List, None, true, false, length, map, sum_by, All, Ok, Err, IfOk, IfSome, OnOk};
+ghost use Rattle.std.specs.Prelude.{◌≡◌, ℕ, ◌+◌, ◌^◌, ◌<◌, ◌≤◌, max, [], ◌∷◌, List, None, true, false, length, map, sum_by, All, Ok, Err, IfOk, IfSome, OnOk};
 ghost use Rattle.nv_plain.specs.Faults.{Rose, saturated};
 ghost use Rattle.nv_plain.specs.Layouts.{version_1};
 ghost use Rattle.nv_pmem.specs.Moments.{Tells};
@@ -19,7 +19,7 @@ ghost use Rattle.nv_trace.specs.Said.{said_place};
 ghost use Rattle.nv_runner.specs.Faithful.{Basis};
 ghost use Rattle.nv_schedule.specs.declared.schedule_error.ScheduleError.TheVariants as schedule_errors;
 ghost use Rattle.nv_schedule.specs.declared.scheduled.ScheduledCalls.{ScheduledCalls as AnyCalls};
-ghost use Rattle.nv_top.specs.Commands.{IsGivenBack};
+ghost use Rattle.nv_top.specs.Commands.{HasRecovered, IsGivenBack};
 ghost use Rattle.nv_top.specs.Headline.{HasFollowed, expected_faults, HasUsedTurnsOn, IsRunRefused};
 ghost use Rattle.nv_top.specs.Lives.{HasLived, LeavesRun};
 ghost use Rattle.nv_top.specs.Runs.{BeginsMount, basis_over};
@@ -69,7 +69,7 @@ pub(crate) fn schedule<T: Bench>(
     ensures picked { IsPickedOnce options.image (T.state bench.old) (T.state bench.new) }
     ensures cause { IsSettledStop (expected_faults (T.state bench.old) (T.state bench.new)) (T.state bench.new).faults result }
     ensures turns { result ≡ Err stops.Turns → (T.state bench.new).picked ≡ options.image ∷ (T.state bench.old).picked }
-    ensures used { result ≡ Err stops.Turns → IfSome (T.state bench.old).told (λ holding. HasUsedTurnsOn options holding trace.now) }
+    ensures used { result ≡ Err stops.Turns → IfSome (T.state bench.old).told (λ holding. HasUsedTurnsOn options (T.state bench.old) (T.state bench.new) holding trace.now) }
     ensures never_falls { (T.state bench.old).faults ≤ (T.state bench.new).faults }
     ensures life { IfSome (T.state bench.old).told (λ was. LeavesRun options was trace.now (T.state bench.new).told) }
     ensures followed { IfOk result (λ text. IfSome (T.state bench.old).told (λ holding.
@@ -126,13 +126,16 @@ fn schedule_region<T: Bench>(
         → IfSome (T.state bench.old).told (λ home. IsAway opened.region.names home → HasLived (basis_over opened.region options.pages (files_of now)) trace.now (T.state bench.new).told) }
     ensures used { result ≡ Err stops.Turns → (parts : List Part) (now : List Store)
         → AreNow (map T.Part.history opened.region.parts.items) parts → AreNow (map T.Store.history opened.stores.items) now
-        → HasUsedTurns options (basis_over opened.region options.pages (files_of now)) trace.now }
+        → IfSome (T.state bench.old).told (λ home. IsAway opened.region.names home
+        → HasUsedTurns (Rose (saturated ((T.state bench.old).faults
+        + (sum_by T.Part.fault_count opened.region.parts.items + sum_by T.Store.fault_count opened.stores.items))) (T.state bench.new).faults)
+        options (basis_over opened.region options.pages (files_of now)) trace.now (length opened.region.parts.items) home.stores (T.state bench.old) (T.state bench.new)) }
     ensures scheduled { IfOk result (λ text. (parts : List Part) (now : List Store)
         → AreNow (map T.Part.history opened.region.parts.items) parts → AreNow (map T.Store.history opened.stores.items) now
         → IfSome (T.state bench.old).told (λ home. IsAway opened.region.names home
         → HasScheduledOn (Rose (saturated ((T.state bench.old).faults
         + (sum_by T.Part.fault_count opened.region.parts.items + sum_by T.Store.fault_count opened.stores.items))) (T.state bench.new).faults)
-        options (T.state bench.old).picked (basis_over opened.region options.pages (files_of now)) trace.now (T.state bench.new) text.items)) }
+        options (T.state bench.old).picked (basis_over opened.region options.pages (files_of now)) trace.now (length opened.region.parts.items) home.stores (T.state bench.new) text.items)) }
 {
     let Opened { region, stores } = opened;
     match mount_over(alloc, region, stores, options, trace) {
@@ -185,11 +188,14 @@ fn schedule_mount<T: Bench>(
     ensures turns { result ≡ Err stops.Turns → (T.state bench.new).picked ≡ options.image ∷ (T.state bench.old).picked }
     ensures life { (basis : Basis) → BeginsMount basis trace.now mount pass → basis.names ≡ (T.state bench.old).lent
         → IfSome (T.state bench.old).told (λ home. IsAway basis.names home → HasLived basis trace.now (T.state bench.new).told) }
-    ensures used { result ≡ Err stops.Turns → (basis : Basis) → BeginsMount basis trace.now mount pass → HasUsedTurns options basis trace.now }
+    ensures used { result ≡ Err stops.Turns → (basis : Basis) → BeginsMount basis trace.now mount pass → basis.names ≡ (T.state bench.old).lent
+        → IfSome (T.state bench.old).told (λ home. IsAway basis.names home
+        → HasUsedTurns (Rose (saturated ((T.state bench.old).faults + failed_before pass)) (T.state bench.new).faults)
+        options basis trace.now (1 + mount.board.opened.sizes.entries + length pass.spare) home.stores (T.state bench.old) (T.state bench.new)) }
     ensures scheduled { IfOk result (λ text. (basis : Basis) → BeginsMount basis trace.now mount pass → basis.names ≡ (T.state bench.old).lent
         → IfSome (T.state bench.old).told (λ home. IsAway basis.names home
         → HasScheduledOn (Rose (saturated ((T.state bench.old).faults + failed_before pass)) (T.state bench.new).faults)
-        options (T.state bench.old).picked basis trace.now (T.state bench.new) text.items)) }
+        options (T.state bench.old).picked basis trace.now (1 + mount.board.opened.sizes.entries + length pass.spare) home.stores (T.state bench.new) text.items)) }
 {
     images_stand_for_files();
     a_header_has_one_answer();
@@ -243,6 +249,7 @@ fn show_outcome<T: Bench>(
     ensures refused { (why : _) → result ≡ Err (stops.Region why) → IfSome (T.state bench.old).told (λ holding. IsRefusedFor holding.parts why) }
     ensures followed { OnOk result ((calls : AnyCalls) × (outcome.entry ≡ Ok calls)) }
     ensures used { result ≡ Err stops.Turns → outcome.entry ≡ Err schedule_errors.TurnsUsed }
+    ensures recovered { result ≡ Err stops.Turns → IfSome (T.state bench.old).told (λ holding. (text : List ℕ) × HasRecovered holding (T.state bench.new).told text) }
     ensures shown { IfOk result (λ text. IfSome (T.state bench.old).told (λ holding. ShowsOutcome holding outcome.entry (T.state bench.new).told text.items)) }
     ensures standing { IfSome (T.state bench.old).told (λ was. HasHeader was.parts → TellsOf (StandsAsBefore was) (T.state bench.new).told) }
     ensures cause { IsSettledStop (T.state bench.old).faults (T.state bench.new).faults result }

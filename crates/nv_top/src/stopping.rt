@@ -124,7 +124,7 @@ fn stop_region<R: Threads + Wait + Sync, T: Bench, G: Gate + Sync>(
         → IfSome (T.state bench.old).told (λ home. IsAway opened.region.names home
         → HasStoppedOn (Rose (saturated ((T.state bench.old).faults
         + (sum_by T.Part.fault_count opened.region.parts.items + sum_by T.Store.fault_count opened.stores.items))) (T.state bench.new).faults)
-        options.worker options.image (T.state bench.old).picked (basis_over opened.region options.pages (files_of now)) trace.now (T.state bench.new) text.items)) }
+        options.worker options.image (T.state bench.old).picked (basis_over opened.region options.pages (files_of now)) trace.now (length opened.region.parts.items) home.stores (T.state bench.new) text.items)) }
 {
     let Opened { region, stores } = opened;
     let plan = Plan {
@@ -186,7 +186,7 @@ fn stop_mount<R: Threads + Wait + Sync, T: Bench, G: Gate + Sync>(
     ensures ran { IfOk result (λ text. (basis : Basis) → BeginsMount basis trace.now mount pass → basis.names ≡ (T.state bench.old).lent
         → IfSome (T.state bench.old).told (λ home. IsAway basis.names home
         → HasStoppedOn (Rose (saturated ((T.state bench.old).faults + failed_before pass)) (T.state bench.new).faults)
-        plan.worker plan.image (T.state bench.old).picked basis trace.now (T.state bench.new) text.items)) }
+        plan.worker plan.image (T.state bench.old).picked basis trace.now (1 + mount.board.opened.sizes.entries + length pass.spare) home.stores (T.state bench.new) text.items)) }
 {
     images_stand_for_files();
     a_header_has_one_answer();

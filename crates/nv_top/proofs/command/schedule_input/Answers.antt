@@ -50,7 +50,7 @@ returns g c =
     (λ (all : IsArmedAt trace.tokens old new). IfSome-weaker given (λ input. ending_of forms.Sched input ≡ Whole trace) (λ input. IsArmedByAll input old new) (λ input whole. (trace, whole, all)) read.whole)
     made.all_cuts in
     subst (λ now. HasReported (Some (Sched options)) given left faults now old new result) (sym (read.kept (λ is. cc)))
-    (settled_reported (Sched options) given left faults old new result (made.back, made.picked) made.cause made.never_falls (λ followed. was_read forms.Sched given left trace read.whole read.at_end) (cuts, all) (λ is. (made.turns is, used_from options given old.told trace read.whole (made.used is)))
+    (settled_reported (Sched options) given left faults old new result (made.back, made.picked) made.cause made.never_falls (λ followed. was_read forms.Sched given left trace read.whole read.at_end) (cuts, all) (λ is. (made.turns is, used_from options given old new trace read.whole (made.used is)))
     (λ why is. schedule_refused options given old new trace why read.whole (made.refused why is))
     (λ why is. where_read forms.Sched given trace (IfSome old.told (λ holding. new.arms ≡ old.arms)) read.whole (made.unarmed why is))
     (schedule_from options given old.told new.told trace read.whole made.life)

@@ -7,7 +7,7 @@ use Rattle.nv_pmem.specs.RowStates.{AreNow}
 use Rattle.nv_pmem.specs.declared.picker.Pick.{Pick}
 use Rattle.nv_store.specs.Store.{Store}
 use Rattle.nv_bench.specs.Benches.{BenchState}
-use Rattle.nv_bench.specs.Holding.{Holding, IsQuietHolding}
+use Rattle.nv_bench.specs.Holding.{Holding, IsQuietHolding, NamedStore}
 use Rattle.nv_open.specs.Adding.{all_names}
 use Rattle.nv_open.specs.Lending.{without_stores}
 use Rattle.nv_open.specs.declared.error.OpenError.TheVariants.{Refused}
@@ -16,7 +16,7 @@ use Rattle.nv_recover.specs.Standing.{files_of}
 use Rattle.nv_trace.specs.Said.{said_place}
 use Rattle.nv_top.specs.Headline.{HasFollowed, HasUsedTurnsOn, IsRunRefused}
 use Rattle.nv_top.specs.Runs.{basis_over}
-use Rattle.nv_top.specs.Scheduling.{HasScheduledOn}
+use Rattle.nv_top.specs.Scheduling.{HasScheduledOn, HasUsedTurns}
 use Rattle.nv_top.specs.Stopping.{IsAway}
 use Rattle.nv_top.specs.Stops.{stop_of_opening}
 use Rattle.nv_top.specs.declared.ending.Stop.TheVariants.{Region}
@@ -25,7 +25,7 @@ use Rattle.nv_top.proofs.HeadlineLemmas.{home_distinct, quiet_left}
 use Rattle.nv_top.proofs.NameLemmas.{wanted_known}
 use Rattle.nv_top.proofs.ReportedLemmas.{opened_basis, run_refused}
 use Rattle.nv_top.proofs.RowLemmas.{present}
-use Rattle.nv_top.proofs.SchedulingLemmas.{all_from_lent, armed_none, from_lent}
+use Rattle.nv_top.proofs.SchedulingLemmas.{all_from_lent, armed_none, from_lent, used_from_lent}
 use Rattle.nv_top.proofs.StopLemmas.{err_has, opening_refused}
 use Rattle.std.proofs.Common.{inr}
 use Rattle.nv_top.specs.Lives.{HasLived, LeavesRun}
@@ -64,7 +64,7 @@ returns-clause-followed g c =
     let lent = saturated (mid.faults + (sum_by g.T.Part.Lines.fault_count region.parts.items + sum_by g.T.Store.Backing.fault_count backing)) in
     IfOk-weaker c.schedule_region.result
     (λ text. (parts : List Part) (now : List Store) → AreNow (map history region.parts.items) parts → AreNow (map held backing) now
-    → IfSome mid.told (λ left. IsAway region.names left → HasScheduledOn (Rose lent new.faults) options mid.picked (basis_over region options.pages (files_of now)) trace new text.items))
+    → IfSome mid.told (λ left. IsAway region.names left → HasScheduledOn (Rose lent new.faults) options mid.picked (basis_over region options.pages (files_of now)) trace (length region.parts.items) left.stores new text.items))
     (λ text. IfSome old.told (λ holding. HasFollowed (Rose old.faults new.faults) options old.picked holding new trace text.items))
     (λ text ran.
     if_told old.told (λ holding. HasFollowed (Rose old.faults new.faults) options old.picked holding new trace text.items) (λ holding told.
@@ -72,15 +72,17 @@ returns-clause-followed g c =
     let parts = present (map history region.parts.items) (told_at old.told _ holding told made.tell) in
     let basis = basis_over region options.pages (files_of opened.files.held) in
     let left : Holding = record { parts = []; stores = without_stores region.names holding.stores } in
-    let Over : ℕ → List Pick → Type 0 = λ count before. HasScheduledOn (Rose count new.faults) options before basis trace new text.items in
+    let Over : ℕ → List Pick → ℕ → List NamedStore → Type 0 = λ count before many others. HasScheduledOn (Rose count new.faults) options before basis trace many others new text.items in
+    let parts_made = told_at old.told _ holding told made.many in
     let same : lent ≡ old.faults = omega (arith, made.counts) in
     record {
       basis = basis;
       begun = opened_basis options holding _ _ trace.names _ _ _ _ _ opened refl refl (c.in_ok-wanted.ensures ∙ c.names.ensures);
-      scheduled = subst (λ before. Over old.faults before) (ap (λ (state : BenchState). state.picked) made.lent) (subst (λ count. Over count mid.picked) same
-          (told_at mid.told (λ left. IsAway region.names left → Over lent mid.picked) left (mid_told old mid region.names holding made.lent c.requires.ready.at_home.home told)
+      scheduled = subst (λ many. Over old.faults old.picked many left.stores) parts_made (subst (λ before. Over old.faults before (length region.parts.items) left.stores) (ap (λ (state : BenchState). state.picked) made.lent)
+          (subst (λ count. Over count mid.picked (length region.parts.items) left.stores) same
+          (told_at mid.told (λ left. IsAway region.names left → Over lent mid.picked (length region.parts.items) left.stores) left (mid_told old mid region.names holding made.lent c.requires.ready.at_home.home told)
           (ran parts.states opened.files.held parts.are opened.files.are)
-          (all_away region.names holding.stores (home_distinct old holding (g.met.T.Bench.named c.args.bench.now) told c.requires.ready.at_home.home))));
+          (all_away region.names holding.stores (home_distinct old holding (g.met.T.Bench.named c.args.bench.now) told c.requires.ready.at_home.home)))));
     }))
     c.schedule_region.ensures.scheduled
 
@@ -189,11 +191,24 @@ returns-clause-used g c is =
     let options = c.args.options in
     let made = c.in_ok-opened.ensures in
     let region = c.in_ok-opened.opened.region in
-    if_told old.told (λ holding. HasUsedTurnsOn options holding trace) (λ holding told.
+    let mid = g.T.Bench.state c.open.new.bench in
+    let new = g.T.Bench.state c.schedule_region.new.bench in
+    let backing = c.in_ok-opened.opened.stores.items in
+    let lent = saturated (mid.faults + (sum_by g.T.Part.Lines.fault_count region.parts.items + sum_by g.T.Store.Backing.fault_count backing)) in
+    if_told old.told (λ holding. HasUsedTurnsOn options old new holding trace) (λ holding told.
     let opened = told_at old.told _ holding told made.opened in
     let parts = present (map g.T.Part.Lines.history region.parts.items) (told_at old.told _ holding told made.tell) in
+    let basis = basis_over region options.pages (files_of opened.files.held) in
+    let left : Holding = record { parts = []; stores = without_stores region.names holding.stores } in
+    let Over : ℕ → ℕ → List NamedStore → BenchState → Type 0 = λ count many others bench. HasUsedTurns (Rose count new.faults) options basis trace many others bench new in
+    let same : lent ≡ old.faults = omega (arith, made.counts) in
+    let used = told_at mid.told (λ left. IsAway region.names left → Over lent (length region.parts.items) left.stores mid) left (mid_told old mid region.names holding made.lent c.requires.ready.at_home.home told)
+    (c.schedule_region.ensures.used is parts.states opened.files.held parts.are opened.files.are)
+    (all_away region.names holding.stores (home_distinct old holding (g.met.T.Bench.named c.args.bench.now) told c.requires.ready.at_home.home)) in
     record {
-      basis = basis_over region options.pages (files_of opened.files.held);
+      basis = basis;
       begun = opened_basis options holding _ _ trace.names _ _ _ _ _ opened refl refl (c.in_ok-wanted.ensures ∙ c.names.ensures);
-      used = c.schedule_region.ensures.used is parts.states opened.files.held parts.are opened.files.are;
+      used = used_from_lent (Rose old.faults new.faults) options basis trace _ left.stores old mid new
+          (ap (λ (s : BenchState). s.arms) made.lent) (ap (λ (s : BenchState). s.armed) made.lent) (ap (λ (s : BenchState). s.picked) made.lent)
+          (subst (λ many. Over old.faults many left.stores mid) (told_at old.told _ holding told made.many) (subst (λ count. Over count (length region.parts.items) left.stores mid) same used));
     })

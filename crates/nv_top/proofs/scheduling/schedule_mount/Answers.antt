@@ -1,4 +1,4 @@
-use Rattle.std.proofs.Common.{◌≡◌, ◌∷◌, ◌+◌, ◌-◌, ◌^◌, ◌≤◌, true, false, Ok, Some, IfSome, length, map, max, option_map, sum_by, sym, ap, subst, ◌∙◌, arith}
+use Rattle.std.proofs.Common.{◌≡◌, ◌∷◌, ◌+◌, ℕ, List, ◌-◌, ◌^◌, ◌≤◌, true, false, Ok, Some, IfSome, length, map, max, option_map, sum_by, sym, ap, subst, ◌∙◌, arith}
 use Rattle.std.proofs.lemmas.List.{length-map}
 use Rattle.std.proofs.lemmas.Result.{IfOk-weaker, on_ok_weaker}
 use Rattle.nv_plain.specs.Faults.{Rose, saturated}
@@ -15,9 +15,11 @@ use Rattle.nv_top.specs.Runs.{BeginsMount}
 use Rattle.nv_schedule.specs.Cuts.{CutTells}
 use Rattle.nv_schedule.specs.Scheduled.{HasScheduled}
 use Rattle.nv_schedule.specs.declared.scheduled.ScheduledCalls.{ScheduledCalls}
-use Rattle.nv_top.specs.Scheduling.{HasScheduledOn, ShowsOutcome}
+use Rattle.nv_top.specs.Commands.{HasRecovered}
+use Rattle.nv_top.specs.Scheduling.{HasScheduledOn, HasUsedTurns, ShowsOutcome}
 use Rattle.nv_top.specs.Stopping.{IsAway, IsSettledStop}
-use Rattle.nv_top.proofs.SchedulingLemmas.{armed_at_all, armed_at_some, failed_cut, has_scheduled, of_trace, settled_memory, still_all, still_some}
+use Rattle.nv_top.proofs.SchedulingLemmas.{armed_at_all, armed_at_some, failed_cut, has_scheduled, has_used, of_trace, settled_memory, still_all, still_some}
+use Rattle.nv_top.proofs.PoweredHomes.{part_shown, parts_counted, store_shown}
 use Rattle.nv_top.proofs.StoppingLemmas.{HasClosedOver, at_some, failed_same, home_with, if_some, left_behind, none_unless, quiet_after, rose_home}
 use Rattle.nv_top.proofs.UnrefusedLemmas.{never_refused}
 use Rattle.nv_top.specs.Lives.{HasLived}
@@ -58,6 +60,7 @@ returns-clause-scheduled g c =
     let sums = sum_by g.T.Part.Lines.fault_count came.parts.items + sum_by g.T.Store.Backing.fault_count came.stores.items in
     let many : length held ≡ mount.board.opened.sizes.files = length-map came.stores.items g.T.Store.Backing.history ∙ ran.2.many_stores in
     let failed : Type 0 = Rose (saturated (start.faults + failed_before pass)) last.faults in
+    let many_made = 1 + mount.board.opened.sizes.entries + length pass.spare in
     let home_faults : home.faults ≡ saturated (start.faults + sums) =
     ap (λ (s : BenchState). s.faults) c.give_back.ensures.taken ∙ ap (λ (s : BenchState). saturated (s.faults + sums)) c.run_schedule-closed.ensures.armed in
     let no_less : saturated (start.faults + sums) ≤ last.faults =
@@ -67,9 +70,9 @@ returns-clause-scheduled g c =
     IfOk-weaker c.show_outcome.result
     (λ text. IfSome off.told (λ holding. ShowsOutcome holding outcome last.told text.items))
     (λ text. (basis : Basis) → BeginsMount basis trace mount pass → basis.names ≡ start.lent
-    → IfSome start.told (λ left. IsAway basis.names left → HasScheduledOn failed options start.picked basis trace last text.items))
+    → IfSome start.told (λ left. IsAway basis.names left → HasScheduledOn failed options start.picked basis trace many_made left.stores last text.items))
     (λ text shown basis begins named.
-    if_some start.told (λ left. IsAway basis.names left → HasScheduledOn failed options start.picked basis trace last text.items)
+    if_some start.told (λ left. IsAway basis.names left → HasScheduledOn failed options start.picked basis trace many_made left.stores last text.items)
     (λ left told_is away.
     let over : HasClosedOver basis trace mount pass zero _ _ parts held sums came.placed came.tail = record {
       begins = begins;
@@ -80,7 +83,10 @@ returns-clause-scheduled g c =
     } in
     let allowed : AreFileNames version_1 basis.names = subst (λ names. AreFileNames version_1 names) (sym named) c.requires.names in
     let behind =
-    left_behind basis trace mount pass zero _ _ parts held sums came.placed came.tail over c.power_leaves_an_image.ensures many allowed options.image left home.told off.told
+    left_behind basis trace mount pass zero _ _ parts held sums came.placed came.tail over c.power_leaves_an_image.ensures (omega (arith, ran.2.many_parts, length-map came.parts.items g.T.Part.Lines.history)) many
+    (part_shown g.T.Part.Lines.device g.T.Part.Lines.history g.T.Part.Lines.fault_count g.T.Part.Lines.room came.parts.items)
+    (store_shown g.T.Store.Backing.device g.T.Store.Backing.history g.T.Store.Backing.fault_count came.stores.items)
+    allowed options.image left (at_some start.told IsQuietHolding left told_is c.requires.quiet).stores home.told off.told
     (λ now disks now_are disks_are. c.give_back.ensures.told now disks now_are disks_are
     ∙ ap (λ (s : BenchState). told_back now disks s) c.run_schedule-closed.ensures.armed
     ∙ ap (λ (told : _). option_map (λ (holding : Holding). home_with holding start.lent now disks) told) told_is
@@ -89,13 +95,16 @@ returns-clause-scheduled g c =
     has_scheduled basis trace mount pass zero _ _ parts held sums came.placed came.tail over options start armed outcome
     (of_trace c.args.mount c.args.trace.now c.args.options.batch c.args.pass ran.0 start armed c.run_schedule-closed.result.outcome c.tokens.result.now c.calls.result.now c.tokens.ensures.tokens c.calls.ensures.calls ran.1) failed saw allowed c.requires.trace.well_formed (omega (arith, c.requires.trace.few)) c.requires.trace.lines c.requires.no_rounds (subst (λ (o : Opened). IsMount (mount_of o)) c.requires.board.same_mount c.sees_a_run.ensures.mount)
     c.schedules_begin_in_order.ensures c.schedules_are_told.ensures.told c.schedules_are_told.ensures.legal c.schedules_are_faithful.ensures c.history_of_threads_is_legal.ensures.files c.open_calls_are_the_faults.ensures.kept
-    c.images_stand_for_files.ensures.files start.picked last text.items behind.after
+    c.images_stand_for_files.ensures.files start.picked last text.items behind.before behind.after
     (at_some off.told (λ holding. ShowsOutcome holding outcome last.told text.items) behind.after behind.off_is shown)
     (ap (λ (s : BenchState). s.left) c.show_outcome.ensures.back ∙ ap (λ (s : BenchState). s.left) c.in_ok-power.ensures.off
-    ∙ ap (option_map (λ (holding : Holding). (powered options.image holding).parts)) behind.given_is ∙ ap (λ (holding : Holding). Some holding.parts) (sym behind.after_is))
+    ∙ ap (option_map (powered options.image)) behind.given_is ∙ ap Some (sym behind.after_is))
     (ap (λ (s : BenchState). s.picked) c.show_outcome.ensures.back ∙ ap (λ (s : BenchState). s.picked) c.in_ok-power.ensures.off
     ∙ ap (λ (s : BenchState). options.image ∷ s.picked) c.give_back.ensures.taken ∙ ap (λ (s : BenchState). options.image ∷ s.picked) c.run_schedule-closed.ensures.armed)
-    behind.whole))
+    behind.cells behind.after_is many_made
+    (behind.many_are ∙ length-map came.parts.items g.T.Part.Lines.history
+    ∙ parts_counted _ came.parts.items (1 + mount.board.opened.sizes.entries) pass.spare ran.2.many_parts (ran.2.same_spare ∙ ran.1.spare))
+    left.stores behind.others_are behind.whole))
     c.show_outcome.ensures.shown
 
 pub returns-clause-never : goal.returns-clause-never
@@ -306,18 +315,65 @@ returns-clause-life g c basis begins named =
     (ap (λ (s : BenchState). s.told) c.in_ok-power.ensures.off) c.show_outcome.ensures.standing (on away)) lived
 
 pub returns-clause-used : goal.returns-clause-used
-returns-clause-used g c is basis begins =
-    let start = g.T.Bench.state c.args.bench.now in
-    let armed = g.T.Bench.state c.run_schedule-closed.new.bench in
+returns-clause-used g c is basis begins named =
+    let state = g.T.Bench.state in
+    let start = state c.args.bench.now in
+    let home = state c.give_back.new.self in
+    let off = state c.power.new.self in
+    let last = state c.show_outcome.new.bench in
+    let mount = c.args.mount in
+    let pass = c.args.pass in
     let trace = c.args.trace.now in
+    let options = c.args.options in
+    let armed = state c.run_schedule-closed.new.bench in
+    let came = c.run_schedule-closed.result.closed in
     let ran = c.run_schedule-closed.ensures.ran in
-    record {
-      mount = c.args.mount;
-      start = c.args.pass;
+    let zero = ran.0 in
+    let parts = map g.T.Part.Lines.history came.parts.items in
+    let held = map g.T.Store.Backing.history came.stores.items in
+    let sums = sum_by g.T.Part.Lines.fault_count came.parts.items + sum_by g.T.Store.Backing.fault_count came.stores.items in
+    let many : length held ≡ mount.board.opened.sizes.files = length-map came.stores.items g.T.Store.Backing.history ∙ ran.2.many_stores in
+    let failed : Type 0 = Rose (saturated (start.faults + failed_before pass)) last.faults in
+    let many_made = 1 + mount.board.opened.sizes.entries + length pass.spare in
+    let home_faults : home.faults ≡ saturated (start.faults + sums) =
+    ap (λ (s : BenchState). s.faults) c.give_back.ensures.taken ∙ ap (λ (s : BenchState). saturated (s.faults + sums)) c.run_schedule-closed.ensures.armed in
+    let no_less : saturated (start.faults + sums) ≤ last.faults =
+    omega (arith, home_faults, ap (λ (s : BenchState). s.faults) c.in_ok-power.ensures.off, c.show_outcome.ensures.never_falls) in
+    let saw : SawStop zero.view → failed = λ seen.
+    rose_home start.faults (failed_before pass) sums last.faults no_less (subst (λ count. Rose count sums) (failed_same pass zero ran.1.opened ran.1.spare) (ran.3.stopped seen)) in
+    if_some start.told (λ left. IsAway basis.names left → HasUsedTurns failed options basis trace many_made left.stores start last)
+    (λ left told_is away.
+    let over : HasClosedOver basis trace mount pass zero _ _ parts held sums came.placed came.tail = record {
       begins = begins;
-      last = ran.0;
-      lent = start;
-      armed = armed;
-      followed = subst (HasScheduled c.args.mount trace.tokens trace.calls c.args.options.batch c.args.pass ran.0 start armed) (c.show_outcome.ensures.used is)
-          (of_trace c.args.mount trace c.args.options.batch c.args.pass ran.0 start armed c.run_schedule-closed.result.outcome c.tokens.result.now c.calls.result.now c.tokens.ensures.tokens c.calls.ensures.calls ran.1);
-    }
+      new = c.requires.new;
+      opened = ran.1.opened;
+      spare = ran.1.spare;
+      closed = ran.3;
+    } in
+    let allowed : AreFileNames version_1 basis.names = subst (λ names. AreFileNames version_1 names) (sym named) c.requires.names in
+    let behind =
+    left_behind basis trace mount pass zero _ _ parts held sums came.placed came.tail over c.power_leaves_an_image.ensures (omega (arith, ran.2.many_parts, length-map came.parts.items g.T.Part.Lines.history)) many
+    (part_shown g.T.Part.Lines.device g.T.Part.Lines.history g.T.Part.Lines.fault_count g.T.Part.Lines.room came.parts.items)
+    (store_shown g.T.Store.Backing.device g.T.Store.Backing.history g.T.Store.Backing.fault_count came.stores.items)
+    allowed options.image left (at_some start.told IsQuietHolding left told_is c.requires.quiet).stores home.told off.told
+    (λ now disks now_are disks_are. c.give_back.ensures.told now disks now_are disks_are
+    ∙ ap (λ (s : BenchState). told_back now disks s) c.run_schedule-closed.ensures.armed
+    ∙ ap (λ (told : _). option_map (λ (holding : Holding). home_with holding start.lent now disks) told) told_is
+    ∙ ap (λ names. Some (home_with left names now disks)) (sym named))
+    (ap (λ (s : BenchState). s.told) c.in_ok-power.ensures.off) (λ holding is. g.met.T.Bench.whole c.give_back.new.self holding is) away in
+    let recovered = at_some off.told (λ holding. (text : List ℕ) × HasRecovered holding last.told text) behind.after behind.off_is (c.show_outcome.ensures.recovered is) in
+    has_used basis trace mount pass zero _ _ parts held sums came.placed came.tail over options start armed
+    (subst (HasScheduled mount trace.tokens trace.calls options.batch pass zero start armed) (c.show_outcome.ensures.used is)
+    (of_trace mount trace options.batch pass zero start armed c.run_schedule-closed.result.outcome c.tokens.result.now c.calls.result.now c.tokens.ensures.tokens c.calls.ensures.calls ran.1))
+    failed saw c.images_stand_for_files.ensures.files last recovered.0 behind.before behind.after recovered.1
+    (ap (λ (s : BenchState). s.left) c.show_outcome.ensures.back ∙ ap (λ (s : BenchState). s.left) c.in_ok-power.ensures.off
+    ∙ ap (option_map (powered options.image)) behind.given_is ∙ ap Some (sym behind.after_is))
+    (ap (λ (s : BenchState). s.picked) c.show_outcome.ensures.back ∙ ap (λ (s : BenchState). s.picked) c.in_ok-power.ensures.off
+    ∙ ap (λ (s : BenchState). options.image ∷ s.picked) c.give_back.ensures.taken ∙ ap (λ (s : BenchState). options.image ∷ s.picked) c.run_schedule-closed.ensures.armed)
+    behind.cells behind.after_is many_made
+    (behind.many_are ∙ length-map came.parts.items g.T.Part.Lines.history
+    ∙ parts_counted _ came.parts.items (1 + mount.board.opened.sizes.entries) pass.spare ran.2.many_parts (ran.2.same_spare ∙ ran.1.spare))
+    left.stores behind.others_are
+    (ap (λ (s : BenchState). s.arms) c.show_outcome.ensures.back ∙ ap (λ (s : BenchState). s.arms) c.in_ok-power.ensures.off ∙ ap (λ (s : BenchState). s.arms) c.give_back.ensures.taken)
+    (ap (λ (s : BenchState). s.armed) c.show_outcome.ensures.back ∙ ap (λ (s : BenchState). s.armed) c.in_ok-power.ensures.off ∙ ap (λ (s : BenchState). s.armed) c.give_back.ensures.taken)
+    behind.whole)

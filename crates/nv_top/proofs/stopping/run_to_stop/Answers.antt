@@ -7,7 +7,7 @@ use Rattle.nv_pmem.specs.RowStates.{AreNow}
 use Rattle.nv_pmem.specs.declared.picker.Pick.{Pick}
 use Rattle.nv_store.specs.Store.{Store}
 use Rattle.nv_bench.specs.Benches.{BenchState}
-use Rattle.nv_bench.specs.Holding.{Holding, IsQuietHolding}
+use Rattle.nv_bench.specs.Holding.{Holding, IsQuietHolding, NamedStore}
 use Rattle.nv_bench.specs.Naming.{AreDistinct, names_of}
 use Rattle.nv_open.specs.Adding.{all_names}
 use Rattle.nv_open.specs.Lending.{without_stores}
@@ -147,7 +147,7 @@ returns g c =
           }));
       ran = IfOk-weaker result
           (λ text. (parts : List Part) (now : List Store) → AreNow (map history region.parts.items) parts → AreNow (map held backing) now
-          → IfSome mid.told (λ left. IsAway region.names left → HasStoppedOn (Rose lent new.faults) options.worker options.image mid.picked (basis_over region options.pages (files_of now)) trace new text.items))
+          → IfSome mid.told (λ left. IsAway region.names left → HasStoppedOn (Rose lent new.faults) options.worker options.image mid.picked (basis_over region options.pages (files_of now)) trace (length region.parts.items) left.stores new text.items))
           (λ text. IfSome old.told (λ holding. HasStopped (Rose old.faults new.faults) options old.picked holding new trace text.items))
           (λ text ran.
           if_told old.told (λ holding. HasStopped (Rose old.faults new.faults) options old.picked holding new trace text.items) (λ holding told.
@@ -155,15 +155,16 @@ returns g c =
           let parts = present (map history region.parts.items) (told_at old.told _ holding told made.tell) in
           let basis = basis_over region options.pages (files_of opened.files.held) in
           let left : Holding = record { parts = []; stores = without_stores region.names holding.stores } in
-          let Stopped : Holding → Type 0 = λ left. IsAway region.names left → HasStoppedOn (Rose lent new.faults) options.worker options.image mid.picked basis trace new text.items in
-          let Over : ℕ → List Pick → Type 0 = λ count before. HasStoppedOn (Rose count new.faults) options.worker options.image before basis trace new text.items in
+          let Over : ℕ → List Pick → ℕ → List NamedStore → Type 0 = λ count before many others. HasStoppedOn (Rose count new.faults) options.worker options.image before basis trace many others new text.items in
+          let parts_made = told_at old.told _ holding told made.many in
           record {
             basis = basis;
             begun = opened_basis options holding _ _ trace.names _ _ _ _ _ opened refl refl (c.in_ok-wanted.ensures ∙ c.names.ensures);
-            stopped = subst (λ before. Over old.faults before) (ap (λ (state : BenchState). state.picked) made.lent) (subst (λ count. Over count mid.picked) same
-                (told_at mid.told Stopped left (mid_told old mid region.names holding made.lent at_home.home told)
+            stopped = subst (λ many. Over old.faults old.picked many left.stores) parts_made (subst (λ before. Over old.faults before (length region.parts.items) left.stores) (ap (λ (state : BenchState). state.picked) made.lent)
+                (subst (λ count. Over count mid.picked (length region.parts.items) left.stores) same
+                (told_at mid.told (λ left. IsAway region.names left → Over lent mid.picked (length region.parts.items) left.stores) left (mid_told old mid region.names holding made.lent at_home.home told)
                 (ran parts.states opened.files.held parts.are opened.files.are)
-                (all_away region.names holding.stores (distinct holding told))));
+                (all_away region.names holding.stores (distinct holding told)))));
           }))
           stopped.ran;
       refused = λ why is. never why is (λ holding. IsRunRefused options holding trace.names old new why);

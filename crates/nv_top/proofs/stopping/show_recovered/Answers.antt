@@ -13,7 +13,7 @@ use Rattle.std.proofs.lemmas.List.{length-map}
 use Rattle.nv_plain.specs.Layouts.{version_1}
 use Rattle.nv_pmem.specs.RowStates.{row_tells_at}
 use Rattle.nv_header.specs.Regions.{IsAtRest}
-use Rattle.nv_bench.specs.Holding.{IsQuietHolding, named_stores}
+use Rattle.nv_bench.specs.Holding.{named_stores}
 use Rattle.nv_open.specs.Lending.{without_stores}
 use Rattle.nv_open.specs.Unopened.{HasHeader, StandsAsBefore, TellsOf}
 use Rattle.nv_open.proofs.LogLaws.{states_many}
@@ -46,7 +46,7 @@ returns-clause-shown g c =
     (λ holding told_is.
     let Told : List _ → Type 0 = λ parts. AllTell (map history parts) in
     shows old lent new_told holding sorted begun text.items found region.geometry.page region.geometry.entries region.next region.names c.names.result.now (map history parts_now) (map held backing)
-    told_is (at_some old.told IsQuietHolding holding told_is c.requires.at_home.quiet) c.requires.at_home.home opened.lent (sym c.names.ensures) text_of
+    told_is (length-map parts_now history ∙ ap length same_parts ∙ at_some old.told (λ holding. length region.parts.items ≡ length holding.parts) holding told_is opened.many) c.requires.at_home.home opened.lent (sym c.names.ensures) text_of
     (at_some old.told (λ holding. IsRecovered holding.parts region.geometry.page region.geometry.entries region.names region.next found) holding told_is opened.recovered)
     (at_some old.told (λ holding. HoldFiles (map held backing) (files_named holding.parts region.names holding.stores)) holding told_is opened.files)
     (subst Told (sym same_parts) (at_some old.told (λ holding. AllTell (map history region.parts.items)) holding told_is opened.tell))

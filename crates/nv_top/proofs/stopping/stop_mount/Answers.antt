@@ -13,6 +13,7 @@ use Rattle.nv_runner.specs.EndedRuns.{HasOutcome}
 use Rattle.nv_runner.specs.Faithful.{Basis}
 use Rattle.nv_top.specs.Runs.{BeginsMount}
 use Rattle.nv_top.specs.Stopping.{HasStoppedOn, IsAway, ShowsRecovered}
+use Rattle.nv_top.proofs.PoweredHomes.{part_shown, parts_counted, store_shown}
 use Rattle.nv_top.proofs.StoppingLemmas.{HasRunToClose, at_some, closed_over, count_grows, failed_same, given_home, has_stopped, home_with, if_some, left_behind, none_unless, quiet_after, rose_home}
 use Rattle.nv_top.proofs.UnrefusedLemmas.{never_refused}
 use Rattle.std.specs.Prelude.{All, List, []}
@@ -76,9 +77,9 @@ returns-clause-ran g c =
     IfOk-weaker c.show_recovered.result
     (λ text. IfSome off.told (λ holding. ShowsRecovered holding sorted [] last.told text.items))
     (λ text. (basis : Basis) → BeginsMount basis trace mount pass → basis.names ≡ start.lent
-    → IfSome start.told (λ left. IsAway basis.names left → HasStoppedOn failed c.args.plan.worker c.args.plan.image start.picked basis trace last text.items))
+    → IfSome start.told (λ left. IsAway basis.names left → HasStoppedOn failed c.args.plan.worker c.args.plan.image start.picked basis trace (1 + mount.board.opened.sizes.entries + length pass.spare) left.stores last text.items))
     (λ text shown basis begins named.
-    if_some start.told (λ left. IsAway basis.names left → HasStoppedOn failed c.args.plan.worker c.args.plan.image start.picked basis trace last text.items)
+    if_some start.told (λ left. IsAway basis.names left → HasStoppedOn failed c.args.plan.worker c.args.plan.image start.picked basis trace (1 + mount.board.opened.sizes.entries + length pass.spare) left.stores last text.items)
     (λ left told_is away.
     let run : HasRunToClose basis trace mount pass zero c.args.plan sorted _ _ parts held sums came.placed came.tail = record {
       begins = begins;
@@ -91,7 +92,11 @@ returns-clause-ran g c =
     } in
     let allowed : AreFileNames version_1 basis.names = subst (λ names. AreFileNames version_1 names) (sym named) c.requires.names in
     let behind =
-    left_behind basis trace mount pass zero _ _ parts held sums came.placed came.tail (closed_over basis trace mount pass zero c.args.plan sorted _ _ parts held sums came.placed came.tail run) c.power_leaves_an_image.ensures many allowed c.args.plan.image left home.told off.told
+    left_behind basis trace mount pass zero _ _ parts held sums came.placed came.tail (closed_over basis trace mount pass zero c.args.plan sorted _ _ parts held sums came.placed came.tail run) c.power_leaves_an_image.ensures
+    (omega (arith, ran.2.many_parts, length-map came.parts.items g.T.Part.Lines.history)) many
+    (part_shown g.T.Part.Lines.device g.T.Part.Lines.history g.T.Part.Lines.fault_count g.T.Part.Lines.room came.parts.items)
+    (store_shown g.T.Store.Backing.device g.T.Store.Backing.history g.T.Store.Backing.fault_count came.stores.items)
+    allowed c.args.plan.image left (at_some start.told IsQuietHolding left told_is c.requires.quiet).stores home.told off.told
     (λ now disks now_are disks_are. given_home c.args.k start (state c.arm.new.self) home.told left parts held c.give_back.ensures.told c.arm.ensures told_is now disks now_are disks_are
     ∙ ap (λ names. Some (home_with left names now disks)) (sym named))
     (ap (λ (s : BenchState). s.told) c.in_ok-power.ensures.off) (λ holding is. g.met.T.Bench.whole c.give_back.new.self holding is) away in
@@ -100,11 +105,14 @@ returns-clause-ran g c =
     c.runs_are_faithful.ensures.faithful c.runs_are_faithful.ensures.numbers c.images_stand_for_files.ensures.files failed saw allowed last text.items behind.after
     (at_some off.told (λ holding. ShowsRecovered holding sorted [] last.told text.items) behind.after behind.off_is shown)
     (ap (λ (s : BenchState). s.left) c.show_recovered.ensures.back ∙ ap (λ (s : BenchState). s.left) c.in_ok-power.ensures.off
-    ∙ ap (option_map (λ (holding : Holding). (powered c.args.plan.image holding).parts)) behind.given_is ∙ ap (λ (holding : Holding). Some holding.parts) (sym behind.after_is))
+    ∙ ap (option_map (powered c.args.plan.image)) behind.given_is ∙ ap Some (sym behind.after_is))
     start.picked
     (ap (λ (s : BenchState). s.picked) c.show_recovered.ensures.back ∙ ap (λ (s : BenchState). s.picked) c.in_ok-power.ensures.off
     ∙ ap (λ (s : BenchState). c.args.plan.image ∷ s.picked) c.give_back.ensures.taken ∙ ap (λ (s : BenchState). c.args.plan.image ∷ s.picked) c.arm.ensures)
-    behind.whole))
+    (1 + mount.board.opened.sizes.entries + length pass.spare)
+    (behind.many_are ∙ length-map came.parts.items g.T.Part.Lines.history
+    ∙ parts_counted _ came.parts.items (1 + mount.board.opened.sizes.entries) pass.spare ran.2.many_parts (ran.2.same_spare ∙ out.run_out.spare))
+    left.stores behind.others_are behind.whole))
     c.show_recovered.ensures.shown
 
 pub returns-clause-never : goal.returns-clause-never

@@ -36,15 +36,16 @@ returns-in-Ok-clause-ran g c =
     let before_picks = start.picked in
     let before = sum_by g.T.Part.Lines.fault_count region.parts.items + sum_by g.T.Store.Backing.fault_count stores in
     let mounted = failed_before c.in-Ok.pass in
+    let made = 1 + c.in-Ok.mount.board.opened.sizes.entries + length c.in-Ok.pass.spare in
     IfOk-weaker c.stop_mount.result
     (λ text. (basis : Basis) → BeginsMount basis trace c.in-Ok.mount c.in-Ok.pass → basis.names ≡ start.lent
-    → IfSome start.told (λ left. IsAway basis.names left → HasStoppedOn (Rose (saturated (start.faults + mounted)) last.faults) worker pick before_picks basis trace last text.items))
+    → IfSome start.told (λ left. IsAway basis.names left → HasStoppedOn (Rose (saturated (start.faults + mounted)) last.faults) worker pick before_picks basis trace made left.stores last text.items))
     (λ text. (parts : List Part) (now : List Store) → AreNow (map history region.parts.items) parts → AreNow (map held stores) now
-    → IfSome start.told (λ left. IsAway region.names left → HasStoppedOn (Rose (saturated (start.faults + before)) last.faults) worker pick before_picks (basis_over region c.args.options.pages (files_of now)) trace last text.items))
+    → IfSome start.told (λ left. IsAway region.names left → HasStoppedOn (Rose (saturated (start.faults + before)) last.faults) worker pick before_picks (basis_over region c.args.options.pages (files_of now)) trace (length region.parts.items) left.stores last text.items))
     (λ text ran parts now parts_are now_are.
     let basis = basis_over region c.args.options.pages (files_of now) in
-    let Counted : ℕ → Type 0 = λ count. IfSome start.told (λ left. IsAway region.names left → HasStoppedOn (Rose (saturated (start.faults + count)) last.faults) worker pick before_picks basis trace last text.items) in
-    subst Counted c.in-Ok.ensures.counts (ran basis (c.in-Ok.ensures.begins parts now parts_are now_are) (sym c.requires.lent)))
+    let Counted : ℕ → ℕ → Type 0 = λ count many. IfSome start.told (λ left. IsAway region.names left → HasStoppedOn (Rose (saturated (start.faults + count)) last.faults) worker pick before_picks basis trace many left.stores last text.items) in
+    subst (λ many. Counted before many) c.in-Ok.ensures.parts (subst (λ count. Counted count made) c.in-Ok.ensures.counts (ran basis (c.in-Ok.ensures.begins parts now parts_are now_are) (sym c.requires.lent))))
     c.stop_mount.ensures.ran
 
 pub returns-in-Ok-clause-never : goal.returns-in-Ok-clause-never

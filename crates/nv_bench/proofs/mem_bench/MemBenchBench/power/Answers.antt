@@ -1,5 +1,5 @@
-use Rattle.std.proofs.Common.{◌≡◌, ◌+◌, ◌++◌, ℕ, List, map, ap, subst, sym, sum_by, ◌∙◌, arith}
-use Rattle.std.specs.Prelude.{Some, string_bytes}
+use Rattle.std.proofs.Common.{◌≡◌, ◌+◌, ◌∷◌, ◌++◌, ℕ, List, map, ap, subst, sym, sum_by, ◌∙◌, arith}
+use Rattle.std.specs.Prelude.{Some, Vec, string_bytes}
 use Rattle.std.specs.Vec.{with_items}
 use Rattle.std.proofs.lemmas.List.{with_items_is}
 use Rattle.nv_pmem.specs.MemPart.{part_now, part_faults}
@@ -17,6 +17,11 @@ use Rattle.nv_bench.proofs.mem_bench.MemBenchBench.power.Goals as goal
 
 abbrev held_with : List MemPart → BenchStores → Holding
 held_with parts bench_stores = record { parts = map part_now parts; stores = held_stores bench_stores }
+
+-- what was noted last
+noted_first : {A : Type 0} {rows past : List (Vec MemPart A)} {sets earlier : List BenchStores} {parts : Vec MemPart A} {bench_stores : BenchStores} → rows ≡ parts ∷ past → sets ≡ bench_stores ∷ earlier
+    → latest_of rows sets ≡ Some (held_with parts.items bench_stores)
+noted_first {A} {rows} {past} {sets} {earlier} {parts} {bench_stores} one other = ap (λ these. latest_of these sets) one ∙ ap (latest_of (parts ∷ past)) other
 
 pub returns-clause-off : goal.returns-clause-off
 returns-clause-off c =
@@ -36,7 +41,7 @@ returns-clause-off c =
     let count : saturated (old.gone + sum_by part_faults (with_items old.parts c.power_parts.new.parts).items + bench_store_faults c.lose_power.new.self) ≡ faults_by old =
     ap (λ (these : List MemPart). saturated (old.gone + sum_by part_faults these + bench_store_faults c.lose_power.new.self)) back ∙ faults in
     let settled : c.faults-self.result ≡ faults_by old = c.faults-self.ensures ∙ count in
-    let noted : latest_of c.note.new.self.states ≡ Some (powered c.args.pick (held_by old)).parts = ap latest_of c.note.ensures ∙ ap (λ (held : Holding). Some held.parts) items in
+    let noted : latest_of c.note.new.self.states c.note-2.new.self.states ≡ Some (powered c.args.pick (held_by old)) = noted_first c.note.ensures c.note-2.ensures ∙ ap Some items in
     λ i. record {
       told = Some (items i);
       is_open = old.is_open;
@@ -46,7 +51,7 @@ returns-clause-off c =
       armed = old.armed;
       settled = settled i;
       left = noted i;
-      picked = c.note-2.ensures i;
+      picked = c.note-3.ensures i;
     }
 
 pub invariant_of-self-clause-named : goal.invariant_of-self-clause-named
