@@ -17,6 +17,7 @@ pub mod ShownLemmas
 pub mod StopLemmas
 pub mod StoppingLemmas
 pub mod TestBenches
+pub mod UnhinderedLemmas
 pub mod UnrefusedLemmas
 pub mod WordLemmas
 pub mod LifeLemmas

@@ -1,11 +1,12 @@
 -- The top call: what each command makes of a bench, and what it shows.
-use Rattle.std.specs.Prelude.{◌≡◌, ◌⊎◌, ℕ, Bool, List, length, true, if◌then◌else◌, Option, Some, None, IfSome, max}
+use Rattle.std.specs.Prelude.{◌≡◌, ◌⊎◌, ◌≤◌, ℕ, Bool, List, length, true, if◌then◌else◌, Option, Some, None, IfSome, max}
 use Rattle.std.specs.Option.{option_and_then}
 use Rattle.nv_plain.specs.Faults.{Rose}
+use Rattle.nv_plain.specs.Layouts.{version_1}
 use Rattle.nv_pmem.specs.declared.picker.Pick.{Pick}
 use Rattle.nv_bench.specs.Benches.{BenchState}
 use Rattle.nv_bench.specs.Holding.{Holding}
-use Rattle.nv_bench.specs.Opening.{opened}
+use Rattle.nv_bench.specs.Opening.{is_blank, opened}
 use Rattle.nv_open.specs.Held.{told_after}
 use Rattle.nv_open.specs.Lending.{without_stores}
 use Rattle.nv_open.specs.Refusals.{IsRefusedFor}
@@ -151,6 +152,12 @@ pub record IsUnhindered (command : Command) (input : Option (List ℕ)) (holding
   pub not_refused : (why : Refusal) → ¬ (HasRefusal command input holding why)
   pub read : ¬ read_failed
   pub devices : ¬ device_failed
+
+-- Nothing stands in the way of a run of any trace of at most 16 files over a blank region, whatever its options, where neither count rose.
+abbrev pub PlainIsUnhindered : Type 0
+PlainIsUnhindered =
+    (options : RunOptions) (input : List ℕ) (trace : Traced) (holding : Holding) → ending_of forms.Run input ≡ Whole trace → is_blank holding.parts ≡ true → length trace.names ≤ version_1.file_limit
+    → (before now settled faults : ℕ) → ¬ (Rose before now) → ¬ (Rose settled faults) → IsUnhindered (Run options) (Some input) holding (Rose before now) (Rose settled faults)
 
 -- A command that shows what it does, of an input that tells, wasn't refused by the region.
 abbrev pub ShownIsNotRefused : Type 0

@@ -1,5 +1,8 @@
 //! Laws of reports, and of commands one behind the other.
-ghost use Rattle.nv_top.specs.Headline.{ShownIsNotRefused};
+ghost use Rattle.std.specs.Prelude.{[]};
+ghost use Rattle.nv_trace.specs.declared.trace.Form.TheVariants as forms;
+ghost use Rattle.nv_top.specs.Endings.{IsTrace};
+ghost use Rattle.nv_top.specs.Headline.{PlainIsUnhindered, ShownIsNotRefused};
 ghost use Rattle.nv_top.specs.NextCommands.{NextBeginsBehind, NextBeginsBehindRecovery, NextBeginsBehindSchedule, NextBeginsBehindStop, NextFindsLooked, NextFindsRecovered, NextFindsRun, NextFindsScheduled, NextFindsShown, NextFindsStopped, NextIsReady, RunsHaveOneHistory};
 ghost use Rattle.nv_top.specs.Readings.{OneNumber, OneReading, OneRecoveryReading};
 
@@ -46,3 +49,10 @@ pub fn a_refused_region_shows_nothing()
     images_stand_for_files();
     a_header_has_one_answer();
 }
+
+/// A plain command is one that [`nv_main`](crate::nv_main) follows to its end, by its clause `complete`, unless memory is wanting: a
+/// run of any trace of a few files over a blank region, by which no count of faults rose. The empty input is such a trace.
+pub fn a_plain_command_is_unhindered()
+    ensures plain { PlainIsUnhindered }
+    ensures empty { IsTrace forms.Run [] }
+{}

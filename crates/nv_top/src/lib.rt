@@ -27,7 +27,10 @@ pub use ending::{
     BAD_INPUT, BAD_REGION, DEVICE_FAULT, DONE, NO_MEMORY, READ_FAULT, TURNS_USED, USAGE,
     WRITE_FAULT, say,
 };
-pub use laws::{a_next_command_may_follow, a_refused_region_shows_nothing, report_has_one_reading};
+pub use laws::{
+    a_next_command_may_follow, a_plain_command_is_unhindered, a_refused_region_shows_nothing,
+    report_has_one_reading,
+};
 pub use nv_runner::{Gate, OpenGate, Point};
 pub use program::program_words;
 pub use words::{Command, RunOptions};
