@@ -2,7 +2,6 @@
 use Rattle.std.proofs.Common.{◌≡◌, ◌++◌, ℕ, ◌≤◌, Bool, true, false, List, [], if◌then◌else◌, Option, Some, None, refl, ap, subst, ◌∙◌}
 use Rattle.std.specs.Prelude.{IfSome, option_map}
 use Rattle.std.proofs.lemmas.List.{append-nil}
-use Rattle.nv_plain.specs.Faults.{Rose}
 use Rattle.nv_bench.specs.Benches.{BenchState}
 use Rattle.nv_bench.specs.Holding.{Holding, IsQuietHolding, NamedStore}
 use Rattle.nv_bench.specs.Naming.{AreDistinct, HasDistinctStores, names_of}
@@ -20,7 +19,9 @@ use Rattle.nv_trace.specs.Reading.{ending_of, Whole}
 use Rattle.nv_trace.specs.declared.trace.Form.{Form}
 use Rattle.nv_trace.specs.declared.trace.Form.TheVariants as forms
 use Rattle.nv_trace.specs.Traced.{Traced}
-use Rattle.nv_top.specs.Headline.{HasFollowed, HasUsedTurnsOn, IsCommandRefused, IsRunRefused, IsShown, IsShownOf, IsTraceRefused, UsesTurns, command_over, may_stop, possible}
+use Rattle.nv_top.specs.Endings.{OfRead}
+use Rattle.nv_top.specs.Headline.{IsCommandRefused, IsRunRefused, IsShown, command_over, may_stop, possible}
+use Rattle.nv_top.specs.Ready.{IsRunnable}
 use Rattle.nv_top.specs.Words.{AreInLimits, command_of}
 use Rattle.nv_top.specs.declared.words.Command.{Command}
 use Rattle.nv_top.specs.declared.words.Command.TheVariants.{Run, Sched, Recover, Look, Gen}
@@ -108,27 +109,16 @@ load_limits images words load is =
 
 -- ---- what is shown, and refused
 
-pub shown_from : (options : RunOptions) (left : Option (List ℕ)) (old new : BenchState) (trace : Traced) (text : List ℕ)
-    → IfSome left (λ input. ending_of forms.Run input ≡ Whole trace)
-    → IfSome old.told (λ holding. IsShownOf options.stop options old new holding trace text)
-    → IfSome old.told (λ holding. IsShown (Run options) left old new holding text)
-shown_from options None old new trace text whole ran = if_told old.told (λ holding. IsShown (Run options) None old new holding text) (λ holding told. tt)
-shown_from options (Some input) old new trace text whole ran =
-    if_told old.told (λ holding. IsShown (Run options) (Some input) old new holding text) (λ holding told.
-    (trace, whole, told_at old.told (λ holding. IsShownOf options.stop options old new holding trace text) holding told ran))
+-- what is so of a trace that was read
+pub of_read : (form : Form) (left : Option (List ℕ)) (trace : Traced) (P : Traced → Type 0) → trace.form ≡ form → IsRunnable trace → IfSome left (λ input. ending_of form input ≡ Whole trace) → P trace → OfRead form left P
+of_read form None trace P is runnable whole holds = (trace, is, runnable, holds)
+of_read form (Some input) trace P is runnable whole holds = (trace, whole, holds)
 
-pub refused_from : (form : Form) (options : RunOptions) (left : Option (List ℕ)) (old new : BenchState) (trace : Traced) (why : Refusal)
-    → IfSome left (λ input. ending_of form input ≡ Whole trace)
-    → IfSome old.told (λ holding. IsRunRefused options holding trace.names old new why)
-    → IfSome old.told (λ holding. IsTraceRefused form options left old new holding why)
-refused_from form options None old new trace why whole refused = if_told old.told (λ holding. IsTraceRefused form options None old new holding why) (λ holding told. tt)
-refused_from form options (Some input) old new trace why whole refused =
-    if_told old.told (λ holding. IsTraceRefused form options (Some input) old new holding why) (λ holding told.
-    (trace, whole, told_at old.told (λ holding. IsRunRefused options holding trace.names old new why) holding told refused))
-
-pub where_read : (form : Form) (left : Option (List ℕ)) (trace : Traced) (P : Type 0) → IfSome left (λ input. ending_of form input ≡ Whole trace) → P → IfSome left (λ input. P)
-where_read form None trace P whole holds = tt
-where_read form (Some input) trace P whole holds = holds
+-- and of what a bench held besides
+pub of_held : (form : Form) (left : Option (List ℕ)) (told : Option Holding) (trace : Traced) (P : Holding → Traced → Type 0) → trace.form ≡ form → IsRunnable trace → IfSome left (λ input. ending_of form input ≡ Whole trace)
+    → IfSome told (λ holding. P holding trace) → IfSome told (λ holding. OfRead form left (P holding))
+of_held form left told trace P is runnable whole holds =
+    if_told told (λ holding. OfRead form left (P holding)) (λ holding is_told. of_read form left trace (P holding) is runnable whole (told_at told (λ holding. P holding trace) holding is_told holds))
 
 -- ---- stores that are away
 
@@ -160,33 +150,16 @@ written_so command left old new text said W same shown written =
 pub same_some : {one other : Command} → Some one ≡ Some other → one ≡ other
 same_some {one} {other} is = cc
 
--- what a schedule shows, and why it is refused
-pub followed_from : (options : RunOptions) (left : Option (List ℕ)) (old new : BenchState) (trace : Traced) (text : List ℕ)
-    → IfSome left (λ input. ending_of forms.Sched input ≡ Whole trace)
-    → IfSome old.told (λ holding. HasFollowed (Rose old.faults new.faults) options old.picked holding new trace text)
-    → IfSome old.told (λ holding. IsShown (Sched options) left old new holding text)
-followed_from options None old new trace text whole ran = if_told old.told (λ holding. IsShown (Sched options) None old new holding text) (λ holding told. tt)
-followed_from options (Some input) old new trace text whole ran =
-    if_told old.told (λ holding. IsShown (Sched options) (Some input) old new holding text) (λ holding told.
-    (trace, whole, told_at old.told (λ holding. HasFollowed (Rose old.faults new.faults) options old.picked holding new trace text) holding told ran))
-
-pub schedule_refused : (options : RunOptions) (left : Option (List ℕ)) (old new : BenchState) (trace : Traced) (why : Refusal)
+-- why a schedule is refused
+pub schedule_refused : (options : RunOptions) (left : Option (List ℕ)) (old new : BenchState) (trace : Traced) (why : Refusal) → trace.form ≡ forms.Sched → IsRunnable trace
     → IfSome left (λ input. ending_of forms.Sched input ≡ Whole trace)
     → IfSome old.told (λ holding. IsRunRefused options holding trace.names old new why × (new.picked ≡ old.picked))
     → IfSome old.told (λ holding. IsCommandRefused (Sched options) left old new holding why)
-schedule_refused options left old new trace why whole refused =
+schedule_refused options left old new trace why form runnable whole refused =
     let Refused : Holding → Type 0 = λ holding. IsRunRefused options holding trace.names old new why × (new.picked ≡ old.picked) in
     if_told old.told (λ holding. IsCommandRefused (Sched options) left old new holding why) (λ holding told.
     let all = told_at old.told Refused holding told refused in
-    let run = if_told old.told (λ holding. IsRunRefused options holding trace.names old new why) (λ holding told. (told_at old.told Refused holding told refused).0) in
-    (told_at old.told (λ holding. IsTraceRefused forms.Sched options left old new holding why) holding told (refused_from forms.Sched options left old new trace why whole run), all.1))
-
--- so was a schedule followed whose trace was read
-pub used_from : (options : RunOptions) (left : Option (List ℕ)) (old new : BenchState) (trace : Traced)
-    → IfSome left (λ input. ending_of forms.Sched input ≡ Whole trace) → IfSome old.told (λ holding. HasUsedTurnsOn options old new holding trace) → IfSome old.told (UsesTurns options left old new)
-used_from options None old new trace whole used = if_told old.told (UsesTurns options None old new) (λ holding is. tt)
-used_from options (Some input) old new trace whole used =
-    if_told old.told (UsesTurns options (Some input) old new) (λ holding is. (trace, whole, told_at old.told (λ holding. HasUsedTurnsOn options old new holding trace) holding is used))
+    (of_read forms.Sched left trace (λ trace. IsRunRefused options holding trace.names old new why) form runnable whole all.0, all.1))
 
 -- why a recovery is refused
 pub recovery_refused : (left : Option (List ℕ)) (old new : BenchState) (why : Refusal)

@@ -48,6 +48,7 @@ use Rattle.nv_open.proofs.PartlyBack.{still_left}
 use Rattle.nv_load.specs.Generated.{generated}
 use Rattle.nv_top.specs.Loads.{load_options}
 use Rattle.nv_top.specs.Lives.{AreLeftSo, HasLived, LeavesLife, LeavesRun, LeavesTrace}
+use Rattle.nv_top.specs.Ready.{IsRunnable}
 use Rattle.nv_top.specs.declared.words.RunOptions.{RunOptions}
 use Rattle.nv_top.proofs.CommandLemmas.{if_told, told_at}
 use Rattle.nv_top.proofs.HomeLemmas.{any_images}
@@ -276,24 +277,25 @@ still_run old new options trace one is quiet =
 same_trace : (one other : Traced) → Whole one ≡ Whole other → one ≡ other
 same_trace one other is = cc
 
-trace_from : (form : Form) (options : RunOptions) (left : Option (List ℕ)) (old told : Option Holding) (trace : Traced) → IfSome left (λ input. ending_of form input ≡ Whole trace) → IfSome old (λ was. LeavesRun options was trace told)
+trace_from : (form : Form) (options : RunOptions) (left : Option (List ℕ)) (old told : Option Holding) (trace : Traced) → trace.form ≡ form → IsRunnable trace → IfSome left (λ input. ending_of form input ≡ Whole trace) → IfSome old (λ was. LeavesRun options was trace told)
     → IfSome old (λ was. LeavesTrace form options left was told)
-trace_from form options None old told trace whole leaves = if_told old (λ was. LeavesTrace form options None was told) (λ was is. tt)
-trace_from form options (Some input) old told trace whole leaves =
+trace_from form options None old told trace is_form runnable whole leaves =
+    if_told old (λ was. LeavesTrace form options None was told) (λ was is. inr (trace, is_form, runnable, told_at old (λ was. LeavesRun options was trace told) was is leaves))
+trace_from form options (Some input) old told trace is_form runnable whole leaves =
     if_told old (λ was. LeavesTrace form options (Some input) was told) (λ was is other ends.
     subst (λ trace. LeavesRun options was trace told) (same_trace trace other (sym whole ∙ ends)) (told_at old (λ was. LeavesRun options was trace told) was is leaves))
 
-pub life_from : (options : RunOptions) (left : Option (List ℕ)) (old told : Option Holding) (trace : Traced) → IfSome left (λ input. ending_of forms.Run input ≡ Whole trace) → IfSome old (λ was. LeavesRun options was trace told)
+pub life_from : (options : RunOptions) (left : Option (List ℕ)) (old told : Option Holding) (trace : Traced) → trace.form ≡ forms.Run → IsRunnable trace → IfSome left (λ input. ending_of forms.Run input ≡ Whole trace) → IfSome old (λ was. LeavesRun options was trace told)
     → IfSome old (λ was. LeavesLife (Run options) left was told)
-life_from options left old told trace whole leaves = trace_from forms.Run options left old told trace whole leaves
+life_from options left old told trace is_form runnable whole leaves = trace_from forms.Run options left old told trace is_form runnable whole leaves
 
-pub schedule_from : (options : RunOptions) (left : Option (List ℕ)) (old told : Option Holding) (trace : Traced) → IfSome left (λ input. ending_of forms.Sched input ≡ Whole trace) → IfSome old (λ was. LeavesRun options was trace told)
+pub schedule_from : (options : RunOptions) (left : Option (List ℕ)) (old told : Option Holding) (trace : Traced) → trace.form ≡ forms.Sched → IsRunnable trace → IfSome left (λ input. ending_of forms.Sched input ≡ Whole trace) → IfSome old (λ was. LeavesRun options was trace told)
     → IfSome old (λ was. LeavesLife (Sched options) left was told)
-schedule_from options left old told trace whole leaves = trace_from forms.Sched options left old told trace whole leaves
+schedule_from options left old told trace is_form runnable whole leaves = trace_from forms.Sched options left old told trace is_form runnable whole leaves
 
 trace_unopened : (form : Form) (options : RunOptions) (left : Option (List ℕ)) (old new : BenchState) → QuietPartHasOneImage → new ≡ with_faults new.faults old → IfSome old.told IsQuietHolding
     → IfSome old.told (λ was. LeavesTrace form options left was new.told)
-trace_unopened form options None old new one is quiet = if_told old.told (λ was. LeavesTrace form options None was new.told) (λ was told. tt)
+trace_unopened form options None old new one is quiet = if_told old.told (λ was. LeavesTrace form options None was new.told) (λ was told. inl (ap (λ (bench : BenchState). bench.told) is ∙ told))
 trace_unopened form options (Some input) old new one is quiet =
     if_told old.told (λ was. LeavesTrace form options (Some input) was new.told) (λ was told trace ends.
     told_at old.told (λ was. LeavesRun options was trace new.told) was told (still_run old new options trace one is quiet))

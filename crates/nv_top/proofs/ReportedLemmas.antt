@@ -32,7 +32,7 @@ use Rattle.nv_top.specs.Commands.{HasRunOn, IsBasis, IsGivenBack, IsNotRun, Rest
 use Rattle.nv_top.specs.Endings.{IsTrace}
 use Rattle.nv_top.specs.Headline.{HasInput, IsArmedByAll, IsArmedBySome, IsCommandRefused, IsLeftAfter, IsLeftBy, IsRunRefused, IsShown, IsUnhindered, UsesTurns, expected_faults, form_by, form_of}
 use Rattle.nv_top.specs.Lives.{LeavesLife, LeavesRun}
-use Rattle.nv_top.specs.Ready.{IsAtHome, IsReady}
+use Rattle.nv_top.specs.Ready.{IsAtHome, IsReady, IsRunnable}
 use Rattle.nv_top.specs.Reported.{HasReported, HasRunTrace}
 use Rattle.nv_top.specs.Scheduling.{IsBackPowered}
 use Rattle.nv_top.specs.Stopping.{IsBackUnarmed, IsPoweredBack, IsSettledStop}
@@ -122,7 +122,7 @@ Takes (Gen load) given left result = left ≡ given
 -- which cuts it arms its bench at
 abbrev pub Arms : Command → (given : Option (List ℕ)) → (old new : BenchState) → Result (Vec ℕ) Stop → Type 0
 Arms (Run options) given old new result = Unit {0}
-Arms (Sched options) given old new result = IfSome given (λ input. IsArmedBySome input old new) × OnOk result (IfSome given (λ input. IsArmedByAll input old new))
+Arms (Sched options) given old new result = IsArmedBySome given old new × OnOk result (IsArmedByAll given old new)
 Arms Recover given old new result = Unit {0}
 Arms (Look files) given old new result = Unit {0}
 Arms (Gen load) given old new result = Unit {0}
@@ -174,7 +174,7 @@ module _ (command : Command) (given left : Option (List ℕ)) (faults : ℕ) (ol
   pub settled_reported : IsLeftBy command old new → IsSettledStop (expected_faults old new) new.faults result → old.faults ≤ new.faults
       → Takes command given left result → Arms command given old new result → (result ≡ Err Turns → EndsInTurns command given old new)
       → ((why : Refusal) → result ≡ Err (Region why) → IfSome old.told (λ holding. IsCommandRefused command given old new holding why))
-      → ((why : Refusal) → result ≡ Err (Region why) → IfSome given (λ input. IfSome old.told (λ holding. new.arms ≡ old.arms)))
+      → ((why : Refusal) → result ≡ Err (Region why) → IfSome old.told (λ holding. new.arms ≡ old.arms))
       → IfSome old.told (λ was. LeavesLife command given was new.told)
       → IfOk result (λ text. IfSome old.told (λ holding. IsShown command given old new holding text.items))
       → HasReported (Some command) given left faults faults old new result
@@ -238,7 +238,7 @@ module _ (over : Option Command) (given left : Option (List ℕ)) (before now : 
       → HasReported over given left before now bench bench (Err stop)
   early_reported home early usage none cause fault sound takes own life = record {
     back = λ command is. unmoved command bench home;
-    cuts = λ options is. if_some given (λ input. IsArmedBySome input bench bench) (λ input some. inl refl);
+    cuts = λ options is. inl refl;
     all_cuts = λ options is. tt;
     usage = λ is. usage (same_stop stop Usage is);
     command = λ is. let both = none is in (elim both.0 [ inl same ↦ inl (ap Err same) | inr same ↦ inr (ap Err same) ], both.1, refl);
@@ -377,7 +377,7 @@ module _ (command : Command) (given left : Option (List ℕ)) (faults : ℕ) (ol
       let low : new.settled ≤ old.faults = omega (arith, settled, before) in
       settled_reported command given left faults old new result back (counted_settled old.faults new.faults new.settled result low cause) (count_grows old.faults new.faults result cause) takes cuts
       (λ is. absurd (counted_not_turns old.faults new.faults result cause is)) refused
-      (λ why is. if_some given (λ input. IfSome old.told (λ holding. new.arms ≡ old.arms)) (λ input some. if_told old.told (λ holding. new.arms ≡ old.arms) (λ holding told. arms))) life shown
+      (λ why is. if_told old.told (λ holding. new.arms ≡ old.arms) (λ holding told. arms)) life shown
 
 -- ---- runs of traces
 
@@ -387,8 +387,9 @@ opening_counted before now open_errors.Fault cause = cause
 opening_counted before now open_errors.NoMemory cause = cause
 
 -- memory is wanting before the region is opened
-pub unopened_run : (stop : Option ℕ) (options : RunOptions) (trace : Traced) (bench : BenchState) → QuietPartHasOneImage → IsAtHome bench → HasRunTrace stop options trace bench bench (Err NoMemory)
-unopened_run stop options trace bench one home = record {
+pub unopened_run : (stop : Option ℕ) (options : RunOptions) (trace : Traced) (bench : BenchState) → IsRunnable trace → QuietPartHasOneImage → IsAtHome bench → HasRunTrace stop options trace bench bench (Err NoMemory)
+unopened_run stop options trace bench runnable one home = record {
+  runnable = runnable;
   back = run_unmoved stop options bench;
   cause = omega arith;
   turns = λ is. cc;
@@ -400,15 +401,16 @@ unopened_run stop options trace bench one home = record {
 }
 
 -- a run that isn't stopped
-pub unstopped_run : (options : RunOptions) (trace : Traced) (old new : BenchState) (result : Result (Vec ℕ) Stop) → IsReady old → IsGivenBack old new → CountHasCause old.faults new.faults result
+pub unstopped_run : (options : RunOptions) (trace : Traced) (old new : BenchState) (result : Result (Vec ℕ) Stop) → IsRunnable trace → IsReady old → IsGivenBack old new → CountHasCause old.faults new.faults result
     → IfSome old.told (λ was. LeavesRun options was trace new.told) → IfOk result (λ text. IfSome old.told (λ holding. HasRunOn Report options holding new.told trace text.items))
     → ((why : Refusal) → result ≡ Err (Region why) → IfSome old.told (λ holding. IsRunRefused options holding trace.names old new why))
     → HasRunTrace None options trace old new result
-unstopped_run options trace old new result ready back cause life ran refused =
+unstopped_run options trace old new result runnable ready back cause life ran refused =
     let same = ap (λ (state : BenchState). state.settled) back in
     let before = ready.settled in
     let low : new.settled ≤ old.faults = omega (arith, same, before) in
     record {
+      runnable = runnable;
       back = back;
       cause = counted_settled old.faults new.faults new.settled result low cause;
       turns = counted_not_turns old.faults new.faults result cause;

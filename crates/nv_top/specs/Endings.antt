@@ -1,7 +1,8 @@
 -- How a program ends: the line that says why.
-use Rattle.std.specs.Prelude.{◌≡◌, ℕ, List, [], ◌∷◌, ◌++◌, codes, take, Contains, Option}
+use Rattle.std.specs.Prelude.{◌≡◌, ℕ, List, [], ◌∷◌, ◌++◌, codes, take, Contains, Option, Some, None}
 use Rattle.std.specs.Fmt.{decimal}
 use Rattle.nv_open.specs.declared.error.Refusal.{Refusal}
+use Rattle.nv_top.specs.Ready.{IsRunnable}
 use Rattle.nv_top.specs.RegionTexts.{region_text}
 use Rattle.nv_trace.specs.declared.bad_line.BadLine.{BadLine}
 use Rattle.nv_trace.specs.declared.bad_line.Why.{Why}
@@ -64,6 +65,11 @@ input_line Long = long_line
 -- an input that is a trace of this form
 abbrev pub IsTrace : TraceForm → List ℕ → Type 0
 IsTrace form input = (trace : Traced) × (ending_of form input ≡ Whole trace)
+
+-- Something is so of the trace that was read for this: the one that the input is; or, where the source doesn't tell its input, one that it may have been, as the reader makes them.
+abbrev pub OfRead : TraceForm → (input : Option (List ℕ)) → (Traced → Type 0) → Type 0
+OfRead form None P = (trace : Traced) × (trace.form ≡ form) × IsRunnable trace × P trace
+OfRead form (Some input) P = (trace : Traced) × (ending_of form input ≡ Whole trace) × P trace
 
 -- a line that says why there is no report
 abbrev pub IsErrorLine : List ℕ → Type 0

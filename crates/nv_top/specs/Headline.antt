@@ -21,7 +21,7 @@ use Rattle.nv_runner.specs.Faithful.{Basis}
 use Rattle.nv_load.specs.Generated.{generated}
 use Rattle.nv_top.specs.Loads.{HasGenerated, load_options}
 use Rattle.nv_top.specs.declared.show.Show.TheVariants.{Report}
-use Rattle.nv_top.specs.Endings.{IsTrace}
+use Rattle.nv_top.specs.Endings.{IsTrace, OfRead}
 use Rattle.nv_top.specs.Scheduling.{HasScheduledOn, HasUsedTurns, IsArmedAt, IsArmedAtSome, IsBackPowered}
 use Rattle.nv_top.specs.Stopping.{HasStoppedOn, IsPickedOnce, IsPoweredBack}
 use Rattle.nv_top.specs.Words.{command_of}
@@ -68,12 +68,12 @@ IsLeftAfter None pick old new = IsGivenBack old new
 IsLeftAfter (Some k) pick old new = (IsPoweredBack k old new ⊎ IsGivenBack old new) × IsPickedOnce pick old new
 
 -- a schedule armed it at some first cuts of the trace that it read, one after another; or there is no such trace, and it armed nothing
-abbrev pub IsArmedBySome : List ℕ → (old new : BenchState) → Type 0
-IsArmedBySome input old new = (new.arms ≡ old.arms) ⊎ ((trace : Traced) × (ending_of forms.Sched input ≡ Whole trace) × IsArmedAtSome trace.tokens old new)
+abbrev pub IsArmedBySome : (input : Option (List ℕ)) → (old new : BenchState) → Type 0
+IsArmedBySome input old new = (new.arms ≡ old.arms) ⊎ OfRead forms.Sched input (λ trace. IsArmedAtSome trace.tokens old new)
 
 -- at all of them
-abbrev pub IsArmedByAll : List ℕ → (old new : BenchState) → Type 0
-IsArmedByAll input old new = (trace : Traced) × (ending_of forms.Sched input ≡ Whole trace) × IsArmedAt trace.tokens old new
+abbrev pub IsArmedByAll : (input : Option (List ℕ)) → (old new : BenchState) → Type 0
+IsArmedByAll input old new = OfRead forms.Sched input (λ trace. IsArmedAt trace.tokens old new)
 
 -- how a command leaves it
 abbrev pub IsLeftBy : Command → (old new : BenchState) → Type 0
@@ -114,14 +114,12 @@ pub record HasUsedTurnsOn (options : RunOptions) (old new : BenchState) (holding
 
 -- so was that of the trace that was read
 abbrev pub UsesTurns : RunOptions → (input : Option (List ℕ)) → (old new : BenchState) → Holding → Type 0
-UsesTurns options input old new holding = IfSome input (λ input. (trace : Traced) × (ending_of forms.Sched input ≡ Whole trace) × HasUsedTurnsOn options old new holding trace)
+UsesTurns options input old new holding = OfRead forms.Sched input (HasUsedTurnsOn options old new holding)
 
 -- what the report of a command shows of a bench that held this, and of the input that it had
 abbrev pub IsShown : Command → (input : Option (List ℕ)) → (old new : BenchState) → Holding → (text : List ℕ) → Type 0
-IsShown (Run options) input old new holding text =
-    IfSome input (λ input. (trace : Traced) × (ending_of forms.Run input ≡ Whole trace) × IsShownOf options.stop options old new holding trace text)
-IsShown (Sched options) input old new holding text =
-    IfSome input (λ input. (trace : Traced) × (ending_of forms.Sched input ≡ Whole trace) × HasFollowed (Rose old.faults new.faults) options old.picked holding new trace text)
+IsShown (Run options) input old new holding text = OfRead forms.Run input (λ trace. IsShownOf options.stop options old new holding trace text)
+IsShown (Sched options) input old new holding text = OfRead forms.Sched input (λ trace. HasFollowed (Rose old.faults new.faults) options old.picked holding new trace text)
 IsShown Recover input old new holding text = HasRecovered holding new.told text
 IsShown (Look files) input old new holding text = HasLooked files holding text
 IsShown (Gen load) input old new holding text = HasGenerated load holding new.told text
@@ -177,8 +175,7 @@ pub record IsRunRefused (options : RunOptions) (was : Holding) (wanted : List (L
 
 -- why the calls of a trace that is read for this aren't made on a bench that held that, and what is left of its region
 abbrev pub IsTraceRefused : Form → RunOptions → (input : Option (List ℕ)) → (old new : BenchState) → Holding → Refusal → Type 0
-IsTraceRefused form options input old new holding why =
-    IfSome input (λ input. (trace : Traced) × (ending_of form input ≡ Whole trace) × IsRunRefused options holding trace.names old new why)
+IsTraceRefused form options input old new holding why = OfRead form input (λ trace. IsRunRefused options holding trace.names old new why)
 
 -- why a command is refused by the region of a bench that held this, and what it leaves of it; a schedule is refused before power goes off
 abbrev pub IsCommandRefused : Command → (input : Option (List ℕ)) → (old new : BenchState) → Holding → Refusal → Type 0

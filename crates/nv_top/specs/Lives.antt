@@ -1,5 +1,5 @@
 -- Lives: what a command leaves of a bench, whatever it was ended by.
-use Rattle.std.specs.Prelude.{◌≡◌, ◌⊎◌, ℕ, List, map, Option, IfSome}
+use Rattle.std.specs.Prelude.{◌≡◌, ◌⊎◌, ℕ, List, map, Option, None, Some}
 use Rattle.nv_pmem.specs.Steps as lines
 use Rattle.nv_store.specs.Steps as stores
 use Rattle.nv_bench.specs.Holding.{Holding}
@@ -14,6 +14,7 @@ use Rattle.nv_trace.specs.declared.trace.Form.{Form}
 use Rattle.nv_trace.specs.declared.trace.Form.TheVariants as forms
 use Rattle.nv_trace.specs.Traced.{Traced}
 use Rattle.nv_top.specs.Commands.{IsBasis}
+use Rattle.nv_top.specs.Endings.{OfRead}
 use Rattle.nv_top.specs.Loads.{load_options}
 use Rattle.nv_top.specs.declared.words.Command.{Command}
 use Rattle.nv_top.specs.declared.words.Command.TheVariants.{Run, Sched, Recover, Look, Gen}
@@ -36,9 +37,10 @@ pub record HasLivedOn (options : RunOptions) (was : Holding) (trace : Traced) (t
 abbrev pub LeavesRun : RunOptions → (was : Holding) → Traced → (told : Option Holding) → Type 0
 LeavesRun options was trace told = StandForFiles was.parts → TellsOf (InEachImage (StandsWithSome was trace.names)) told ⊎ HasLivedOn options was trace told
 
--- so does one of the trace that the input is, as a trace of this form
+-- So does one of the trace that the input is, as a trace of this form; where the source doesn't tell its input, one of a trace that it may have been, unless the bench is as it was.
 abbrev pub LeavesTrace : Form → RunOptions → (input : Option (List ℕ)) → (was : Holding) → (told : Option Holding) → Type 0
-LeavesTrace form options input was told = IfSome input (λ input. (trace : Traced) → ending_of form input ≡ Whole trace → LeavesRun options was trace told)
+LeavesTrace form options None was told = (told ≡ Some was) ⊎ OfRead form None (λ trace. LeavesRun options was trace told)
+LeavesTrace form options (Some input) was told = (trace : Traced) → ending_of form input ≡ Whole trace → LeavesRun options was trace told
 
 -- What a command leaves of a bench that had an input, and held this: of a schedule the same as of a run; a recovery can be made again, and comes to the same; and of a look its frame says all.
 abbrev pub LeavesLife : Command → (input : Option (List ℕ)) → (was : Holding) → (told : Option Holding) → Type 0

@@ -10,6 +10,7 @@ use Rattle.nv_trace.specs.declared.trace.Form.TheVariants as forms
 use Rattle.nv_top.specs.Endings.{IsTrace}
 use Rattle.nv_top.specs.Headline.{IsArmedByAll, IsArmedBySome, IsCommandRefused, IsLeftAfter, IsLeftBy, IsRunRefused, IsShown, IsShownOf, IsUnhindered, UsesTurns, expected_faults, form_by}
 use Rattle.nv_top.specs.Lives.{LeavesLife, LeavesRun}
+use Rattle.nv_top.specs.Ready.{IsRunnable}
 use Rattle.nv_top.specs.Stopping.{IsSettledStop}
 use Rattle.nv_top.specs.Stops.{ComesBeforeOpening, IsCauseOf, IsFollowed, IsOwnStop}
 use Rattle.nv_top.specs.declared.ending.Stop.{Stop}
@@ -22,8 +23,8 @@ use Rattle.nv_top.specs.declared.words.RunOptions.{RunOptions}
 -- Each field is the clause of the top call with its name, of a report or a stop where that has a status.
 pub record HasReported (over : Option Command) (given left : Option (List ℕ)) (before now : ℕ) (old new : BenchState) (result : Result (Vec ℕ) Stop) : Type 0 where
   pub back : (command : Command) → over ≡ Some command → IsLeftBy command old new
-  pub cuts : (options : RunOptions) → over ≡ Some (Sched options) → IfSome given (λ input. IsArmedBySome input old new)
-  pub all_cuts : (options : RunOptions) → over ≡ Some (Sched options) → OnOk result (IfSome given (λ input. IsArmedByAll input old new))
+  pub cuts : (options : RunOptions) → over ≡ Some (Sched options) → IsArmedBySome given old new
+  pub all_cuts : (options : RunOptions) → over ≡ Some (Sched options) → OnOk result (IsArmedByAll given old new)
   pub usage : result ≡ Err Usage → over ≡ None
   pub command : over ≡ None → ((result ≡ Err Usage) ⊎ (result ≡ Err NoMemory)) × (left ≡ given) × (new ≡ old)
   pub bad_line : IfErr result (λ stop. IfSome given (IsCauseOf (form_by over) stop))
@@ -39,7 +40,7 @@ pub record HasReported (over : Option Command) (given left : Option (List ℕ)) 
   pub turns : result ≡ Err Turns → (options : RunOptions) × (over ≡ Some (Sched options)) × (new.picked ≡ options.image ∷ old.picked)
   pub turns_used : result ≡ Err Turns → (options : RunOptions) → over ≡ Some (Sched options) → IfSome old.told (UsesTurns options given old new)
   pub region : (why : Refusal) → result ≡ Err (Region why) → (command : Command) → over ≡ Some command → IfSome old.told (λ holding. IsCommandRefused command given old new holding why)
-  pub unarmed : (why : Refusal) → result ≡ Err (Region why) → IfSome given (λ input. IfSome old.told (λ holding. new.arms ≡ old.arms))
+  pub unarmed : (why : Refusal) → result ≡ Err (Region why) → IfSome old.told (λ holding. new.arms ≡ old.arms)
   pub complete : (command : Command) → over ≡ Some command → IfSome old.told (λ holding. IsUnhindered command given holding (Rose before now) (Rose (expected_faults old new) new.faults) → IfErr result IsOwnStop)
   pub counts : OnOk result (new.faults ≡ expected_faults old new)
   pub never_falls : old.faults ≤ new.faults
@@ -47,8 +48,9 @@ pub record HasReported (over : Option Command) (given left : Option (List ℕ)) 
   pub unopened : IfErr result (λ stop. ComesBeforeOpening stop → new ≡ old)
   pub report : IfOk result (λ text. (command : Command) → over ≡ Some command → IfSome old.told (λ holding. IsShown command given old new holding text.items))
 
--- What a run of a trace comes to, which may be stopped: its report, or why there is none. The bench was `old`, and is `new`.
+-- What a run of a trace comes to, which may be stopped: its report, or why there is none. The trace is as its reader makes it; the bench was `old`, and is `new`.
 pub record HasRunTrace (stop : Option ℕ) (options : RunOptions) (trace : Traced) (old new : BenchState) (result : Result (Vec ℕ) Stop) : Type 0 where
+  pub runnable : IsRunnable trace
   pub back : IsLeftAfter stop options.image old new
   pub cause : IsSettledStop (expected_faults old new) new.faults result
   pub turns : result ≢ Err Turns

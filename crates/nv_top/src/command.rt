@@ -61,9 +61,9 @@ pub fn nv_main<R: Threads + Wait + Sync, I: Source, O: Sink, B: Bench, G: Gate +
 
     // A schedule armed it at its cuts, with their numbers: at the first ones of them, or, with status 0, at all. Where no trace was read it armed nothing.
     ensures cuts { (options : _) → command_over B.can_lose_power (map string_bytes words.now) ≡ Some (commands.Sched options)
-        → IfSome (I.left src.old) (λ input. IsArmedBySome input (B.state bench.old) (B.state bench.new)) }
+        → IsArmedBySome (I.left src.old) (B.state bench.old) (B.state bench.new) }
     ensures all_cuts { (options : _) → command_over B.can_lose_power (map string_bytes words.now) ≡ Some (commands.Sched options) → result ≡ DONE
-        → IfSome (I.left src.old) (λ input. IsArmedByAll input (B.state bench.old) (B.state bench.new)) }
+        → IsArmedByAll (I.left src.old) (B.state bench.old) (B.state bench.new) }
 
     // The words decide before anything is read or opened, and take memory to read.
     ensures usage { result ≡ USAGE → command_over B.can_lose_power (map string_bytes words.now) ≡ None }
@@ -114,8 +114,7 @@ pub fn nv_main<R: Threads + Wait + Sync, I: Source, O: Sink, B: Bench, G: Gate +
         × ((command : Command) → command_over B.can_lose_power (map string_bytes words.now) ≡ Some command
         → IfSome (B.state bench.old).told (λ holding.
         IsCommandRefused command (I.left src.old) (B.state bench.old) (B.state bench.new) holding why)) }
-    ensures unarmed { result ≡ BAD_REGION → IfSome (I.left src.old) (λ input. IfSome (B.state bench.old).told (λ holding.
-        (B.state bench.new).arms ≡ (B.state bench.old).arms)) }
+    ensures unarmed { result ≡ BAD_REGION → IfSome (B.state bench.old).told (λ holding. (B.state bench.new).arms ≡ (B.state bench.old).arms) }
 
     // Where nothing stands in its way a command is followed to its end, unless memory is wanting, or a token of a schedule has used its advances up. Then no device has failed, but for a stop's own faults.
     ensures complete { (command : Command) → command_over B.can_lose_power (map string_bytes words.now) ≡ Some command → IfSome (B.state bench.old).told (λ holding. IsUnhindered command (I.left src.old) holding (Rose (I.fault_count src.old) (I.fault_count src.new))

@@ -63,6 +63,7 @@ pub(crate) fn schedule<T: Bench>(
     requires limits { AreInLimits options }
     requires trace { IsRunnable trace.now }
     requires no_rounds { has_rounds trace.now.form ≡ false }
+    ensures runnable { IsRunnable trace.now }
     ensures back { IsBackPowered (T.state bench.old) (T.state bench.new) }
     ensures cuts { IsArmedAtSome trace.now.tokens (T.state bench.old) (T.state bench.new) }
     ensures all_cuts { OnOk result (IsArmedAt trace.now.tokens (T.state bench.old) (T.state bench.new)) }

@@ -2,11 +2,11 @@ use Rattle.std.proofs.Common.{◌≡◌, Err, refl, sym, subst, ap}
 use Rattle.std.specs.Prelude.{IfSome, Some}
 use Rattle.std.proofs.lemmas.Result.{IfOk-weaker}
 use Rattle.nv_trace.specs.declared.trace.Form.TheVariants as forms
-use Rattle.nv_top.specs.Headline.{IsShown, IsShownOf}
+use Rattle.nv_top.specs.Headline.{IsRunRefused, IsShown, IsShownOf}
 use Rattle.nv_top.specs.Reported.{HasReported}
 use Rattle.nv_top.specs.Stops.{stop_of_read}
 use Rattle.nv_top.specs.declared.words.Command.TheVariants.{Run}
-use Rattle.nv_top.proofs.HeadlineLemmas.{refused_from, shown_from, where_read}
+use Rattle.nv_top.proofs.HeadlineLemmas.{of_held}
 use Rattle.nv_top.proofs.LifeLemmas.{life_from, life_unopened}
 use Rattle.nv_top.proofs.ReportedLemmas.{by_error, on_ok, read_reported, settled_reported, was_read}
 use Rattle.nv_top.proofs.command.run_input.Goals as goal
@@ -39,11 +39,11 @@ returns g c =
     let result = c.run_trace.result in
     subst (λ now. HasReported (Some (Run c.args.options)) given left faults now old new result) (sym (read.kept (λ is. cc)))
     (settled_reported (Run options) given left faults old new result ran.back ran.cause ran.never_falls (on_ok result (was_read forms.Run given left trace read.whole read.at_end)) tt ran.turns
-    (λ why is. refused_from forms.Run options given old new trace why read.whole (ran.refused why is))
-    (λ why is. where_read forms.Run given trace (IfSome old.told (λ holding. new.arms ≡ old.arms)) read.whole (ran.unarmed why is))
-    (life_from options given old.told new.told trace read.whole ran.life)
+    (λ why is. of_held forms.Run given old.told trace (λ holding trace. IsRunRefused options holding trace.names old new why) read.form ran.runnable read.whole (ran.refused why is))
+    ran.unarmed
+    (life_from options given old.told new.told trace read.form ran.runnable read.whole ran.life)
     (IfOk-weaker result
     (λ text. IfSome old.told (λ holding. IsShownOf options.stop options old new holding trace text.items))
     (λ text. IfSome old.told (λ holding. IsShown (Run options) given old new holding text.items))
-    (λ text shown. shown_from options given old new trace text.items read.whole shown)
+    (λ text shown. of_held forms.Run given old.told trace (λ holding trace. IsShownOf options.stop options old new holding trace text.items) read.form ran.runnable read.whole shown)
     ran.ran))

@@ -9,7 +9,7 @@ returns-in-None g c =
     let new = g.T.Bench.state c.run_to_end.new.bench in
     let ran = c.run_to_end.ensures in
     subst (λ stop. HasRunTrace stop c.args.options c.args.trace.now old new c.run_to_end.result) (sym c.in-None.is)
-    (unstopped_run c.args.options c.args.trace.now old new c.run_to_end.result c.requires.ready ran.back ran.cause ran.life ran.ran ran.refused)
+    (unstopped_run c.args.options c.args.trace.now old new c.run_to_end.result c.requires.trace c.requires.ready ran.back ran.cause ran.life ran.ran ran.refused)
 
 pub returns-in-Some : goal.returns-in-Some
 returns-in-Some g c =

@@ -3,17 +3,15 @@ use Rattle.std.specs.Prelude.{IfSome, Some}
 use Rattle.std.proofs.lemmas.Result.{IfOk-weaker, on_ok_weaker}
 use Rattle.nv_plain.specs.Faults.{Rose}
 use Rattle.nv_trace.specs.Forms.{has_rounds}
-use Rattle.nv_trace.specs.Reading.{Whole, ending_of}
 use Rattle.nv_trace.specs.declared.trace.Form.TheVariants as forms
-use Rattle.nv_top.specs.Headline.{HasFollowed, IsArmedByAll, IsArmedBySome, IsShown}
+use Rattle.nv_top.specs.Headline.{HasFollowed, HasUsedTurnsOn, IsShown}
 use Rattle.nv_top.specs.Reported.{HasReported}
-use Rattle.nv_top.specs.Scheduling.{IsArmedAt}
+use Rattle.nv_top.specs.Scheduling.{IsArmedAt, IsArmedAtSome}
 use Rattle.nv_top.specs.Stops.{stop_of_read}
 use Rattle.nv_top.specs.declared.words.Command.TheVariants.{Sched}
-use Rattle.nv_top.proofs.HeadlineLemmas.{followed_from, schedule_refused, used_from, where_read}
+use Rattle.nv_top.proofs.HeadlineLemmas.{of_held, of_read, schedule_refused}
 use Rattle.nv_top.proofs.LifeLemmas.{schedule_from, schedule_unopened}
 use Rattle.nv_top.proofs.ReportedLemmas.{by_error, never_turns, read_reported, settled_reported, was_read}
-use Rattle.nv_top.proofs.SchedulingLemmas.{IfSome-weaker}
 use Rattle.nv_top.proofs.command.schedule_input.Goals as goal
 
 pub schedule-requires-clause-no_rounds : goal.schedule-requires-clause-no_rounds
@@ -45,17 +43,17 @@ returns g c =
     let read = c.in_ok-trace.ensures in
     let made = c.schedule.ensures in
     let result = c.schedule.result in
-    let cuts = IfSome-weaker given (λ input. ending_of forms.Sched input ≡ Whole trace) (λ input. IsArmedBySome input old new) (λ input whole. inr (trace, whole, made.cuts)) read.whole in
+    let cuts = inr (of_read forms.Sched given trace (λ trace. IsArmedAtSome trace.tokens old new) read.form made.runnable read.whole made.cuts) in
     let all = on_ok_weaker result
-    (λ (all : IsArmedAt trace.tokens old new). IfSome-weaker given (λ input. ending_of forms.Sched input ≡ Whole trace) (λ input. IsArmedByAll input old new) (λ input whole. (trace, whole, all)) read.whole)
+    (λ (all : IsArmedAt trace.tokens old new). of_read forms.Sched given trace (λ trace. IsArmedAt trace.tokens old new) read.form made.runnable read.whole all)
     made.all_cuts in
     subst (λ now. HasReported (Some (Sched options)) given left faults now old new result) (sym (read.kept (λ is. cc)))
-    (settled_reported (Sched options) given left faults old new result (made.back, made.picked) made.cause made.never_falls (λ followed. was_read forms.Sched given left trace read.whole read.at_end) (cuts, all) (λ is. (made.turns is, used_from options given old new trace read.whole (made.used is)))
-    (λ why is. schedule_refused options given old new trace why read.whole (made.refused why is))
-    (λ why is. where_read forms.Sched given trace (IfSome old.told (λ holding. new.arms ≡ old.arms)) read.whole (made.unarmed why is))
-    (schedule_from options given old.told new.told trace read.whole made.life)
+    (settled_reported (Sched options) given left faults old new result (made.back, made.picked) made.cause made.never_falls (λ followed. was_read forms.Sched given left trace read.whole read.at_end) (cuts, all) (λ is. (made.turns is, of_held forms.Sched given old.told trace (λ holding. HasUsedTurnsOn options old new holding) read.form made.runnable read.whole (made.used is)))
+    (λ why is. schedule_refused options given old new trace why read.form made.runnable read.whole (made.refused why is))
+    made.unarmed
+    (schedule_from options given old.told new.told trace read.form made.runnable read.whole made.life)
     (IfOk-weaker result
     (λ text. IfSome old.told (λ holding. HasFollowed (Rose old.faults new.faults) options old.picked holding new trace text.items))
     (λ text. IfSome old.told (λ holding. IsShown (Sched options) given old new holding text.items))
-    (λ text ran. followed_from options given old new trace text.items read.whole ran)
+    (λ text ran. of_held forms.Sched given old.told trace (λ holding trace. HasFollowed (Rose old.faults new.faults) options old.picked holding new trace text.items) read.form made.runnable read.whole ran)
     made.followed))

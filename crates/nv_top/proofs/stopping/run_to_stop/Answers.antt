@@ -54,7 +54,7 @@ pub returns-in_err-wanted : goal.returns-in_err-wanted
 returns-in_err-wanted g c =
     let old = g.T.Bench.state c.args.bench.now in
     by_error c.from_residual.result NoMemory (λ result. HasRunTrace (Some c.args.k) c.args.options c.args.trace.now old old result) c.from_residual.ensures.1
-    (unopened_run (Some c.args.k) c.args.options c.args.trace.now old c.images_follow_calls.ensures.quiet c.requires.ready.at_home)
+    (unopened_run (Some c.args.k) c.args.options c.args.trace.now old c.requires.trace c.images_follow_calls.ensures.quiet c.requires.ready.at_home)
 
 pub returns-in_err-opened : goal.returns-in_err-opened
 returns-in_err-opened g c =
@@ -71,6 +71,7 @@ returns-in_err-opened g c =
     let cause : CountHasCause {T = Vec ℕ} old.faults new.faults (Err (stop_of_opening error)) = opening_counted old.faults new.faults error made.cause in
     by_error c.from_residual-in_err-opened.result (stop_of_opening error) (λ result. HasRunTrace (Some c.args.k) options trace old new result) c.from_residual-in_err-opened.ensures.1
     (record {
+      runnable = c.requires.trace;
       back = (inr made.back, inr (ap (λ (state : BenchState). state.picked) made.back));
       cause = counted_settled {T = Vec ℕ} old.faults new.faults new.settled (Err (stop_of_opening error)) low cause;
       turns = counted_not_turns {T = Vec ℕ} old.faults new.faults (Err (stop_of_opening error)) cause;
@@ -107,6 +108,7 @@ returns g c =
     let parts = present (map history region.parts.items) (told_at old.told _ holding told made.tell) in
     absurd (not_both (sym (mid_told old mid region.names holding made.lent at_home.home told) ∙ stopped.never why is parts.states opened.files.held parts.are opened.files.are))) in
     record {
+      runnable = c.requires.trace;
       back = (
         elim stopped.back [
           | inl powered ↦ inl (home_powered c.args.k region.names old mid new at_home made.lent powered)
