@@ -49,8 +49,8 @@ quiet_again store bytes whole quiet image =
     let flags : replicate (length store.seen) false ≡ store.unsynced =
     ext_get_or false (replicate (length store.seen) false) store.unsynced (length-replicate {A = Bool} (length store.seen) false ∙ sym whole.flags)
     (λ i inside. get_or-replicate (length store.seen) i false false (let long = length-replicate {A = Bool} (length store.seen) false in omega (arith, inside, long)) ∙ sym (quiet.none i)) in
-    ap quiet_store (image_of_quiet store bytes quiet image)
-    ∙ (λ i. record { seen = store.seen; durable = sym quiet.durable i; unsynced = flags i })
+    let made : quiet_store store.seen ≡ store = λ i. record { seen = store.seen; durable = sym quiet.durable i; unsynced = flags i } in
+    ap quiet_store (image_of_quiet store bytes quiet image) ∙ made
 
 all_left : {X : Type 0} (P : X → Type 0) (xs ys : List X) → All P (xs ++ ys) → All P xs
 all_left P [] ys all = All-nil P
