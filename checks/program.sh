@@ -3,7 +3,7 @@
 # the summaries of loads with those of the rules (load.py) and the reports of 300 drawn schedules with those of a model of the machine
 # that is made after the pages (schedules.py), stops runs of two threads at each of many device calls (stops.py), kills a few of four
 # over a folder (threads.py), counts what threads take from the heap once they are at work (thread_memory.py), and what calls that take
-# no memory allocate. The gate leaves the programs built; without it, this builds them. Ends with the status of the first that fails.
+# no memory allocate, and tries the tests that nothing proves (tests.sh). The gate leaves the programs built; without it, this builds them. Ends with the status of the first that fails.
 set -eu
 cd "$(dirname "$0")/../crates"
 python3 ../checks/docs.py
@@ -17,4 +17,5 @@ python3 ../checks/stops.py "$PWD/nv_sim/out/nv_sim"
 python3 ../checks/folder.py "$PWD/nv_run/out/nv_run"
 python3 ../checks/threads.py "$PWD/nv_run/out/nv_run" 8 60
 python3 ../checks/thread_memory.py "$PWD/nv_run/out/nv_run"
-exec ../checks/no_memory.sh
+../checks/no_memory.sh
+exec ../checks/tests.sh

@@ -7,12 +7,6 @@ mod benches;
 #[cfg(test)]
 mod commits;
 #[cfg(test)]
-mod file_parts;
-#[cfg(test)]
-mod file_stores;
-#[cfg(test)]
-mod folders;
-#[cfg(test)]
 mod group_checks;
 #[cfg(test)]
 mod parts;
