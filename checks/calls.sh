@@ -1,17 +1,12 @@
 #!/usr/bin/env bash
-# Makes 100,000 calls by four threads and a cleaner beside them, over a log of 16 entries: the gate's test of these, with ten times its calls, for which its minute is too short where much else runs.
+# Makes 100,000 calls by four threads and a cleaner beside them, over a log of 16 entries: the test of tests.sh of these, with ten times its calls, for which its time is too short where much else runs.
 # Each call is done within 10,000,000 tries, all replies are those of plain files in the order of the calls' places, and the stores are those files in the end. It proves nothing, and builds anew each time.
 set -eu
-cd "$(dirname "$0")/.."
+cd "$(dirname "$0")"
 room=$(mktemp -d)
 trap 'rm -rf "$room"' EXIT
-cp HANDLES crates.txt "$room"
-git init -q "$room"
-grep -E "^nv_" crates.txt | cut -d : -f 1 | while read -r crate; do
-    mkdir -p "$room/crates/$crate"
-    cp -r "crates/$crate/src" "$room/crates/$crate"
-done
-cd "$room/crates/nv_board_tests"
+./lay_out_tests.sh "$room"
+cd "$room/crates/unproved_tests"
 test=four_threads_and_a_cleaner_keep_one_history
 # That test alone, with more calls.
 for file in src/*.rt; do
@@ -23,13 +18,13 @@ for file in src/*.rt; do
     cp "$room/file" "$file"
 done
 for edit in 's/calls: 2_500,/calls: 25_000,/' 's/answered.len(), 10_000)/answered.len(), 100_000)/'; do
-    before=$(cksum < src/threads.rt)
-    sed -i "$edit" src/threads.rt
-    [ "$before" != "$(cksum < src/threads.rt)" ] || { echo "the test reads otherwise: $edit"; exit 1; }
+    before=$(cksum < src/board_threads.rt)
+    sed -i "$edit" src/board_threads.rt
+    [ "$before" != "$(cksum < src/board_threads.rt)" ] || { echo "the test reads otherwise: $edit"; exit 1; }
 done
 said=$(rt try --test --seconds 600 2>&1 < /dev/null) || { echo "$said"; echo "0 passed, 1 failed"; exit 1; }
 echo "$said"
-if grep -q "^test threads::$test \.\.\. ok$" <<< "$said"; then
+if grep -q "^test board_threads::$test \.\.\. ok$" <<< "$said"; then
     echo "1 passed, 0 failed"
 else
     echo "0 passed, 1 failed"

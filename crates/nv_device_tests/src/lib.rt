@@ -7,16 +7,10 @@ mod benches;
 #[cfg(test)]
 mod commits;
 #[cfg(test)]
-mod group_checks;
-#[cfg(test)]
 mod parts;
 #[cfg(test)]
 mod plain_files;
 #[cfg(test)]
-mod reading;
-#[cfg(test)]
-mod schedules;
-#[cfg(test)]
 mod stores;
 #[cfg(test)]
-mod writing;
+mod traces;

@@ -63,30 +63,6 @@ fn plain_files(rt: HostRuntime) -> Result<(), Fail> {
 }
 
 #[test]
-fn gap_reads_as_zeros(rt: HostRuntime) -> Result<(), Fail> {
-    let mut files = PlainFiles::new(rt.alloc(), 1)?;
-    write(&rt, rt.alloc(), &mut files, 100, &[0xff])?;
-    for (at, len, want) in [
-        (62, 4, [0, 0, 0, 0].as_slice()),
-        (98, 8, &[0, 0, 0xff]),
-        (101, 8, &[]),
-        (102, 8, &[]),
-    ] {
-        read(&rt, &mut files, at, len, want)?;
-    }
-    Ok(())
-}
-
-#[test]
-fn no_bytes_change_nothing(rt: HostRuntime) -> Result<(), Fail> {
-    let mut files = PlainFiles::new(rt.alloc(), 1)?;
-    write(&rt, rt.alloc(), &mut files, 0, &[1, 2])?;
-    write(&rt, rt.alloc(), &mut files, 9, &[])?;
-    assert_eq!(rt; files.bytes(0), [1, 2].as_slice());
-    Ok(())
-}
-
-#[test]
 fn bytes_round_trip(rt: HostRuntime) -> Result<(), Fail> {
     let bytes = Bytes::from_vec(Vec::from_slice(rt.alloc(), &[3, 1, 2])?);
     assert_eq!(rt;
