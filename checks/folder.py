@@ -5,7 +5,8 @@ and where the disk, or something in the folder, is in its way.
 What stands in the way must end a run in `error device` or in a region that is refused, by no crash and in time; and what was
 answered before must be there once it is gone. A run that is killed at any moment must leave, after a recovery, a front of its
 writes, each whole: with the process gone the files hold all that was written, so a write that was answered may not be missing.
-What a look shows before must be what that recovery leaves, and the look must change nothing.
+What a look shows before must be what that recovery leaves, and the look must change nothing. Regions that are made by hand are in
+regions.py.
 Closes with 'N passed, M failed', and fails where one fails.
 
     folder.py PROGRAM                     all of this; what needs a user of more rights is named and left out
@@ -16,6 +17,7 @@ import contextlib
 import fcntl
 import os
 import random
+import struct
 import subprocess
 import sys
 import tempfile
@@ -52,11 +54,22 @@ def lives(program, folder):
     yield "hello", call(program, [folder, *RUN], HELLO), (REPORT, 0)
     yield "the file is there", call(program, [folder, *RUN], AGAIN), (READ, 0)
     yield "a descriptor that only reads", call(program, [folder, *RUN], ONLY_READ), (READ, 0)
+    yield "the same with a worker", call(program, [folder, "run"], ONLY_READ), (READ, 0)
     yield "a recovery", call(program, [folder, "recover"]), KEPT
     # A region of other sizes is another region; the files stay.
     os.rename(folder + "/region", folder + "/region.away")
     yield "other sizes", call(program, [folder, *RUN, "--page", "4096", "--entries", "2"], AGAIN), (READ, 0)
     yield "their region", call(program, [folder, "look"]), (b"region 1 4096 2 1 0\nname 0 a\nend 0 0\n", 0)
+
+
+def sizes(program, folder):
+    """A file has as many bytes as its pages. A region that is there keeps its own page, and a run is told how many pages it has."""
+    given = b"file a\nfd 0 a rw\n0 pwrite 0 63 0909\n0 pwrite 0 128 09\n"
+    report = b"0 0 pwrite 0 63 2 = 2\nrefused 0 pwrite 0 128 1: too far\nfile a 65 %s0909\nend 1 1 0\n" % (b"00" * 63)
+    yield "a page of 128 bytes", call(program, [folder, *RUN, "--page=128", "--pages", "1"], given), (report, 0)
+    given = b"file a\nfd 0 a rw\n0 pwrite 0 63 0808\n0 pread 0 8191 1\n0 pread 0 8192 1\n"
+    report = b"0 0 pwrite 0 63 2 = 2\n1 0 pread 0 8191 1 = -\nrefused 0 pread 0 8192 1: too far\nfile a 65 %s0808\nend 2 1 0\n" % (b"00" * 63)
+    yield "its page is kept", call(program, [folder, *RUN], given), (report, 0)
 
 
 def shown(program, folder):
@@ -176,25 +189,6 @@ def region_of(folder):
     return found
 
 
-def words_of(*words):
-    return b"".join(word.to_bytes(8, "little") for word in words)
-
-
-def lines_of(*lines):
-    """Lines of words, each with zeros behind it."""
-    return b"".join(words_of(*line).ljust(64, b"\0") for line in lines)
-
-
-def write_region(folder, page, tail, entries):
-    """A region of one file `a`, made by hand: each entry by its words and the first bytes of its page."""
-    os.makedirs(folder + "/region", exist_ok=True)
-    header = lines_of((int.from_bytes(b"NVCACHE1", "little"), 1, page, len(entries), 1), (tail,), (1, ord("a")))
-    parts = [header.ljust(18 * 64, b"\0")] + [lines_of(words) + data.ljust(page, b"\0") for words, data in entries]
-    for number, part in enumerate(parts):
-        with open(f"{folder}/region/part-{number}", "wb") as file:
-            file.write(part)
-
-
 def guarded(program, folder):
     """A run makes no region anew where something of one is left, or where something else stands, and lets no two names be one file."""
     header, part = folder + "/region/part-0", folder + "/region/part-1"
@@ -223,7 +217,7 @@ def guarded(program, folder):
 
 def remains(program, folder):
     """A header that is no region's: of some bytes a run leaves it, of zeros or of a header's fields without the magic it makes a region."""
-    fields = lines_of((0, 1, 64, 16))
+    fields = struct.pack("<8Q", 0, 1, 64, 16, 0, 0, 0, 0)
     os.mkdir(folder + "/region")
     for name, held, wanted in (
         ("bytes and no line", b"notes", DEVICE),
@@ -237,33 +231,6 @@ def remains(program, folder):
             file.write(held)
         yield name, call(program, [folder, *RUN], HELLO), wanted
         yield f"{name}, the file", wanted == (REPORT, 0) or region_of(folder) == {"part-0": held}, True
-
-
-def looks(program, folder):
-    """Regions made by hand: a look shows them and changes nothing, one with files refuses what a recovery does."""
-    yield "a look at nothing", call(program, [folder, "look"]), NO_HEADER
-    yield "a word too many", call(program, [folder, "look", "--files", ""]), USAGE
-    write_region(folder, 64, 5, [((0,), b""), ((6, 0, 0, 1, 1, 5), b"*")])
-    listed = b"region 1 64 2 1 5\nname 0 a\ngroup 5 1 0 0 1\n%send 1 0\n"
-    was = region_of(folder)
-    yield "a look", call(program, [folder, "look"]), (listed % b"", 0)
-    yield "a look with files", call(program, [folder, "look", "--files"]), (listed % b"file a 1 2a\n", 0)
-    yield "what was looked at", region_of(folder) == was, True
-    yield "its recovery", call(program, [folder, "recover"]), (b"recovered 5 6 1\nfile a 1 2a\n", 0)
-    emptied = b"region 1 64 2 1 6\nname 0 a\nend 0 0\n"
-    yield "a look behind it", call(program, [folder, "look"]), (emptied, 0)
-    write_region(folder, 64, 0, [((0,), b""), ((2, 0, 0, 1, 1, 1), b"x"), ((0,), b""), ((4, 0, 0, 0, 1, 3), b"y")])
-    listed = b"region 1 64 4 1 0\nname 0 a\nhole 0 1\ngroup 1 1 0 0 1\nhole 2 3\nbad 3\nend 1 1\n"
-    refused = (b"error region bad entry 3\n", 7)
-    was = region_of(folder)
-    for name, words, wanted in (
-        ("a look at", ["look"], (listed, 0)),
-        ("a look with files at", ["look", "--files"], refused),
-        ("a recovery of", ["recover"], refused),
-        ("another look at", ["look"], (listed, 0)),
-    ):
-        yield f"{name} a bad entry", call(program, [folder, *words]), wanted
-    yield "a region with a bad entry", region_of(folder) == was, True
 
 
 def rights(program, folder):
@@ -430,7 +397,7 @@ def killed(program, folder, writes=WRITES):
 
 
 def main(program, option=None, writes=WRITES):
-    runs = [lives, shown, refusals, obstacles, guarded, remains, looks, rights, disks, full_disks, killed]
+    runs = [lives, sizes, shown, refusals, obstacles, guarded, remains, rights, disks, full_disks, killed]
     if option == "--killed":
         runs = [lambda program, folder: killed(program, folder, int(writes))]
     passed = failed = 0

@@ -2,7 +2,7 @@
 """Runs nv_sim as its users do, and compares what it writes and its exit status with a table.
 
 The gate before this proves what nv_main answers; here the words, the standard streams and the status go through the
-system. Closes with 'N passed, M failed', and fails where one fails.
+system. rows.py has the commands and their reports. Closes with 'N passed, M failed', and fails where one fails.
 """
 
 import os
@@ -17,8 +17,6 @@ READ = (b"error read\n", 3)
 RUN = [b"run", b"--noworker"]
 IN_ROUNDS = b"file a\nfd 0 a rw\n0 pwrite 0 0 01\nround\n1 pread 0 0 8\nround\n0 pwrite 0 1 02\n"
 IN_TURN = b"0 0 pwrite 0 0 1 = 1\n1 1 pread 0 0 8 = 01\n2 0 pwrite 0 1 1 = 1\nfile a 2 0102\nend 3 0 0\n"
-SIX_WRITES = b"file a\nfd 0 a rw\n" + b"".join(b"0 pwrite 0 %d 0%d\n" % (k, k) for k in range(6))
-ROOM_MADE = b"".join(b"%d 0 pwrite 0 %d 1 = 1\n" % (k, k) for k in range(6)) + b"file a 6 000102030405\nend 6 0 0\n"
 # The first limits that a user meets: a file of 4,096 bytes, a call of 16 pages, a log of 16 entries.
 AT_THE_END = b"file a\nfd 0 a rw\n0 pfill 0 4095 1 1\n0 pfill 0 4096 1 1\n0 pread 0 4095 2\n"
 ENDED = b"0 0 pwrite 0 4095 1 = 1\nrefused 0 pwrite 0 4096 1: too far\nrefused 0 pread 0 4095 2: too far\n"
@@ -42,7 +40,6 @@ TABLE = [
     ("the command alone", [b"run"], HELLO, (REPORT, 0)),
     ("two threads in rounds", [b"run"], IN_ROUNDS, (IN_TURN, 0)),
     ("two threads in rounds and no worker", RUN, IN_ROUNDS, (IN_TURN, 0)),
-    ("a worker that makes room", [b"run", b"--entries", b"2"], SIX_WRITES, (ROOM_MADE, 0)),
     ("no line feed at the end", RUN, HELLO[:-1], (REPORT, 0)),
     ("an empty input", RUN, b"", (b"end 0 0 0\n", 0)),
     ("stopped, the write lost", RUN + [b"--stop", b"12"], HELLO, (STOPPED % (b"lost", b"0 -"), 0)),
@@ -59,27 +56,13 @@ TABLE = [
     ("the end of a file", RUN, AT_THE_END, (ENDED + b"file a 4096 " + b"00" * 4095 + b"01\nend 1 2 0\n", 0)),
     ("sixteen pages", [b"run"], SIXTEEN_PAGES, (LENGTHS + b"file a 1024 " + b"02" * 1024 + b"\nend 1 2 0\n", 0)),
     ("seventeen entries", RUN, SEVENTEEN, (FULL, 0)),
-    ("a page that is no whole lines", RUN + [b"--page", b"65"], HELLO, USAGE),
     ("a recovery of nothing", [b"recover"], b"", (b"error region truncated 0 18\n", 7)),
     ("a look at nothing", [b"look"], b"", (b"error region truncated 0 18\n", 7)),
     ("a look at nothing and its files", [b"look", b"--files"], b"", (b"error region truncated 0 18\n", 7)),
-    ("a stop at no call", RUN + [b"--stop", b"0"], HELLO, USAGE),
     ("two stops", RUN + [b"--stop", b"3", b"--stop=4"], HELLO, USAGE),
-    ("an image past the limit", RUN + [b"--image", b"4294967296"], HELLO, USAGE),
-    ("an image of no name", RUN + [b"--image", b"NEW"], HELLO, USAGE),
-    ("an option of a recovery", [b"recover", b"--noworker"], HELLO, USAGE),
     ("an option of a look", [b"look", b"--noworker"], HELLO, USAGE),
     ("the option of a look twice", [b"look", b"--files", b"--files"], HELLO, USAGE),
-    ("no words", [], HELLO, USAGE),
-    ("the option alone", [b"--noworker"], HELLO, USAGE),
-    ("words exchanged", [b"--noworker", b"run"], HELLO, USAGE),
-    ("the option twice", RUN + [b"--noworker"], HELLO, USAGE),
-    ("a word too many", RUN + [b""], HELLO, USAGE),
-    ("help", [b"--help"], HELLO, USAGE),
-    ("help of the command", [b"run", b"--help"], HELLO, USAGE),
-    ("two dashes", [b"--"], HELLO, USAGE),
     ("an empty word", [b""], HELLO, USAGE),
-    ("another case", [b"Run", b"--noworker"], HELLO, USAGE),
     ("the first word not UTF-8", [b"\xff", b"--noworker"], HELLO, USAGE),
     ("the second word not UTF-8", [b"run", b"\xc3\x28"], HELLO, USAGE),
     ("a third word not UTF-8", RUN + [b"\xed\xa0\x80"], HELLO, USAGE),
