@@ -4,8 +4,6 @@
 #[cfg(test)]
 mod given;
 #[cfg(test)]
-mod headers;
-#[cfg(test)]
 mod openings;
 #[cfg(test)]
 mod recoveries;

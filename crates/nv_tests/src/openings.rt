@@ -7,7 +7,7 @@ ghost use Rattle.nv_bench.specs.MemBench.{mem_state};
 
 use nv_bench::{Bench, MemBench, power_leaves_an_image};
 use nv_header::Names;
-use nv_open::{OpenError, Opened, Refusal, open, recover_region};
+use nv_open::{Opened, open, recover_region};
 use nv_plain::{Bytes, NoMemory};
 use nv_pmem::{Geometry, MemPart, Pick, images_follow_calls};
 use nv_store::{Backing, MemStore, StoreFault};
@@ -84,54 +84,6 @@ fn recovers_two_groups(rt: HostRuntime) -> Result<(), Fail> {
     for store in &mut stores {
         assert_eq!(rt; contents(store), Ok(*b"abcde.##"));
     }
-    Ok(())
-}
-
-// Why the region of a bench isn't recovered.
-fn refusal(alloc: Global, bench: &mut MemBench) -> Option<OpenError>
-    requires closed { (mem_state bench.old).is_open ≡ false }
-    requires home { (mem_state bench.old).lent ≡ [] }
-    requires quiet { IfSome (mem_state bench.old).told IsQuietHolding }
-{
-    recover_region(alloc, bench).err()
-}
-
-#[test]
-fn refuses_a_bad_magic(rt: HostRuntime) -> Result<(), Fail> {
-    let entry = entry([0; 6], [0; 3]);
-    let mut bench = MemBench::of(
-        rt.alloc(),
-        &[&header(MAGIC + 1)[..], &entry[..], &entry[..]],
-        &[],
-        &[],
-    )?;
-    let why = refusal(rt.alloc(), &mut bench);
-    assert_eq!(rt; why, Some(OpenError::Refused(Refusal::BadMagic)));
-    Ok(())
-}
-
-#[test]
-fn refuses_what_is_too_short(rt: HostRuntime) -> Result<(), Fail> {
-    let entry = entry([0; 6], [0; 3]);
-    let mut bench = MemBench::of(
-        rt.alloc(),
-        &[&header(MAGIC)[..], &entry[..], &entry[..64]],
-        &[],
-        &[],
-    )?;
-    let why = refusal(rt.alloc(), &mut bench);
-    let lack = Refusal::Truncated {
-        found: 21,
-        wanted: 22,
-    };
-    assert_eq!(rt; why, Some(OpenError::Refused(lack)));
-    let mut none = new_bench(rt.alloc())?;
-    let why = refusal(rt.alloc(), &mut none);
-    let lack = Refusal::Truncated {
-        found: 0,
-        wanted: 18,
-    };
-    assert_eq!(rt; why, Some(OpenError::Refused(lack)));
     Ok(())
 }
 

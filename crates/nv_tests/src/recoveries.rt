@@ -1,5 +1,5 @@
 //! Tests of recoveries.
-ghost use Rattle.std.specs.Prelude.{◌≡◌, ℕ, ◌+◌, ◌<◌, ◌≤◌, length, map, All, IfOk};
+ghost use Rattle.std.specs.Prelude.{◌≡◌, ℕ, ◌+◌, ◌<◌, length, map, All, IfOk};
 ghost use Rattle.nv_pmem.specs.MemPart.{part_history, part_room};
 ghost use Rattle.nv_pmem.specs.Rows.{RowTells, AreQuiet};
 ghost use Rattle.nv_store.specs.MemStore.{store_history};
@@ -8,22 +8,18 @@ ghost use Rattle.nv_recover.specs.Standing.{AreQuietStores};
 use nv_header::{Region, check_lines, needed_lines_make_parts, read_head};
 use nv_look::{Text, dry_files, look};
 use nv_plain::PlainFiles;
-use nv_pmem::{Fuse, Lines, MemPart, Pick, Picker};
+use nv_pmem::{Lines, MemPart, Pick, Picker};
 use nv_recover::{RecoverError, Recovered, recover};
 use nv_store::{Backing, MemStore, StoreFault};
 use std::alloc::Global;
 use std::test::Fail;
 
-// More device calls than a recovery makes.
-const UNSTOPPED: u64 = 1 << 32;
-
 // The commit word of an entry, its file, where its bytes go, their size, the count of its group, and its leader.
 type Words = [u64; 6];
 
-// The devices of a region with a page of 64 bytes. Their calls fail as the one fuse says.
+// The devices of a region with a page of 64 bytes.
 #[derive(Drop)]
 struct Bench {
-    fuse: Fuse,
     parts: Vec<MemPart>,
     stores: Vec<MemStore>,
 }
@@ -41,14 +37,8 @@ fn line(words: Words) -> [u8; 64] {
 }
 
 // The header's part: so many entries, files (of the names `a` and `b`), and this tail.
-fn header(
-    alloc: Global,
-    fuse: &Fuse,
-    entries: u64,
-    files: u64,
-    tail: u64,
-) -> Result<MemPart, Fail> {
-    let mut part = MemPart::fused(alloc, 18, fuse.copy()?)?;
+fn header(alloc: Global, entries: u64, files: u64, tail: u64) -> Result<MemPart, Fail> {
+    let mut part = MemPart::new(alloc, 18)?;
     let magic = u64::from_le_bytes(*b"NVCACHE1");
     part.store_line(0, &line([magic, 1, 64, entries, files, 0]))?;
     part.store_line(1, &line([tail, 0, 0, 0, 0, 0]))?;
@@ -63,8 +53,8 @@ fn header(
 }
 
 // The part of an entry with these words, and this byte 64 times.
-fn entry(alloc: Global, fuse: &Fuse, words: Words, byte: u8) -> Result<MemPart, Fail> {
-    let mut part = MemPart::fused(alloc, 2, fuse.copy()?)?;
+fn entry(alloc: Global, words: Words, byte: u8) -> Result<MemPart, Fail> {
+    let mut part = MemPart::new(alloc, 2)?;
     part.store_line(0, &line(words))?;
     part.store_line(1, &[byte; 64])?;
     part.flush(0)?;
@@ -75,22 +65,17 @@ fn entry(alloc: Global, fuse: &Fuse, words: Words, byte: u8) -> Result<MemPart, 
 
 // A region of these entries, with so many files and this tail. The store of `a` holds 4 dots, and that of `b` nothing.
 fn bench_of(alloc: Global, files: u64, tail: u64, entries: &[(Words, u8)]) -> Result<Bench, Fail> {
-    let fuse = Fuse::new(alloc, &[])?;
     let mut parts = Vec::new(alloc);
-    parts.push(header(alloc, &fuse, entries.len() as u64, files, tail)?)?;
+    parts.push(header(alloc, entries.len() as u64, files, tail)?)?;
     for (words, byte) in entries {
-        parts.push(entry(alloc, &fuse, *words, *byte)?)?;
+        parts.push(entry(alloc, *words, *byte)?)?;
     }
     let mut stores = Vec::new(alloc);
-    stores.push(MemStore::fused(alloc, b"....", fuse.copy()?)?)?;
+    stores.push(MemStore::new(alloc, b"....")?)?;
     if files > 1 {
-        stores.push(MemStore::fused(alloc, b"", fuse.copy()?)?)?;
+        stores.push(MemStore::new(alloc, b"")?)?;
     }
-    Ok(Bench {
-        fuse,
-        parts,
-        stores,
-    })
+    Ok(Bench { parts, stores })
 }
 
 // Three groups, of the numbers 0, 1 and 2, and 3 to 5; and two entries that were never written.
@@ -138,18 +123,13 @@ fn lose_power(parts: &mut [MemPart], stores: &mut [MemStore], pick: Pick)
     }
 }
 
-// The parts lose power, and then the stores, and what is left is recovered. Device call `stop` of the recovery and the later
-// ones fail. An error where the parts are too few or short, or the stores aren't as many as the header says.
+// The parts lose power, and then the stores, and what is left is recovered. An error where the parts are too few or short, or the stores aren't as many as the header says.
 fn recovery(
     alloc: Global,
     parts: Vec<MemPart>,
     stores: &mut Vec<MemStore>,
-    fuse: &Fuse,
     pick: Pick,
-    stop: u64,
-) -> Result<Recovery, Fail>
-    requires { 1 ≤ stop }
-{
+) -> Result<Recovery, Fail> {
     let mut parts = parts;
     lose_power(&mut parts, stores, pick);
     let head = read_head(alloc, &mut parts)?;
@@ -158,39 +138,14 @@ fn recovery(
     if stores.len() != head.names.len() {
         return Err(RecoverError::RegionFault.into());
     }
-    fuse.arm(stop);
-    let answer = recover(alloc, head, parts, stores);
-    fuse.disarm();
-    Ok(answer)
-}
-
-// The recovery is stopped at this device call, and another one isn't.
-fn recovers_after(alloc: Global, stop: u64) -> Result<(Recovered, Vec<MemStore>), Fail>
-    requires { 1 ≤ stop }
-{
-    let Bench {
-        fuse,
-        parts,
-        mut stores,
-    } = bench_of(alloc, 2, 0, &THREE_GROUPS)?;
-    let parts = match recovery(alloc, parts, &mut stores, &fuse, Pick::New, stop)? {
-        Ok((region, _found)) => region.into_parts(),
-        Err((parts, _error)) => parts,
-    };
-    let answer = recovery(alloc, parts, &mut stores, &fuse, Pick::Torn, UNSTOPPED)?;
-    let (_region, found) = answer.map_err(|failed| failed.1)?;
-    Ok((found, stores))
+    Ok(recover(alloc, head, parts, stores))
 }
 
 #[test]
 fn recovers_three_groups(rt: HostRuntime) -> Result<(), Fail> {
     let alloc = rt.alloc();
-    let Bench {
-        fuse,
-        parts,
-        mut stores,
-    } = bench_of(alloc, 2, 0, &THREE_GROUPS)?;
-    let answer = recovery(alloc, parts, &mut stores, &fuse, Pick::New, UNSTOPPED)?;
+    let Bench { parts, mut stores } = bench_of(alloc, 2, 0, &THREE_GROUPS)?;
+    let answer = recovery(alloc, parts, &mut stores, Pick::New)?;
     let (region, found) = answer.map_err(|failed| failed.1)?;
     assert_eq!(rt; found.first, 0);
     assert_eq!(rt; found.groups.as_slice(), [0, 1, 3].as_slice());
@@ -198,72 +153,6 @@ fn recovers_three_groups(rt: HostRuntime) -> Result<(), Fail> {
     assert_eq!(rt; region.next(), 6);
     for (store, bytes) in stores.iter_mut().zip(three_groups_files()) {
         assert_eq!(rt; contents(store), Ok(bytes));
-    }
-    Ok(())
-}
-
-// Stopped before its first call, among the writes, and not at all.
-#[test]
-fn recovers_after_a_stop(rt: HostRuntime) -> Result<(), Fail> {
-    for (stop, first) in [(1, 0), (60, 0), (UNSTOPPED, 6)] {
-        let (found, mut stores) = recovers_after(rt.alloc(), stop)?;
-        assert_eq!(rt; found.first, first, "at {stop}");
-        assert_eq!(rt; found.next, 6, "at {stop}");
-        for (store, bytes) in stores.iter_mut().zip(three_groups_files()) {
-            assert_eq!(rt; contents(store), Ok(bytes), "at {stop}");
-        }
-    }
-    Ok(())
-}
-
-// Of tail 4: number 4, committed; number 5, whose commit word isn't stored; number 6, committed; and of an older turn
-// number 3, committed, in place of number 7.
-#[test]
-fn passes_what_is_not_committed(rt: HostRuntime) -> Result<(), Fail> {
-    let alloc = rt.alloc();
-    let entries = [
-        ([5, 0, 0, 1, 1, 4], b'a'),
-        ([0, 0, 1, 1, 1, 5], b'b'),
-        ([7, 0, 2, 1, 1, 6], b'c'),
-        ([4, 0, 3, 1, 1, 3], b'd'),
-    ];
-    let Bench {
-        fuse,
-        parts,
-        mut stores,
-    } = bench_of(alloc, 1, 4, &entries)?;
-    let answer = recovery(alloc, parts, &mut stores, &fuse, Pick::New, UNSTOPPED)?;
-    let (_region, found) = answer.map_err(|failed| failed.1)?;
-    assert_eq!(rt; found.first, 4);
-    assert_eq!(rt; found.groups.as_slice(), [4, 6].as_slice());
-    assert_eq!(rt; found.next, 7);
-    for store in &mut stores {
-        let bytes = contents(store)?;
-        assert_eq!(rt; &bytes[..6], b"a.c.##".as_slice());
-    }
-    Ok(())
-}
-
-#[test]
-fn refuses_bad_entries(rt: HostRuntime) -> Result<(), Fail> {
-    let alloc = rt.alloc();
-    for (first, second, number) in [
-        ([1, 0, 0, 0, 1, 0], [0; 6], 0),
-        ([1, 0, 0, 64, 3, 0], [0; 6], 0),
-        ([1, 0, 0, 64, 2, 0], [0, 0, 64, 1, 0, 7], 1),
-        ([1, 0, 0, 64, 2, 0], [2, 0, 64, 1, 0, 0], 1),
-        ([0; 6], [2, 0, 0, 64, 2, 1], 1),
-        ([1, 1, 0, 1, 1, 0], [0; 6], 0),
-    ] {
-        let entries = [(first, b'x'), (second, b'x')];
-        let Bench {
-            fuse,
-            parts,
-            mut stores,
-        } = bench_of(alloc, 1, 0, &entries)?;
-        let answer = recovery(alloc, parts, &mut stores, &fuse, Pick::New, UNSTOPPED)?;
-        let error = answer.err().map(|failed| failed.1);
-        assert_eq!(rt; error, Some(RecoverError::BadEntry { number }));
     }
     Ok(())
 }
@@ -294,80 +183,18 @@ fn dried(alloc: Global, parts: &mut [MemPart], stores: &mut [MemStore]) -> Resul
     Ok(dry_files(alloc, &head, parts, stores))
 }
 
-// A whole group; three of them, one of which goes on at the ring's begin; a hole, and a commit word of an older turn; a group that
-// breaks a rule behind a good one; and one whose follower is committed too, so that both numbers are bad.
 #[test]
-fn regions_are_listed_and_recovered_dry(rt: HostRuntime) -> Result<(), Fail> {
+fn three_groups_are_listed_and_recovered_dry(rt: HostRuntime) -> Result<(), Fail> {
     let alloc = rt.alloc();
-    let cases: [(u64, u64, &[(Words, u8)], &str, Option<u64>, &[u8]); 5] = [
-        (
-            1,
-            5,
-            &[([0; 6], 0), ([6, 0, 0, 1, 1, 5], 0x2a)],
-            "region 1 64 2 1 5\nname 0 a\ngroup 5 1 0 0 1\nend 1 0\n",
-            None,
-            b"*...",
-        ),
-        (
-            2,
-            0,
-            &THREE_GROUPS,
-            "region 1 64 8 2 0\nname 0 a\nname 1 b\ngroup 0 1 0 1 3\ngroup 1 2 1 60 8\ngroup 3 3 0 2 130\nend 3 0\n",
-            None,
-            &three_groups_files()[0][..132],
-        ),
-        (
-            1,
-            4,
-            &[
-                ([5, 0, 0, 1, 1, 4], b'a'),
-                ([0, 0, 1, 1, 1, 5], b'b'),
-                ([7, 0, 2, 1, 1, 6], b'c'),
-                ([4, 0, 3, 1, 1, 3], b'd'),
-            ],
-            "region 1 64 4 1 4\nname 0 a\ngroup 4 1 0 0 1\nhole 5 6\ngroup 6 1 0 2 1\nend 2 0\n",
-            None,
-            b"a.c.",
-        ),
-        (
-            1,
-            0,
-            &[
-                ([0; 6], 0),
-                ([2, 0, 0, 1, 1, 1], b'a'),
-                ([0; 6], 0),
-                ([4, 0, 0, 0, 1, 3], b'b'),
-            ],
-            "region 1 64 4 1 0\nname 0 a\nhole 0 1\ngroup 1 1 0 0 1\nhole 2 3\nbad 3\nend 1 1\n",
-            Some(3),
-            b"",
-        ),
-        (
-            1,
-            0,
-            &[([1, 0, 0, 64, 2, 0], b'a'), ([2, 0, 64, 1, 0, 0], b'b')],
-            "region 1 64 2 1 0\nname 0 a\nbad 0\nbad 1\nend 0 2\n",
-            Some(1),
-            b"",
-        ),
-    ];
-    for (files, tail, entries, text, bad, bytes) in cases {
-        let Bench {
-            mut parts,
-            mut stores,
-            ..
-        } = bench_of(alloc, files, tail, entries)?;
-        let shown = listed(alloc, &mut parts, &mut stores)?;
-        assert_eq!(rt; shown.as_slice(), text.as_bytes());
-        match dried(alloc, &mut parts, &mut stores)? {
-            Ok(plain) => assert_eq!(rt; plain.bytes(0), bytes),
-            Err(error) => {
-                assert_eq!(rt;
-                    Some(error),
-                    bad.map(|number| RecoverError::BadEntry { number })
-                );
-            }
-        }
-    }
+    let Bench {
+        mut parts,
+        mut stores,
+    } = bench_of(alloc, 2, 0, &THREE_GROUPS)?;
+    let shown = listed(alloc, &mut parts, &mut stores)?;
+    let plain = dried(alloc, &mut parts, &mut stores)??;
+    let text =
+        b"region 1 64 8 2 0\nname 0 a\nname 1 b\ngroup 0 1 0 1 3\ngroup 1 2 1 60 8\ngroup 3 3 0 2 130\nend 3 0\n";
+    let file = &three_groups_files()[0][..132];
+    assert_eq!(rt; (shown.as_slice(), plain.bytes(0)), (text.as_slice(), file));
     Ok(())
 }

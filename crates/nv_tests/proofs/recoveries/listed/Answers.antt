@@ -1,4 +1,4 @@
-use Rattle.std.proofs.Common.{List, map, refl}
+use Rattle.std.proofs.Common.{map, refl}
 use Rattle.nv_plain.specs.Layouts.{version_1}
 use Rattle.nv_pmem.specs.MemPart.{part_room}
 use Rattle.nv_tests.proofs.TestRegions.{all_spare}

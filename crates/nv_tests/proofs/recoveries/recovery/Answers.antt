@@ -9,8 +9,8 @@ use Rattle.nv_header.specs.Regions.{HasParts}
 use Rattle.nv_tests.proofs.TestRegions.{all_spare, written_back}
 use Rattle.nv_tests.proofs.recoveries.recovery.Goals as goal
 
-pub recover-answer-requires-clause-parts : goal.recover-answer-requires-clause-parts
-recover-answer-requires-clause-parts c =
+pub recover-requires-clause-parts : goal.recover-requires-clause-parts
+recover-requires-clause-parts c =
     let page = c.in_ok-head.head.geometry.page in
     let entries = c.in_ok-head.head.geometry.entries in
     let len = c.args.parts.len in
