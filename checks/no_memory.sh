@@ -1,7 +1,8 @@
 #!/usr/bin/env bash
-# Counts what calls that take no memory allocate, and makes some of them beside a lock that is held: no_memory/main.rt.txt gets them ready, and
-# makes them or not, and in both runs as many allocations must be left up to the one that fails. It proves nothing, and builds anew each time, which takes most of a minute.
-# The program's file ends in .txt, since rt refuses .rt files outside of crates/.
+# Counts what calls that take no memory allocate, call by call: no_memory/main.rt.txt gets them ready, makes all of them in each run, and
+# says how many allocations are left up to the one that fails, behind the call whose number it is given. Behind each call there must be as
+# many as before the first one, also where it met a fault or a lock that another pass held. It proves nothing, and builds anew each time,
+# which takes most of a minute, as the program runs once a call. The program's file ends in .txt, since rt refuses .rt files outside of crates/.
 set -eu
 cd "$(dirname "$0")/.."
 room=$(mktemp -d)
@@ -16,17 +17,24 @@ grep -E "^nv_" crates.txt | cut -d : -f 1 | while read -r crate; do
 done
 {
     cat crates.txt
-    echo "no_memory: nv_plain nv_pmem nv_store nv_bench nv_header nv_table nv_mount nv_calls"
+    echo "no_memory: nv_plain nv_pmem nv_store nv_bench nv_header nv_table nv_mount nv_calls nv_clean"
 } > "$room/crates.txt"
-: > "$room/cases/ready"
-echo calls > "$room/cases/made"
+# More numbers than there are calls.
+for call in {00..57}; do
+    : > "$room/cases/$call"
+    echo "$call" > "$room/cases/$call.args"
+done
 cd "$room/crates/no_memory"
 said=$(rt try --fail-alloc 3000 --cases "$room/cases" 2>&1 < /dev/null) || { echo "$said"; exit 1; }
-echo "$said"
-left=$(grep -E "^left [0-9]+$" <<< "$said")
-if [ "$(wc -l <<< "$left")" = 2 ] && [ "$(sort -u <<< "$left" | wc -l)" = 1 ] && ! grep -q "^answered otherwise" <<< "$said"; then
-    echo "1 passed, 0 failed"
-else
-    echo "0 passed, 1 failed"
-    exit 1
-fi
+wrong=$(grep "^answered otherwise" <<< "$said" | sort -u) || true
+counts=$(sed -nE 's/^call ([0-9]+) of ([0-9]+) left ([0-9]+) (.*)$/\1\t\2\t\3\t\4/p' <<< "$said" | sort -n -u)
+awk -F '\t' -v wrong="$wrong" '
+    $1 >= $2 { next }
+    seen++ && $3 != left { print $4 " took memory " left - $3 " times"; failed++ }
+    { made = $2; left = $3 }
+    END {
+        if (wrong) { print wrong; failed++ }
+        if (!seen || seen != made) { print "counted behind " seen + 0 " of " made + 0 " calls"; failed++ }
+        print seen - failed " passed, " failed + 0 " failed"
+        exit failed > 0
+    }' <<< "$counts"
