@@ -1,12 +1,12 @@
 //! Tests of commands.
-ghost use Rattle.std.specs.Prelude.{◌≡◌, ◌+◌, ◌≤◌, [], false, map, string_bytes, IfOk, IfSome, OnOk};
+ghost use Rattle.std.specs.Prelude.{◌≡◌, ◌+◌, ◌≤◌, [], false, map, string_bytes, IfOk, IfSome};
 ghost use Rattle.nv_bench.specs.Holding.{IsQuietHolding};
 ghost use Rattle.nv_bench.specs.MemBench.{mem_state};
 ghost use Rattle.nv_top.specs.Words.{names_schedule};
 
-use nv_bench::{Bench, MemBench, power_leaves_an_image};
+use nv_bench::MemBench;
 use nv_plain::NoMemory;
-use nv_pmem::{Pick, images_follow_calls};
+use nv_pmem::images_follow_calls;
 use nv_top::{OpenGate, nv_main};
 use nv_trace::{MemSink, MemSource};
 use std::alloc::Global;
@@ -17,13 +17,7 @@ use std::thread::Threads;
 
 pub(crate) const RUN: &[&str] = &["run", "--noworker"];
 
-pub(crate) const WITH_WORKER: &[&str] = &["run"];
-
 pub(crate) const RECOVER: &[&str] = &["recover"];
-
-pub(crate) const LOOK: &[&str] = &["look"];
-
-pub(crate) const LOOK_AT_FILES: &[&str] = &["look", "--files"];
 
 // A trace of six writes of one byte, each behind the one before.
 pub(crate) const SIX_WRITES: &str =
@@ -111,20 +105,6 @@ pub(crate) fn new_bench(alloc: Global, fails: &[u64]) -> Result<MemBench, NoMemo
 {
     images_follow_calls();
     MemBench::new(alloc, fails)
-}
-
-// Power goes off, and comes back.
-pub(crate) fn lose_power(bench: &mut MemBench, pick: Pick) -> Result<(), NoMemory>
-    requires closed { (mem_state bench.old).is_open ≡ false }
-    requires home { (mem_state bench.old).lent ≡ [] }
-    ensures closed { OnOk result ((mem_state bench.new).is_open ≡ false) }
-    ensures home { OnOk result ((mem_state bench.new).lent ≡ []) }
-    ensures quiet { OnOk result (IfSome (mem_state bench.new).told IsQuietHolding) }
-    ensures arms { OnOk result ((mem_state bench.new).arms ≡ (mem_state bench.old).arms) }
-    ensures settled { OnOk result ((mem_state bench.new).settled ≤ (mem_state bench.new).faults) }
-{
-    power_leaves_an_image();
-    bench.power(pick)
 }
 
 // A text, then two digits so many times, and then another text.

@@ -1,4 +1,6 @@
-//! Tests of the top call: whole commands, by their words, traces and reports. As `nv_tests`, it has no code of its own.
+//! Tests of the top call that are proved too: whole commands, by their words, traces and reports. Their rows, and loops over stops, sizes and
+//! failures, run the programs (checks/rows.py, regions.py, schedules.py, stops.py) or stand in checks/tests. As `nv_tests`, it has no code
+//! of its own.
 #![tactic(auto)]
 
 #[cfg(test)]
@@ -6,14 +8,8 @@ mod cases;
 #[cfg(test)]
 mod commands;
 #[cfg(test)]
-mod folders;
-#[cfg(test)]
 mod loads;
 #[cfg(test)]
 mod regions;
 #[cfg(test)]
 mod schedules;
-#[cfg(test)]
-mod stops;
-#[cfg(test)]
-mod threads;
