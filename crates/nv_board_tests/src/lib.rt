@@ -3,11 +3,9 @@
 #![tactic(auto)]
 
 #[cfg(test)]
-mod benches;
-#[cfg(test)]
 mod boards;
 #[cfg(test)]
-mod cleans;
+mod calls;
 #[cfg(test)]
 mod descriptors;
 #[cfg(test)]
@@ -16,15 +14,3 @@ mod given;
 mod machines;
 #[cfg(test)]
 mod mounts;
-#[cfg(test)]
-mod reads;
-#[cfg(test)]
-mod runs;
-#[cfg(test)]
-mod schedules;
-#[cfg(test)]
-mod syncs;
-#[cfg(test)]
-mod threads;
-#[cfg(test)]
-mod writes;

@@ -14,10 +14,10 @@ ghost use Rattle.nv_mount.specs.Telling.{AllDevicesTell, StoresHave};
 ghost use Rattle.nv_table.specs.state.Views.{first_view};
 ghost use Rattle.nv_table.specs.state.States.{IsOf};
 
-use crate::given::{region, stores};
+use crate::given::{region_of, stores};
 use nv_header::Region;
-use nv_mount::{Fds, Mount, OpenError, PassesOut, Unopened};
-use nv_pmem::{Fuse, Lines, MemPart};
+use nv_mount::{Fds, Mount, PassesOut, Unopened};
+use nv_pmem::{Lines, MemPart};
 use nv_store::{Backing, MemStore};
 use nv_table::{Closed, Pass, join_pass, split_pass};
 use std::alloc::Global;
@@ -41,8 +41,7 @@ fn opened(
 
 #[test]
 fn a_mount_is_closed_once_all_passes_are_in(rt: HostRuntime) -> Result<(), Fail> {
-    let fuse = Fuse::new(rt.alloc(), &[])?;
-    let (region, stores) = (region(rt.alloc())?, stores(rt.alloc(), &[1, 2, 3], fuse)?);
+    let (region, stores) = (region_of(rt.alloc(), 16)?, stores(rt.alloc(), &[1, 2, 3])?);
     let (mount, mut pass) = match opened(rt.alloc(), region, stores) {
         Ok((mount, pass)) => (mount, pass),
         Err(unopened) => return Err(unopened.error.into()),
@@ -94,8 +93,7 @@ fn closed_at_once<L: Lines + Drop, B: Backing + Drop>(
 
 #[test]
 fn a_mount_that_is_closed_at_once_leaves_its_stores(rt: HostRuntime) -> Result<(), Fail> {
-    let fuse = Fuse::new(rt.alloc(), &[])?;
-    let (region, stores) = (region(rt.alloc())?, stores(rt.alloc(), &[1, 2, 3], fuse)?);
+    let (region, stores) = (region_of(rt.alloc(), 16)?, stores(rt.alloc(), &[1, 2, 3])?);
     match closed_at_once(rt.alloc(), region, stores) {
         Ok(Ok(closed)) => {
             assert_eq!(rt; closed.tail, 0);
@@ -105,23 +103,6 @@ fn a_mount_that_is_closed_at_once_leaves_its_stores(rt: HostRuntime) -> Result<(
         }
         Ok(Err(_failed)) => panic!(rt; "no pass is out"),
         Err(unopened) => return Err(unopened.error.into()),
-    }
-    Ok(())
-}
-
-#[test]
-fn a_store_that_fails_is_not_mounted(rt: HostRuntime) -> Result<(), Fail> {
-    let fuse = Fuse::new(rt.alloc(), &[1])?;
-    let (region, stores) = (region(rt.alloc())?, stores(rt.alloc(), &[1, 2, 3], fuse)?);
-    match opened(rt.alloc(), region, stores) {
-        Ok(_made) => panic!(rt; "the store fails"),
-        Err(mut unopened) => {
-            assert_eq!(rt; unopened.error, OpenError::StoreFault);
-            assert_eq!(rt; unopened.region.into_parts().len(), 17);
-            assert_eq!(rt; unopened.stores.len(), 1);
-            assert_eq!(rt; unopened.stores[0].faults(), 1);
-            assert_eq!(rt; unopened.stores[0].len(), Ok(3));
-        }
     }
     Ok(())
 }

@@ -1,7 +1,7 @@
 -- The read is under way from wherever it was at first, and there are fewer and fewer steps before it.
 use Rattle.nv_table.specs.state.States.{IsOf, PassState}
 use Rattle.nv_calls.specs.reads.ReadMachines.{IsReadUnderWay, measure}
-use Rattle.nv_board_tests.proofs.reads.read_slowly.Given as goal
+use Rattle.nv_board_tests.proofs.machines.read_slowly.Given as goal
 
 abbrev pub invariant-loop-result : goal.invariant-loop-result
 invariant-loop-result g l = record {

@@ -10,7 +10,7 @@ use Rattle.nv_calls.specs.declared.progress.Progress.{Progress}
 use Rattle.nv_calls.specs.declared.progress.Progress.TheVariants.{More, Ended}
 use Rattle.nv_calls.specs.declared.syncing.SyncMachine.{SyncMachine}
 use Rattle.nv_calls.specs.fsync.SyncMachines.{IsSyncUnderWay, SyncGoes, measure}
-use Rattle.nv_board_tests.proofs.syncs.sync_slowly.Goals as goal
+use Rattle.nv_board_tests.proofs.machines.sync_slowly.Goals as goal
 
 -- one that isn't over is under way, by fewer steps
 goes_on : (fds : List Fd) (start : PassState) (m : SyncMachine) (now : PassState) (progress : Progress) → ((result : Result Done Refusal) → progress ≡ Ended result → ⊥) → SyncGoes fds start m now progress

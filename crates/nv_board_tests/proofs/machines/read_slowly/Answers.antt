@@ -1,7 +1,7 @@
 -- The read goes on by its advances, and leaves its pass idle at the end.
 use Rattle.std.proofs.Common.{sym, ◌∙◌}
 use Rattle.nv_calls.proofs.reads.OverLaws.{over_told, goes_on, fewer}
-use Rattle.nv_board_tests.proofs.reads.read_slowly.Goals as goal
+use Rattle.nv_board_tests.proofs.machines.read_slowly.Goals as goal
 
 pub loop-result-init : goal.loop-result-init
 loop-result-init g c = record { board = c.requires.board; since = λ start way. way }

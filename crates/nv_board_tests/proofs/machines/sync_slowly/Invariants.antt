@@ -1,7 +1,7 @@
 -- The sync is under way from where its pass was at first, and there are fewer and fewer steps before it.
 use Rattle.nv_table.specs.state.States.{IsOf}
 use Rattle.nv_calls.specs.fsync.SyncMachines.{IsSyncUnderWay, measure}
-use Rattle.nv_board_tests.proofs.syncs.sync_slowly.Given as goal
+use Rattle.nv_board_tests.proofs.machines.sync_slowly.Given as goal
 
 abbrev pub invariant-loop-result : goal.invariant-loop-result
 invariant-loop-result g l = record {

@@ -3,13 +3,13 @@ use Rattle.std.proofs.Common.{◌≡◌, []}
 use Rattle.nv_table.specs.invariant.Idle.{IsIdle, IsLater}
 use Rattle.nv_table.specs.state.States.{IsOf}
 use Rattle.nv_table.specs.state.Workspaces.{IsWorkspace}
-use Rattle.nv_board_tests.proofs.threads.call_until_done.Given as goal
+use Rattle.nv_board_tests.proofs.calls.played.Given as goal
 
-abbrev pub invariant-loop-i : goal.invariant-loop-i
-invariant-loop-i g l = record {
-  board : IsOf l.fn.mount.board l.pass;
+abbrev pub invariant-loop-row : goal.invariant-loop-row
+invariant-loop-row g l = record {
+  board : IsOf l.mount.board l.pass;
   idle : IsIdle l.pass;
-  later : IsLater l.fn.pass l.pass;
-  workspace : IsWorkspace l.fn.mount.board.opened.sizes l.workspace;
+  later : IsLater l.initial.pass l.pass;
+  workspace : IsWorkspace l.mount.board.opened.sizes l.workspace;
   bare : l.workspace.parts.items ≡ [];
 }

@@ -1,6 +1,0 @@
--- Each write leaves the pass between two calls.
-use Rattle.nv_table.proofs.steps.CallLaws.{later_self}
-use Rattle.nv_board_tests.proofs.threads.call_often.Goals as goal
-
-pub loop-i-init : goal.loop-i-init
-loop-i-init g c = record { board = c.requires.board; idle = c.requires.idle; later = later_self c.args.pass.now; workspace = c.requires.workspace; bare = c.requires.bare }
