@@ -50,6 +50,7 @@ early_heeds refusal start silent = record {
   stays = λ seen. seen;
   told = λ tells. absurd (silent_tells refusal silent tells);
   heeds = λ seen loads. absurd (true≢false (sym loads));
+  looked = λ stopped. absurd (silent_tells refusal silent (ap tells_stop stopped));
   sets = sym (untold_mild (Some refusal) silent);
 }
 

@@ -1,10 +1,14 @@
 -- A write without a place is open where its pass has kept it, and refused else. The run goes on with the last write behind the others and the batches between.
 use Rattle.std.proofs.Common.{ℕ, sym, subst, ◌∙◌, rules}
-use Rattle.std.specs.Prelude.{Result, Err}
+use Rattle.std.specs.Prelude.{Result, Ok, Err}
 use Rattle.nv_mirror.specs.declared.answers.Done.{Done}
 use Rattle.nv_mirror.specs.declared.answers.Refusal.{Refusal}
+use Rattle.nv_plain.specs.declared.call.FileCall.TheVariants.{Write}
+use Rattle.nv_plain.specs.declared.call.Reply.TheVariants.{Count}
+use Rattle.nv_mirror.specs.Answers.{IsPlacedAs}
 use Rattle.nv_runner.specs.Runs.{GoesOn}
 use Rattle.nv_calls.specs.writes.Writes.{IsWriteTried}
+use Rattle.nv_calls.proofs.histories.SinceLaws.{write_ok_since}
 use Rattle.nv_table.specs.state.States.{PassState}
 use Rattle.nv_runner.specs.declared.answer.Answer.{Answer}
 use Rattle.nv_runner.specs.Tries.{AnswersAs}
@@ -33,6 +37,13 @@ returns-then-not-makes_room-clause-opens g c =
     c.without_place.result c.pwrite.ensures.idle c.requires.board.same_mount c.loop.invariant.board.same_mount c.loop.invariant.unplaced c.in-Err.ensures.kept c.loop.invariant.opens c.in-Err.ensures.tried
     (c.faults_open_writes.ensures.writes c.args.mount.now.fds c.args.fd c.args.at c.args.bytes.now last now (Err refusal) c.sees_a_run.ensures.mount c.in-Err.ensures.tried) c.in-Err.ensures.free
     c.makes_room.ensures.ran c.if-not-makes_room.true c.makes_room.ensures.none c.without_place.ensures).opens
+
+pub returns-in-Ok-clause-told : goal.returns-in-Ok-clause-told
+returns-in-Ok-clause-told g c =
+    let so_far = c.loop.invariant in
+    let placed = write_ok_since c.args.mount.now.fds c.args.fd c.args.at c.args.bytes.now c.args.pass.now c.loop.pass c.pwrite.new.pass (Ok c.in-Ok.done) so_far.later so_far.unplaced
+    (so_far.board.same_mount ∙ sym c.requires.board.same_mount) c.in-Ok.ensures.done in
+    (placed.0, placed.1, subst (λ (n : ℕ). IsPlacedAs c.args.pass.now.view c.pwrite.new.pass.view (Write placed.0 c.args.at c.args.bytes.now) (Count n) c.in-Ok.done.place) (sym placed.2.count) placed.2.placed)
 
 pub returns-in-Ok-clause-on : goal.returns-in-Ok-clause-on
 returns-in-Ok-clause-on g c =
