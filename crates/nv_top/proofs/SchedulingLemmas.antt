@@ -43,6 +43,7 @@ use Rattle.nv_schedule.specs.Scheduled.{HasScheduled, HasTold}
 use Rattle.nv_schedule.specs.declared.schedule_error.ScheduleError.{ScheduleError}
 use Rattle.nv_schedule.specs.declared.schedule_error.ScheduleError.TheVariants.{Fault, NoMemory, TurnsUsed}
 use Rattle.nv_schedule.specs.declared.scheduled.ScheduledCalls.{ScheduledCalls}
+use Rattle.nv_top.specs.Runs.{HasCache}
 use Rattle.nv_top.specs.Outcomes.{shown_report}
 use Rattle.nv_top.specs.Reports.{report_text}
 use Rattle.nv_top.specs.Commands.{HasRecovered, recovery_of}
@@ -59,7 +60,7 @@ module _ (basis : Basis) (trace : Traced) (mount : MountState) (pass zero : Pass
     (parts : List lines.PartHistory) (held : List backing.StoreHistory) (faults placed tail : ℕ)
     (over : HasClosedOver basis trace mount pass zero part_values store_values parts held faults placed tail)
     (options : RunOptions) (lent armed : BenchState) (outcome : Result ScheduledCalls ScheduleError) (scheduled : HasScheduled mount trace.tokens trace.calls options.batch pass zero lent armed outcome)
-    (failed : Type 0) (saw : SawStop zero.view → failed) (allowed : AreFileNames version_1 basis.names)
+    (cached : HasCache options.cache mount) (failed : Type 0) (saw : SawStop zero.view → failed) (allowed : AreFileNames version_1 basis.names)
     (formed : IsWellFormed trace) (few : length trace.calls < 2 ^ 60) (rise : IsStrictlyIncreasing (lines_in trace)) (no_rounds : has_rounds trace.form ≡ false) (is_mount : IsMount (mount_of mount.board.opened))
     (begin_so : SchedulesBegin) (told_so : SchedulesAreTold) (legal_so : SchedulesAreLegal) (faithful_so : SchedulesAreFaithful) (files_so : DescriptorsSayFiles) (kept_so : LeftOpenAreKept)
     (stand_so : ReadableStandsForRecovered) (before : List Pick) (bench : BenchState) (text : List ℕ) (home after_power : Holding) (shows_so : ShowsOutcome after_power outcome bench.told text)
@@ -83,6 +84,7 @@ module _ (basis : Basis) (trace : Traced) (mount : MountState) (pass zero : Pass
         mount = mount;
         start = pass;
         begins = over.begins;
+        cached = cached;
         last = zero;
         lent = lent;
         armed = armed;
@@ -118,7 +120,7 @@ module _ (basis : Basis) (trace : Traced) (mount : MountState) (pass zero : Pass
     (parts : List lines.PartHistory) (held : List backing.StoreHistory) (faults placed tail : ℕ)
     (over : HasClosedOver basis trace mount pass zero part_values store_values parts held faults placed tail)
     (options : RunOptions) (lent armed : BenchState) (scheduled : HasScheduled mount trace.tokens trace.calls options.batch pass zero lent armed (Err TurnsUsed))
-    (failed : Type 0) (saw : SawStop zero.view → failed) (stand_so : ReadableStandsForRecovered) (bench : BenchState) (text : List ℕ) (home power : Holding) (recovered_so : HasRecovered power bench.told text)
+    (cached : HasCache options.cache mount) (failed : Type 0) (saw : SawStop zero.view → failed) (stand_so : ReadableStandsForRecovered) (bench : BenchState) (text : List ℕ) (home power : Holding) (recovered_so : HasRecovered power bench.told text)
     (power_left : bench.left ≡ Some power) (picked : bench.picked ≡ options.image ∷ lent.picked) (cells : HoldsCells zero.view basis.names home) (power_is : power ≡ powered options.image home)
     (many : ℕ) (many_so : length power.parts ≡ many) (others : List NamedStore) (others_so : without_stores basis.names power.stores ≡ others)
     (arms : bench.arms ≡ armed.arms) (armed_so : bench.armed ≡ armed.armed)
@@ -145,6 +147,7 @@ module _ (basis : Basis) (trace : Traced) (mount : MountState) (pass zero : Pass
     mount = mount;
     start = pass;
     begins = over.begins;
+    cached = cached;
     last = zero;
     lent = lent;
     armed = armed;
@@ -210,6 +213,7 @@ used_from_lent failed options basis trace many others old lent new arms armed pi
   mount = used.mount;
   start = used.start;
   begins = used.begins;
+  cached = used.cached;
   last = used.last;
   lent = used.lent;
   armed = used.armed;

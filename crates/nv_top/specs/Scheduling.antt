@@ -35,7 +35,7 @@ use Rattle.nv_schedule.specs.declared.schedule_error.ScheduleError.TheVariants.{
 use Rattle.nv_schedule.specs.declared.scheduled.ScheduledCalls.{ScheduledCalls}
 use Rattle.nv_top.specs.Readings.{HavePlainNames}
 use Rattle.nv_top.specs.Reports.{report_text}
-use Rattle.nv_top.specs.Runs.{BeginsMount}
+use Rattle.nv_top.specs.Runs.{BeginsMount, HasCache}
 use Rattle.nv_top.specs.Stopping.{HasLostPower, ShowsOpen, ShowsRecovered}
 use Rattle.nv_top.specs.declared.words.RunOptions.{RunOptions}
 
@@ -84,12 +84,13 @@ pub record HasLostPowerBehind (view : PassView) (pick : Pick) (before : List Pic
   pub power_is : lost.power ≡ powered pick home
   pub whole : LeavesWholeWrites view basis.files basis.names (row_words lost.power.parts) (files_of (stores_named basis.names lost.power.stores))
 
--- The schedule of a trace was followed over a mount of this basis, on a bench that was lent meanwhile, up to a token that made 100,000 advances and didn't come to its point. It was armed at the cuts before that token, and power went off
+-- The schedule of a trace was followed over a mount of this basis, with as many buffers as are asked for, on a bench that was lent meanwhile, up to a token that made 100,000 advances and didn't come to its point. It was armed at the cuts before that token, and power went off
 -- behind that run. A pass saw STOP set only where this says so.
 pub record HasUsedTurns (failed : Type 0) (options : RunOptions) (basis : Basis) (trace : Traced) (many : ℕ) (others : List NamedStore) (old bench : BenchState) : Type 0 where
   pub mount : MountState
   pub start : PassState
   pub begins : BeginsMount basis trace mount start
+  pub cached : HasCache options.cache mount
   pub last : PassState
   pub lent : BenchState
   pub armed : BenchState
@@ -98,12 +99,13 @@ pub record HasUsedTurns (failed : Type 0) (options : RunOptions) (basis : Basis)
   pub armed_at : IsArmedAt followed.told.1.ran.before old bench
   pub left : HasLostPowerBehind last.view options.image old.picked basis many others bench
 
--- The text is that of a report of a trace whose schedule was followed over a mount of this basis, on a bench that was lent meanwhile, and armed at its cuts. The calls that it lists are those that were
+-- The text is that of a report of a trace whose schedule was followed over a mount of this basis, with as many buffers as are asked for, on a bench that was lent meanwhile, and armed at its cuts. The calls that it lists are those that were
 -- begun. Power went off behind it; what it left stood for the files that are shown, and the fates are by the log of that. The report is faithful to the trace; devices failed, and a pass saw STOP set, only where this says so.
 pub record HasScheduledOn (failed : Type 0) (options : RunOptions) (before : List Pick) (basis : Basis) (trace : Traced) (many : ℕ) (others : List NamedStore) (bench : BenchState) (text : List ℕ) : Type 0 where
   pub mount : MountState
   pub start : PassState
   pub begins : BeginsMount basis trace mount start
+  pub cached : HasCache options.cache mount
   pub last : PassState
   pub lent : BenchState
   pub armed : BenchState

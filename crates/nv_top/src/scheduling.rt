@@ -22,7 +22,7 @@ ghost use Rattle.nv_schedule.specs.declared.scheduled.ScheduledCalls.{ScheduledC
 ghost use Rattle.nv_top.specs.Commands.{HasRecovered, IsGivenBack};
 ghost use Rattle.nv_top.specs.Headline.{HasFollowed, expected_faults, HasUsedTurnsOn, IsRunRefused};
 ghost use Rattle.nv_top.specs.Lives.{HasLived, LeavesRun};
-ghost use Rattle.nv_top.specs.Runs.{BeginsMount, basis_over};
+ghost use Rattle.nv_top.specs.Runs.{BeginsMount, HasCache, basis_over};
 ghost use Rattle.nv_top.specs.Scheduling.{HasScheduledOn, HasUsedTurns, IsArmedAt, IsArmedAtSome, IsBackPowered, ShowsOutcome};
 ghost use Rattle.nv_top.specs.Stopping.{IsAway, IsPickedOnce, IsSettledStop};
 ghost use Rattle.nv_top.specs.Ready.{IsAtHome, IsReady, IsRunnable};
@@ -165,6 +165,7 @@ fn schedule_mount<T: Bench>(
     trace: &Trace,
     before: u64,
 ) -> Result<Vec<u8>, Stop>
+    requires cache { HasCache options.cache mount }
     requires images { T.can_lose_power ≡ true }
     requires arms { (T.state bench.old).arms < 2 ^ 63 }
     requires open { (T.state bench.old).is_open ≡ true }

@@ -93,7 +93,7 @@ returns-clause-scheduled g c =
     ∙ ap (λ names. Some (home_with left names now disks)) (sym named))
     (ap (λ (s : BenchState). s.told) c.in_ok-power.ensures.off) (λ holding is. g.met.T.Bench.whole c.give_back.new.self holding is) away in
     has_scheduled basis trace mount pass zero _ _ parts held sums came.placed came.tail over options start armed outcome
-    (of_trace c.args.mount c.args.trace.now c.args.options.batch c.args.pass ran.0 start armed c.run_schedule-closed.result.outcome c.tokens.result.now c.calls.result.now c.tokens.ensures.tokens c.calls.ensures.calls ran.1) failed saw allowed c.requires.trace.well_formed (omega (arith, c.requires.trace.few)) c.requires.trace.lines c.requires.no_rounds (subst (λ (o : Opened). IsMount (mount_of o)) c.requires.board.same_mount c.sees_a_run.ensures.mount)
+    (of_trace c.args.mount c.args.trace.now c.args.options.batch c.args.pass ran.0 start armed c.run_schedule-closed.result.outcome c.tokens.result.now c.calls.result.now c.tokens.ensures.tokens c.calls.ensures.calls ran.1) c.requires.cache failed saw allowed c.requires.trace.well_formed (omega (arith, c.requires.trace.few)) c.requires.trace.lines c.requires.no_rounds (subst (λ (o : Opened). IsMount (mount_of o)) c.requires.board.same_mount c.sees_a_run.ensures.mount)
     c.schedules_begin_in_order.ensures c.schedules_are_told.ensures.told c.schedules_are_told.ensures.legal c.schedules_are_faithful.ensures c.history_of_threads_is_legal.ensures.files c.open_calls_are_the_faults.ensures.kept
     c.images_stand_for_files.ensures.files start.picked last text.items behind.before behind.after
     (at_some off.told (λ holding. ShowsOutcome holding outcome last.told text.items) behind.after behind.off_is shown)
@@ -365,7 +365,7 @@ returns-clause-used g c is basis begins named =
     has_used basis trace mount pass zero _ _ parts held sums came.placed came.tail over options start armed
     (subst (HasScheduled mount trace.tokens trace.calls options.batch pass zero start armed) (c.show_outcome.ensures.used is)
     (of_trace mount trace options.batch pass zero start armed c.run_schedule-closed.result.outcome c.tokens.result.now c.calls.result.now c.tokens.ensures.tokens c.calls.ensures.calls ran.1))
-    failed saw c.images_stand_for_files.ensures.files last recovered.0 behind.before behind.after recovered.1
+    c.requires.cache failed saw c.images_stand_for_files.ensures.files last recovered.0 behind.before behind.after recovered.1
     (ap (λ (s : BenchState). s.left) c.show_outcome.ensures.back ∙ ap (λ (s : BenchState). s.left) c.in_ok-power.ensures.off
     ∙ ap (option_map (powered options.image)) behind.given_is ∙ ap Some (sym behind.after_is))
     (ap (λ (s : BenchState). s.picked) c.show_outcome.ensures.back ∙ ap (λ (s : BenchState). s.picked) c.in_ok-power.ensures.off
