@@ -95,17 +95,7 @@ pub fence_call : {A E : Type 0} (result : Result A E) (old new : Seen) → DidSo
 fence_call (Ok value) old new begun done keeps frees faults = record { well = one_well tt done (keeps, frees) faults; failed = tt }
 fence_call (Err error) old new begun done keeps frees faults = record { well = tt; failed = one_failed begun keeps faults }
 
--- a store that failed may leave less than it takes
-pub takes_as_line : {line : ℕ} {old new : Room} → Takes 1 line old new → Takes 8 line old new
-takes_as_line takes = record {
-  lines = takes.lines;
-  spare = omega (arith, takes.spare);
-  after_fence = omega (arith, takes.after_fence);
-  other_spare = takes.other_spare;
-  other_after_fence = takes.other_after_fence;
-}
-
--- and one that ended well may take nothing
+-- a store that ended well may take nothing
 takes_nothing : (line : ℕ) (room : Room) → Takes 1 line room room
 takes_nothing line room = record {
   lines = refl;
@@ -140,7 +130,7 @@ stores_well line value (word ∷ words) old new inside is room faults =
     )
 
 stores_failed : (line : ℕ) (value : ℕ → ℕ) (word : ℕ) (words : List ℕ) (old new : Seen) (count : ℕ) → count ≤ 1 + length words → line < old.room.lines
-    → new.history ≡ run (grown after_line_step) (take count (stores_of line value (word ∷ words))) old.history → Takes 8 line old.room new.room → Rose old.faults new.faults
+    → new.history ≡ run (grown after_line_step) (take count (stores_of line value (word ∷ words))) old.history → Takes 1 line old.room new.room → Rose old.faults new.faults
     → OneFailed EndedWell EndedBadly (stores_of line value (word ∷ words)) old new
 unfolding run stores_of
 stores_failed line value word words old new zero few inside is room faults = record {
@@ -168,13 +158,13 @@ stores_failed line value word (other ∷ words) old new (suc (suc count)) few in
     let first : EachEnded EndedWell (step ∷ []) old next = record { each = (next, record { line = inside; history = refl; room = takes_nothing line old.room; faults = refl }, refl) } in
     each_failed first (stores_failed line value other words next new (suc count) (omega arith) inside is room faults)
 
-pub line_well : (line : ℕ) (bytes : List ℕ) (old new : Seen) → line < old.room.lines → DidLineStep (line_stores line bytes) old.history new.history → Takes 8 line old.room new.room → new.faults ≡ old.faults
+pub line_well : (line : ℕ) (bytes : List ℕ) (old new : Seen) → line < old.room.lines → DidLineStep (line_stores line bytes) old.history new.history → Takes 1 line old.room new.room → new.faults ≡ old.faults
     → EachEnded EndedWell (line_stores line bytes) old new
 unfolding line_stores stores_of
 line_well line bytes old new inside did room faults =
     record { each = stores_well line (word_in bytes) (0 ∷ 1 ∷ 2 ∷ 3 ∷ 4 ∷ 5 ∷ 6 ∷ 7 ∷ []) old new inside did.states (line_is_its_stores line bytes old.room new.room room) faults }
 
-pub line_failed : (line : ℕ) (bytes : List ℕ) (old new : Seen) → line < old.room.lines → DidSome (line_stores line bytes) old.history new.history → Takes 8 line old.room new.room → Rose old.faults new.faults
+pub line_failed : (line : ℕ) (bytes : List ℕ) (old new : Seen) → line < old.room.lines → DidSome (line_stores line bytes) old.history new.history → Takes 1 line old.room new.room → Rose old.faults new.faults
     → OneFailed EndedWell EndedBadly (line_stores line bytes) old new
 unfolding line_stores stores_of
 line_failed line bytes old new inside did room faults =

@@ -1,24 +1,37 @@
 -- Laws about images: what steps add to what a power failure may leave, and which lines are quiet after them. Nothing above
 -- this crate opens the words of a line.
-use Rattle.std.proofs.Common.{◌≡◌, ◌≢◌, ℕ, ◌+◌, ◌<◌, ◌≤◌, ◌==◌, if◌then◌else◌, ◌⊎◌, inl, inr, List, [], ◌∷◌, ◌++◌, length, get_or, drop, slice_set, Option, Some, None, zero, suc, refl, sym, ap, ◌∙◌, subst, arith}
+use Rattle.std.proofs.Common.{◌≡◌, ◌≢◌, ℕ, ◌+◌, ◌-◌, ◌<◌, ◌≤◌, ◌==◌, if◌then◌else◌, ◌⊎◌, inl, inr, List, [], ◌∷◌, ◌++◌, length, get_or, drop, slice_set, Option, Some, None, zero, suc, refl, sym, ap, ◌∙◌, subst, arith}
 use Rattle.std.proofs.lemmas.Bool.{cases_eq, cases_lt, eq-eqb, ne_eqb}
 use Rattle.std.proofs.lemmas.List.{get_or_append_left, get_or_past, get_or_push, get_or_default, get_or-drop, length-drop, length-set, drop_all, length_push, set_past}
 use Rattle.nv_plain.specs.Images.{PartImage}
-use Rattle.nv_pmem.specs.Part.{Line, Part, blank_line, newest, word_at, with_word, stored, flushed, fenced_at, fenced, line_of, part_word}
-use Rattle.nv_pmem.specs.Images.{PowerMayLeave, IsPartImage, InEachPartImage, IsQuietLine}
+use Rattle.nv_pmem.specs.Part.{Word, Line, Part, blank_line, word_of, newest_value, stored_value, fenced_at, newest, word_at, stored, flushed, fenced, line_of, part_word}
+use Rattle.nv_pmem.specs.Images.{MayHave, PowerMayLeave, IsPartImage, InEachPartImage, later_values, IsQuietLine}
 use Rattle.nv_pmem.specs.Runs.{run}
 use Rattle.nv_pmem.specs.Steps.{LineStep, StoreWord, Flush, Fence, after_line_step}
 use Rattle.nv_pmem.specs.Stored.{LeaveLine}
 pub use Rattle.nv_pmem.specs.Stored.{IsStored, IsStoredBy, ComesFrom}
 use Rattle.nv_pmem.proofs.StepLaws.{after_steps}
-use Rattle.nv_pmem.proofs.LineLaws.{last_of, line_of-set_same, line_of-set_other, line_of-map, fenced-blank, word_at-with_word_same, word_at-with_word_other}
+use Rattle.nv_pmem.proofs.LineLaws.{last_of, word_of-stored_same, word_of-stored_other, word_of-flushed, word_of-fenced, word_at-newest, line_of-set_same, line_of-set_other, line_of-map, fenced-blank}
 
 -- ---- one line
 
+-- the newest value of a word
+has_newest : (word : Word) → MayHave word (newest_value word)
+has_newest word = (length word.later, omega arith, sym (last_of word.oldest word.later (length word.later) refl))
+
 -- what a load sees may be left
 pub may_leave_newest : (line : Line) → PowerMayLeave line (word_at (newest line))
-unfolding PowerMayLeave newest
-may_leave_newest line = (length line.later, omega arith, λ word. ap (λ content. word_at content word) (sym (last_of line.oldest line.later (length line.later) refl)))
+unfolding PowerMayLeave
+may_leave_newest line word = subst (MayHave (word_of line word)) (sym (word_at-newest line word)) (has_newest (word_of line word))
+
+-- after a store a word has that value, or one of before
+has_stored : (value : ℕ) (word : Word) (found : ℕ) → MayHave (stored_value value word) found → MayHave word found ⊎ (found ≡ value)
+has_stored value word found (count, there, is) =
+    let more = length_push word.later value in
+    elim (cases_lt (length word.later) count) [
+      | inl last ↦ inr (is ∙ get_or_push (word.oldest ∷ word.later) value word.oldest count (omega arith))
+      | inr earlier ↦ inl (count, earlier, is ∙ get_or_append_left (word.oldest ∷ word.later) (value ∷ []) word.oldest count (omega arith))
+    ]
 
 -- A line's words after a store: as they might be left before it, but for the word stored, which may be the value.
 pub record LeavesStored (line : Line) (word value : ℕ) (words : ℕ → ℕ) : Type 0 where
@@ -27,83 +40,105 @@ pub record LeavesStored (line : Line) (word value : ℕ) (words : ℕ → ℕ) :
   pub stored : (words word ≡ before word) ⊎ (words word ≡ value)
   pub others : (other : ℕ) → other ≢ word → words other ≡ before other
 
+-- words of which one is another
+unfoldable with_word : (ℕ → ℕ) → ℕ → ℕ → ℕ → ℕ
+with_word words word value other = if other == word then value else words other
+
+with_word-same : (words : ℕ → ℕ) (word value other : ℕ) → other ≡ word → with_word words word value other ≡ value
+unfolding with_word
+with_word-same words word value other same = rw (eq-eqb other word same) refl
+
+with_word-other : (words : ℕ → ℕ) (word value other : ℕ) → other ≢ word → with_word words word value other ≡ words other
+unfolding with_word
+with_word-other words word value other differs = rw (ne_eqb other word differs) refl
+
+-- a line of which one word has another of its values
+may_leave_with : (line : Line) (words : ℕ → ℕ) (word value : ℕ) → ((other : ℕ) → other ≢ word → MayHave (word_of line other) (words other)) → MayHave (word_of line word) value → PowerMayLeave line (with_word words word value)
+unfolding PowerMayLeave
+may_leave_with line words word value others here other = elim (cases_eq other word) [
+  | inl same ↦
+      let At : ℕ → Type 0 = λ k. MayHave (word_of line k) value in
+      subst (MayHave (word_of line other)) (sym (with_word-same words word value other same)) (subst At (sym same) here)
+  | inr differs ↦ subst (MayHave (word_of line other)) (sym (with_word-other words word value other differs)) (others other differs)
+]
+
 may_leave_stored : (word value : ℕ) (line : Line) (words : ℕ → ℕ) → PowerMayLeave (stored word value line) words → LeavesStored line word value words
-unfolding PowerMayLeave stored
-may_leave_stored word value line words (count, there, are) =
-    let content = with_word (newest line) word value in
-    let more = length_push line.later content in
-    elim (cases_lt (length line.later) count) [
-      | inl last ↦
-          let is : get_or (line.oldest ∷ (line.later ++ content ∷ [])) count line.oldest ≡ content =
-          get_or_push (line.oldest ∷ line.later) content line.oldest count (omega arith) in
-          record {
-            before = word_at (newest line);
-            may = may_leave_newest line;
-            stored = inr (are word ∙ ap (λ these. word_at these word) is ∙ word_at-with_word_same (newest line) word value);
-            others = λ other differs.
-                are other ∙ ap (λ these. word_at these other) is ∙ word_at-with_word_other (newest line) word value other differs;
-          }
-      | inr earlier ↦
-          record {
-            before = words;
-            may = (
-              count,
-              earlier,
-              λ other.
-                  are other
-                  ∙ ap (λ these. word_at these other) (get_or_append_left (line.oldest ∷ line.later) (content ∷ []) line.oldest count (omega arith)),
-            );
-            stored = inl refl;
-            others = λ other differs. refl;
-          }
+unfolding PowerMayLeave
+may_leave_stored word value line words may =
+    let others : (other : ℕ) → other ≢ word → MayHave (word_of line other) (words other) =
+    λ other differs.
+    let At : Word → Type 0 = λ one. MayHave one (words other) in subst At (word_of-stored_other word value line other differs) (may other) in
+    let Here : Word → Type 0 = λ one. MayHave one (words word) in
+    let with_value = λ (was : ℕ) (has : MayHave (word_of line word) was) (stored : (words word ≡ was) ⊎ (words word ≡ value)).
+    let left : LeavesStored line word value words = record {
+      before = with_word words word was;
+      may = may_leave_with line words word was others has;
+      stored = elim stored [
+        | inl kept ↦ inl (kept ∙ sym (with_word-same words word was word refl))
+        | inr new ↦ inr new
+      ];
+      others = λ other differs. sym (with_word-other words word was other differs);
+    } in
+    left in
+    elim (has_stored value (word_of line word) (words word) (subst Here (word_of-stored_same word value line) (may word))) [
+      | inl earlier ↦ with_value (words word) earlier (inl refl)
+      | inr last ↦ with_value (newest_value (word_of line word)) (has_newest (word_of line word)) (inr last)
     ]
 
 may_leave_flushed : (line : Line) (words : ℕ → ℕ) → PowerMayLeave (flushed line) words → PowerMayLeave line words
-unfolding PowerMayLeave flushed
-may_leave_flushed line words may = may
+unfolding PowerMayLeave
+may_leave_flushed line words may word =
+    let Was : Word → Type 0 = λ now. MayHave now (words word) → MayHave (word_of line word) (words word) in
+    word_of-flushed Was line word (λ has. has) (λ has. has) (may word)
 
-may_leave_fenced_at : (line : Line) (noted : Option ℕ) (words : ℕ → ℕ) → PowerMayLeave (fenced_at line noted) words → PowerMayLeave line words
-unfolding PowerMayLeave fenced_at newest
-may_leave_fenced_at line None words may = may
-may_leave_fenced_at line (Some count) words (zero, there, are) = elim (cases_lt (length line.later) count) [
+has_fenced_at : (word : Word) (noted : Option ℕ) (found : ℕ) → MayHave (fenced_at word noted) found → MayHave word found
+has_fenced_at word None found has = has
+has_fenced_at word (Some count) found (zero, there, is) = elim (cases_lt (length word.later) count) [
   | inl beyond ↦ (
-    length line.later,
+    length word.later,
     omega arith,
-    λ word.
-        are word
-        ∙ ap (λ these. word_at these word)
-        (get_or_past (line.oldest ∷ line.later) count _ (omega arith) ∙ sym (last_of line.oldest line.later (length line.later) refl)),
+    is ∙ get_or_past (word.oldest ∷ word.later) count _ (omega arith) ∙ sym (last_of word.oldest word.later (length word.later) refl),
   )
-  | inr within ↦ (
-    count,
-    within,
-    λ word.
-        are word ∙ ap (λ these. word_at these word) (get_or_default (line.oldest ∷ line.later) count _ line.oldest (omega arith)),
-  )
+  | inr within ↦ (count, within, is ∙ get_or_default (word.oldest ∷ word.later) count _ word.oldest (omega arith))
 ]
-may_leave_fenced_at line (Some count) words (suc k, there, are) =
-    let within : k + count < length line.later = omega (arith, there, length-drop count line.later) in (
+has_fenced_at word (Some count) found (suc k, there, is) =
+    let within : k + count < length word.later = omega (arith, there, length-drop count word.later) in (
       suc (count + k),
       omega arith,
-      λ word.
-          are word
-          ∙ ap (λ these. word_at these word)
-          (get_or-drop count line.later k _ ∙ get_or_default line.later (count + k) _ line.oldest (omega arith)),
+      is ∙ get_or-drop count word.later k _ ∙ get_or_default word.later (count + k) _ word.oldest (omega arith),
     )
 
 may_leave_fenced : (line : Line) (words : ℕ → ℕ) → PowerMayLeave (fenced line) words → PowerMayLeave line words
-unfolding fenced
-may_leave_fenced line words may = may_leave_fenced_at line line.flushed words may
+unfolding PowerMayLeave
+may_leave_fenced line words may word =
+    let Has : Word → Type 0 = λ now. MayHave now (words word) in
+    has_fenced_at (word_of line word) (word_of line word).flushed (words word) (subst Has (word_of-fenced line word) (may word))
+
+-- the words of a quiet line have had no later value
+pub front_none : (front rest : List ℕ) → front ++ rest ≡ [] → front ≡ []
+front_none [] rest none = refl
+front_none (first ∷ front) rest none = absurd (cc)
+
+pub rest_none : (front rest : List ℕ) → front ++ rest ≡ [] → rest ≡ []
+rest_none [] rest none = none
+rest_none (first ∷ front) rest none = absurd (cc)
+
+no_later : (line : Line) (word : ℕ) → later_values line ≡ [] → (word_of line word).later ≡ []
+no_later [] word none = refl
+no_later (first ∷ line) zero none = front_none first.later (later_values line) none
+no_later (first ∷ line) (suc word) none = no_later line word (rest_none first.later (later_values line) none)
+
+-- a word that has one value is left as a load sees it
+has_one : (word : Word) (found : ℕ) → word.later ≡ [] → MayHave word found → found ≡ newest_value word
+has_one word found none (count, there, is) =
+    let first : count ≡ length word.later = omega (arith, there, ap length none) in
+    is ∙ last_of word.oldest word.later count first ∙ ap (λ k. get_or word.later (k - 1) word.oldest) first
 
 -- a quiet line is left as a load sees it
 pub may_leave_quiet : (line : Line) (words : ℕ → ℕ) (word : ℕ) → IsQuietLine line → PowerMayLeave line words → words word ≡ word_at (newest line) word
-unfolding PowerMayLeave IsQuietLine newest
-may_leave_quiet line words word quiet (count, there, are) =
-    let none : length line.later ≡ 0 = ap length quiet in
-    let first : count ≡ 0 = omega arith in
-    are word
-    ∙ ap (λ k. word_at (get_or (line.oldest ∷ line.later) k line.oldest) word) (first ∙ sym none)
-    ∙ ap (λ these. word_at these word) (last_of line.oldest line.later (length line.later) refl)
+unfolding PowerMayLeave IsQuietLine
+may_leave_quiet line words word quiet may =
+    has_one (word_of line word) (words word) (no_later line word quiet) (may word) ∙ sym (word_at-newest line word)
 
 -- ---- a part
 
@@ -282,22 +317,27 @@ HasMark open_line line = Unit {0}
 HasMark noted_line line = IsQuietLine (fenced line)
 HasMark quiet_line line = IsQuietLine line
 
-quiet_fenced_at : (line : Line) (noted : Option ℕ) → IsQuietLine line → IsQuietLine (fenced_at line noted)
-unfolding IsQuietLine fenced_at
-quiet_fenced_at line None quiet = quiet
-quiet_fenced_at line (Some count) quiet = ap (drop count) quiet ∙ drop_all count [] (omega arith)
+fenced_none : (word : Word) (noted : Option ℕ) → word.later ≡ [] → (fenced_at word noted).later ≡ []
+fenced_none word None none = none
+fenced_none word (Some count) none = ap (drop count) none ∙ drop_all count [] (omega arith)
 
 quiet_fenced : (line : Line) → IsQuietLine line → IsQuietLine (fenced line)
-unfolding fenced
-quiet_fenced line quiet = quiet_fenced_at line line.flushed quiet
+unfolding IsQuietLine fenced
+quiet_fenced [] quiet = refl
+quiet_fenced (word ∷ line) quiet =
+    rw (fenced_none word word.flushed (front_none word.later (later_values line) quiet))
+    (quiet_fenced line (rest_none word.later (later_values line) quiet))
 
 quiet_flushed : (line : Line) → IsQuietLine line → IsQuietLine (flushed line)
 unfolding IsQuietLine flushed
-quiet_flushed line quiet = quiet
+quiet_flushed [] quiet = refl
+quiet_flushed (word ∷ line) quiet =
+    rw (front_none word.later (later_values line) quiet) (quiet_flushed line (rest_none word.later (later_values line) quiet))
 
-noted_flushed : (line : Line) → IsQuietLine (fenced (flushed line))
-unfolding IsQuietLine flushed fenced fenced_at
-noted_flushed line = drop_all (length line.later) line.later (omega arith)
+pub noted_flushed : (line : Line) → IsQuietLine (fenced (flushed line))
+unfolding IsQuietLine flushed fenced
+noted_flushed [] = refl
+noted_flushed (word ∷ line) = rw (drop_all (length word.later) word.later (omega arith)) (noted_flushed line)
 
 pub quiet_blank : IsQuietLine blank_line
 unfolding IsQuietLine

@@ -13,3 +13,4 @@ pub mod OneOfRow
 pub mod CallLaws
 pub mod Ranges
 mod RowStateLaws
+mod LineLoops

@@ -1,88 +1,102 @@
 -- Laws about lines: what a load gives after steps. Nothing above this crate opens the words of a line.
 use Rattle.std.proofs.Common.{◌≡◌, ◌≢◌, ℕ, ◌+◌, ◌-◌, ◌<◌, ◌==◌, ◌&&◌, if◌then◌else◌, inl, inr, List, [], ◌∷◌, ◌++◌, length, map, replicate, get_or, drop, slice_set, Option, Some, None, zero, suc, refl, sym, ap, ◌∙◌, subst, arith, length-append}
 use Rattle.std.proofs.lemmas.Bool.{cases_eq, cases_lt, eq-eqb, ne_eqb}
-use Rattle.std.proofs.lemmas.List.{length-set, length-map, length-replicate, get_or-set_same, get_or-set_other, get_or_append_left, get_or-append_right, get_or-replicate, get_or_default, get_or_past, get_or_push, get_or-map, length_push, length-drop, get_or-drop, set_past}
-use Rattle.nv_pmem.specs.Part.{Line, Part, blank_line, newest, word_at, with_word, stored, flushed, fenced_at, fenced, line_of, part_word}
+use Rattle.std.proofs.lemmas.List.{length-set, length-map, length-replicate, get_or-set_same, get_or-set_other, get_or_default, get_or_past, get_or_push, get_or-map, length_push, length-drop, get_or-drop, set_past}
+use Rattle.nv_pmem.specs.Part.{Word, Line, Part, settled_word, blank_line, word_of, newest_value, stored_value, flushed_word, fenced_at, fenced_word, newest, word_at, stored, flushed, fenced, line_of, part_word}
 use Rattle.nv_pmem.specs.Runs.{run}
 use Rattle.nv_pmem.specs.Steps.{LineStep, StoreWord, Flush, Fence, after_line_step}
 use Rattle.nv_pmem.specs.Stored.{LeaveWord}
 use Rattle.nv_pmem.proofs.StepLaws.{after_steps}
 
-newest-stored : (word value : ℕ) (line : Line) → newest (stored word value line) ≡ with_word (newest line) word value
-unfolding newest stored
-newest-stored word value line =
-    let content = with_word (newest line) word value in
-    get_or_push line.later content line.oldest (length (line.later ++ content ∷ []) - 1) (omega (arith, length_push line.later content))
+-- ---- a word of a line
+
+blanks : (count word : ℕ) → get_or (replicate count (settled_word 0)) word (settled_word 0) ≡ settled_word 0
+blanks zero word = refl
+blanks (suc count) zero = refl
+blanks (suc count) (suc word) = blanks count word
+
+-- words of 0 behind a line read as the line does
+with_blanks : (line : Line) (count word : ℕ) → word_of (line ++ replicate count (settled_word 0)) word ≡ word_of line word
+with_blanks [] count word = blanks count word
+with_blanks (first ∷ line) count zero = refl
+with_blanks (first ∷ line) count (suc word) = with_blanks line count word
+
+-- a store is of its word,
+pub word_of-stored_same : (word value : ℕ) (line : Line) → word_of (stored word value line) word ≡ stored_value value (word_of line word)
+unfolding stored
+word_of-stored_same word value line =
+    let more = replicate (word + 1 - length line) (settled_word 0) in
+    get_or-set_same (line ++ more) word (stored_value value (word_of line word)) (settled_word 0)
+    (omega (arith, length-append line more, length-replicate (word + 1 - length line) (settled_word 0)))
+
+-- and of no other;
+pub word_of-stored_other : (word value : ℕ) (line : Line) (other : ℕ) → other ≢ word → word_of (stored word value line) other ≡ word_of line other
+unfolding stored
+word_of-stored_other word value line other differs =
+    get_or-set_other (line ++ replicate (word + 1 - length line) (settled_word 0)) word other (stored_value value (word_of line word)) (settled_word 0) differs
+    ∙ with_blanks line (word + 1 - length line) other
+
+-- a flush is of each word that is there,
+pub word_of-flushed : (P : Word → Type 0) (line : Line) (word : ℕ) → P (flushed_word (word_of line word)) → P (word_of line word) → P (word_of (flushed line) word)
+unfolding flushed
+word_of-flushed P [] word noted none = none
+word_of-flushed P (first ∷ line) zero noted none = noted
+word_of-flushed P (first ∷ line) (suc word) noted none = word_of-flushed P line word noted none
+
+-- and so is a fence.
+pub word_of-fenced : (line : Line) (word : ℕ) → word_of (fenced line) word ≡ fenced_word (word_of line word)
+unfolding fenced
+word_of-fenced [] word = refl
+word_of-fenced (first ∷ line) zero = refl
+word_of-fenced (first ∷ line) (suc word) = word_of-fenced line word
+
+-- ---- what a load gives
+
+-- the newest value of a word
+pub word_at-newest : (line : Line) (word : ℕ) → word_at (newest line) word ≡ newest_value (word_of line word)
+unfolding word_at newest
+word_at-newest [] word = refl
+word_at-newest (first ∷ line) zero = refl
+word_at-newest (first ∷ line) (suc word) = word_at-newest line word
 
 newest-flushed : (line : Line) → newest (flushed line) ≡ newest line
 unfolding newest flushed
-newest-flushed line = refl
-
-zeros : (count i : ℕ) → get_or {A = ℕ} (replicate count 0) i 0 ≡ 0
-zeros count i = elim (cases_lt i count) [
-  | inl less ↦ get_or-replicate count i 0 0 less
-  | inr past ↦ get_or_past (replicate count 0) i 0 (omega (arith, length-replicate {A = ℕ} count 0))
-]
-
-with_zeros : (content : List ℕ) (count i : ℕ) → get_or (content ++ replicate count 0) i 0 ≡ get_or content i 0
-with_zeros content count i = elim (cases_lt i (length content)) [
-  | inl less ↦ get_or_append_left content (replicate count 0) 0 i less
-  | inr past ↦
-      get_or-append_right content (replicate count 0) (length content) i 0 refl past
-      ∙ zeros count (i - length content) ∙ sym (get_or_past content i 0 past)
-]
-
-pub word_at-with_word_same : (content : List ℕ) (word value : ℕ) → word_at (with_word content word value) word ≡ value
-unfolding word_at with_word
-word_at-with_word_same content word value =
-    let more = replicate (word + 1 - length content) 0 in
-    get_or-set_same (content ++ more) word value 0
-    (omega (arith, length-append content more, length-replicate {A = ℕ} (word + 1 - length content) 0))
-
-pub word_at-with_word_other : (content : List ℕ) (word value other : ℕ) → other ≢ word → word_at (with_word content word value) other ≡ word_at content other
-unfolding word_at with_word
-word_at-with_word_other content word value other differs =
-    get_or-set_other (content ++ replicate (word + 1 - length content) 0) word other value 0 differs
-    ∙ with_zeros content (word + 1 - length content) other
-
-word_at-with_word : (content : List ℕ) (word value other : ℕ) → word_at (with_word content word value) other ≡ (if other == word then value else word_at content other)
-word_at-with_word content word value other = elim (cases_eq other word) [
-  | inl same ↦
-      rw (eq-eqb other word same)
-      (ap (word_at (with_word content word value)) same ∙ word_at-with_word_same content word value)
-  | inr differs ↦ rw (ne_eqb other word differs) (word_at-with_word_other content word value other differs)
-]
+newest-flushed [] = refl
+newest-flushed (word ∷ line) = ap (λ rest. newest_value word ∷ rest) (newest-flushed line)
 
 -- the last of some things, or the first of them all
 pub last_of : {X : Type 0} (first : X) (rest : List X) (count : ℕ) → count ≡ length rest → get_or (first ∷ rest) count first ≡ get_or rest (count - 1) first
 last_of first rest zero end = sym (get_or_past rest (0 - 1) first (omega arith))
 last_of first rest (suc count) end = ap (λ i. get_or rest i first) (omega arith)
 
--- a fence leaves the newest content
-newest-fenced_at : (line : Line) (noted : Option ℕ) → newest (fenced_at line noted) ≡ newest line
-unfolding newest fenced_at
-newest-fenced_at line None = refl
-newest-fenced_at line (Some count) =
-    let newest_of = get_or line.later (length line.later - 1) line.oldest in
-    elim (cases_lt count (length line.later)) [
+-- a fence leaves the newest value
+newest-fenced_at : (word : Word) (noted : Option ℕ) → newest_value (fenced_at word noted) ≡ newest_value word
+newest-fenced_at word None = refl
+newest-fenced_at word (Some count) =
+    let newest_of = get_or word.later (length word.later - 1) word.oldest in
+    elim (cases_lt count (length word.later)) [
       | inl less ↦
-          get_or-drop count line.later (length (drop count line.later) - 1) (get_or (line.oldest ∷ line.later) count newest_of)
-          ∙ get_or_default line.later (count + (length (drop count line.later) - 1)) _ line.oldest (omega (arith, length-drop count line.later))
-          ∙ ap (λ i. get_or line.later i line.oldest) (omega (arith, length-drop count line.later))
+          get_or-drop count word.later (length (drop count word.later) - 1) (get_or (word.oldest ∷ word.later) count newest_of)
+          ∙ get_or_default word.later (count + (length (drop count word.later) - 1)) _ word.oldest (omega (arith, length-drop count word.later))
+          ∙ ap (λ i. get_or word.later i word.oldest) (omega (arith, length-drop count word.later))
       | inr past ↦
-          get_or_past (drop count line.later) (length (drop count line.later) - 1) _ (omega (arith, length-drop count line.later))
-          ∙ elim (cases_lt (length line.later) count) [
-            | inl beyond ↦ get_or_past (line.oldest ∷ line.later) count newest_of (omega arith)
+          get_or_past (drop count word.later) (length (drop count word.later) - 1) _ (omega (arith, length-drop count word.later))
+          ∙ elim (cases_lt (length word.later) count) [
+            | inl beyond ↦ get_or_past (word.oldest ∷ word.later) count newest_of (omega arith)
             | inr last ↦
-                get_or_default (line.oldest ∷ line.later) count newest_of line.oldest (omega arith)
-                ∙ last_of line.oldest line.later count (omega arith)
-                ∙ ap (λ i. get_or line.later i line.oldest) (omega arith)
+                get_or_default (word.oldest ∷ word.later) count newest_of word.oldest (omega arith)
+                ∙ last_of word.oldest word.later count (omega arith)
+                ∙ ap (λ i. get_or word.later i word.oldest) (omega arith)
           ]
     ]
 
 pub newest-fenced : (line : Line) → newest (fenced line) ≡ newest line
-unfolding fenced
-newest-fenced line = newest-fenced_at line line.flushed
+unfolding newest fenced
+newest-fenced [] = refl
+newest-fenced (word ∷ line) =
+    ap (λ value. value ∷ newest (fenced line)) (newest-fenced_at word word.flushed) ∙ ap (λ rest. newest_value word ∷ rest) (newest-fenced line)
+
+-- ---- a line of a part
 
 pub line_of-set_same : (part : Part) (line : ℕ) (content : Line) → line < length part → line_of (slice_set part line content) line ≡ content
 line_of-set_same part line content inside = get_or-set_same part line content blank_line inside
@@ -111,14 +125,24 @@ line_of-map f part line blank = elim (cases_lt line (length part)) [
 ]
 
 pub fenced-blank : fenced blank_line ≡ blank_line
-unfolding fenced fenced_at
+unfolding fenced
 fenced-blank = refl
 
 -- ---- what a load gives after a step
 
 word_at-stored : (word value other : ℕ) (line : Line) → word_at (newest (stored word value line)) other ≡ (if other == word then value else word_at (newest line) other)
 word_at-stored word value other line =
-    ap (λ content. word_at content other) (newest-stored word value line) ∙ word_at-with_word (newest line) word value other
+    word_at-newest (stored word value line) other
+    ∙ elim (cases_eq other word) [
+      | inl same ↦
+          rw (eq-eqb other word same)
+          (ap (λ k. newest_value (word_of (stored word value line) k)) same ∙ ap newest_value (word_of-stored_same word value line)
+          ∙ get_or_push (word_of line word).later value (word_of line word).oldest (length ((word_of line word).later ++ value ∷ []) - 1)
+          (omega (arith, length_push (word_of line word).later value)))
+      | inr differs ↦
+          rw (ne_eqb other word differs)
+          (ap newest_value (word_of-stored_other word value line other differs) ∙ sym (word_at-newest line other))
+    ]
 
 -- after a store the value at its word, and at any other what was there
 pub word_of-after_store : (part : Part) (line word value i j : ℕ) → line < length part → part_word (after_line_step (StoreWord line word value) part) i j ≡ (if (i == line) && (j == word) then value else part_word part i j)

@@ -29,7 +29,8 @@ padded_more part count i inside =
 
 settled_quiet : (content : List ℕ) → IsQuietLine (settled content)
 unfolding IsQuietLine
-settled_quiet content = refl
+settled_quiet [] = refl
+settled_quiet (value ∷ content) = settled_quiet content
 
 quiet_lines : (f : ℕ → List ℕ) (places : List ℕ) (i : ℕ) → IsQuietLine (line_of (map (λ place. settled (f place)) places) i)
 quiet_lines f [] i = quiet_blank

@@ -6,12 +6,13 @@ use Rattle.std.proofs.lemmas.List.Elements.{All-head, All-tail}
 use Rattle.nv_plain.specs.Images.{PartImage, Image}
 use Rattle.nv_pmem.specs.Images.{IsPartImage, IsQuietLine}
 use Rattle.nv_pmem.specs.Moments.{Tells}
-use Rattle.nv_pmem.specs.Part.{Part, blank_line, newest, word_at, line_of, part_word}
+use Rattle.nv_pmem.specs.Part.{Part, settled_word, blank_line, word_of, newest_value, newest, word_at, line_of, part_word}
 use Rattle.nv_pmem.specs.Rows.{RowStep, on_part, row_after, row_grown, DidRow, DidSomeRow, RowTells, row_words, IsRowImage, InEachRowImage, EachRowMoment}
 pub use Rattle.nv_pmem.specs.Rows.{steps_on}
 use Rattle.nv_pmem.specs.Runs.{run, grown}
 use Rattle.nv_pmem.specs.Steps.{LineStep, StoreWord, Flush, Fence, PartHistory, after_line_step, DidLineStep, DidSome}
 use Rattle.nv_pmem.proofs.ImageLaws.{image_of_now, IsStoredBy, image_comes_from, open_line, quiet_line, mark_after_all, quiet_image, quiet_after, quiet_blank, quiet_still}
+use Rattle.nv_pmem.proofs.LineLaws.{word_at-newest}
 use Rattle.nv_pmem.proofs.StepLaws.{after_steps, Always, always_front}
 
 -- ---- the steps on one part
@@ -345,12 +346,13 @@ row_quiet_still i line steps parts marks quiet =
 -- ---- blank parts
 
 -- a line of zeros has no other word
+zero_words : (count word : ℕ) → newest_value (word_of (replicate count (settled_word 0)) word) ≡ 0
+zero_words zero word = refl
+zero_words (suc count) zero = refl
+zero_words (suc count) (suc word) = zero_words count word
+
 pub blank_word : (word : ℕ) → word_at (newest blank_line) word ≡ 0
-unfolding word_at newest
-blank_word word = elim (cases_lt word 8) [
-  | inl inside ↦ get_or-replicate 8 word 0 0 inside
-  | inr past ↦ get_or_past (replicate 8 0) word 0 past
-]
+blank_word word = word_at-newest blank_line word ∙ zero_words 8 word
 
 -- so loads of it give zeros
 pub word_of-blank : (part : Part) (line word : ℕ) → line_of part line ≡ blank_line → part_word part line word ≡ 0

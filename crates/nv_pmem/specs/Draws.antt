@@ -2,7 +2,7 @@
 use Rattle.std.specs.Prelude.{ℕ}
 use Rattle.rand_xoshiro.specs.SplitMix64.{mix_u64}
 use Rattle.nv_pmem.specs.declared.picker.Pick.{Pick}
-use Rattle.nv_pmem.specs.declared.picker.Pick.TheVariants.{Old, New, Torn, Seed}
+use Rattle.nv_pmem.specs.declared.picker.Pick.TheVariants.{Old, New, Torn, Mixed, Seed}
 
 -- a pick, and the state of the SplitMix64 that draws for it
 pub record Draws : Type 0 where
@@ -14,6 +14,7 @@ abbrev pub first_state : Pick → ℕ
 first_state Old = 0
 first_state New = 0
 first_state Torn = 0
+first_state Mixed = 0
 first_state (Seed state) = state
 
 abbrev pub draws_of : Pick → Draws

@@ -14,7 +14,7 @@ module _ {R : Type 0} where
   abbrev pub part_history : FilePart R → PartHistory
   part_history part = []
 
-  -- Its lines. Any of them can always take 15 contents: it keeps the newest alone, and no list of them.
+  -- Its lines. Any of them can always take 15 stores: it keeps the newest values alone, and no list of them.
   abbrev pub part_room : FilePart R → Room
   part_room part = record { lines = vec_len part.lines; spare = λ line. 15; after_fence = λ line. 15 }
 

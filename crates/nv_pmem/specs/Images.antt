@@ -1,17 +1,20 @@
 -- Images: what a power failure may leave of a part.
-use Rattle.std.specs.Prelude.{◌≡◌, ◌≢◌, ◌⊎◌, ℕ, ◌≤◌, [], ◌∷◌, length, slice_index_or}
+use Rattle.std.specs.Prelude.{◌≡◌, ◌≢◌, ◌⊎◌, ℕ, ◌≤◌, List, [], ◌∷◌, ◌++◌, length, slice_index_or}
 use Rattle.std.specs.Coded.{Coded-set, coded_ℕ, coded_list}
 use Rattle.nv_plain.specs.Images.{PartImage}
-use Rattle.nv_pmem.specs.Part.{Line, Part, word_at, line_of}
+use Rattle.nv_pmem.specs.Part.{Word, Line, Part, word_of, line_of}
 
--- A power failure may leave a line with these words: they are those of one content that it had since it was last made
--- durable, that one included.
+-- A power failure may leave a word with this value: it is one of those that the word had since it was last made durable, the
+-- durable one included.
+abbrev pub MayHave : Word → ℕ → Type 0
+MayHave word value =
+    (count : ℕ) × (count ≤ length word.later) × (value ≡ slice_index_or (word.oldest ∷ word.later) count word.oldest)
+
+-- A power failure may leave a line with these words: each by itself has one of its values.
 unfoldable pub PowerMayLeave : Line → (ℕ → ℕ) → Type 0
-PowerMayLeave line words =
-    (count : ℕ) × (count ≤ length line.later)
-    × ((word : ℕ) → words word ≡ word_at (slice_index_or (line.oldest ∷ line.later) count line.oldest) word)
+PowerMayLeave line words = (word : ℕ) → MayHave (word_of line word) (words word)
 
--- An image of a part: each line, freely, as a power failure may leave it. A line that the part doesn't have is zeros.
+-- An image of a part: each word of each line has, freely, one of its values. A line that the part doesn't have is zeros.
 pub record IsPartImage (part : Part) (image : PartImage) : Type 0 where
   pub lines : (line : ℕ) → PowerMayLeave (line_of part line) (image line)
 
@@ -19,14 +22,19 @@ pub record IsPartImage (part : Part) (image : PartImage) : Type 0 where
 abbrev pub InEachPartImage : (PartImage → Type 0) → Part → Type 0
 InEachPartImage P part = (image : PartImage) → IsPartImage part image → P image
 
--- A line is quiet where it has one content, and a part where each line is.
+-- the values that a line's words had since they were last made durable
+abbrev pub later_values : Line → List ℕ
+later_values [] = []
+later_values (word ∷ line) = word.later ++ later_values line
+
+-- A line is quiet where each of its words has one value, and a part where each line is.
 unfoldable pub IsQuietLine : Line → Type 0
-IsQuietLine line = line.later ≡ []
+IsQuietLine line = later_values line ≡ []
 
 -- that has one proof at most
 pub IsQuietLine-prop : (line : Line) → IsProp (IsQuietLine line)
 unfolding IsQuietLine
-IsQuietLine-prop line = Coded-set (coded_list (coded_list coded_ℕ)) line.later []
+IsQuietLine-prop line = Coded-set (coded_list coded_ℕ) (later_values line) []
 
 pub record IsQuietPart (part : Part) : Type 0 where
   pub lines : (line : ℕ) → IsQuietLine (line_of part line)

@@ -1,7 +1,8 @@
--- Room: how many lines a part has, and how many more contents each of them can take.
+-- Room: how many lines a part has, and how many more stores each of them can take.
 use Rattle.std.specs.Prelude.{◌≡◌, ◌≢◌, ℕ, ◌+◌, ◌≤◌}
 
--- A part keeps at most 16 contents of a line, so a line can take so many more: now, and after the next fence.
+-- A part keeps at most 16 values of a word. A line can take so many more stores, each of some of its words or of all eight: now,
+-- and after the next fence.
 pub record Room : Type 0 where
   pub lines : ℕ
   pub spare : ℕ → ℕ
@@ -25,7 +26,7 @@ pub record Takes (count line : ℕ) (old new : Room) : Type 0 where
 pub record Frees (old new : Room) : Type 0 where
   pub spare : (line : ℕ) → old.after_fence line ≤ new.spare line
 
--- one line can take 15 contents, and each other line what it could, or could after a fence
+-- one line can take 15 stores, and each other line what it could, or could after a fence
 pub record Settles (line : ℕ) (old new : Room) : Type 0 where
   pub spare : 15 ≤ new.spare line
   pub other_spare : (other : ℕ) → other ≢ line → old.spare other ≤ new.spare other

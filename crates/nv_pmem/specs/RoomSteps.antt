@@ -15,9 +15,9 @@ RoomAfter (StoreWord line word value) old new = Takes 1 line old new
 RoomAfter (Flush line) old new = Keeps old new × (15 ≤ new.after_fence line)
 RoomAfter Fence old new = Keeps old new × Frees old new
 
--- One that failed. As one of the eight stores of a line it may leave what all of them would.
+-- One that failed. One of the eight stores of a line that failed leaves what all of them may.
 abbrev pub RoomAfterFault : LineStep → (old new : Room) → Type 0
-RoomAfterFault (StoreWord line word value) old new = Takes 8 line old new
+RoomAfterFault (StoreWord line word value) old new = Takes 1 line old new
 RoomAfterFault step old new = Keeps old new
 
 -- Whatever room some steps leave, one after another, it has a property in the end.
@@ -32,4 +32,4 @@ RoomThrough (step ∷ steps) old new = (next : Room) × RoomAfter step old next 
 
 -- A call that stores a line leaves what its eight stores may, one after another.
 abbrev pub LineIsItsStores : Type 0
-LineIsItsStores = (line : ℕ) (bytes : List ℕ) (old new : Room) → Takes 8 line old new → RoomThrough (line_stores line bytes) old new
+LineIsItsStores = (line : ℕ) (bytes : List ℕ) (old new : Room) → Takes 1 line old new → RoomThrough (line_stores line bytes) old new

@@ -1,5 +1,5 @@
 -- Lines in memory, with the states that they have had.
-use Rattle.std.specs.Prelude.{ℕ, ◌-◌, ◌∷◌, length, map}
+use Rattle.std.specs.Prelude.{ℕ, ◌-◌, max, [], ◌∷◌, length, map}
 use Rattle.nv_pmem.specs.declared.told.Told.{Told}
 use Rattle.nv_pmem.specs.Part.{Line, Part, line_of, fenced}
 use Rattle.nv_pmem.specs.Room.{Room}
@@ -9,11 +9,16 @@ use Rattle.nv_pmem.specs.Steps.{PartHistory}
 abbrev pub told_part_history : Told → PartHistory
 told_part_history told = told.lines.items ∷ map (λ lines. lines.items) told.past.states
 
--- how many more contents a line can take, of 16 in all
-abbrev pub spare_of : Line → ℕ
-spare_of line = 15 - length line.later
+-- how many values the words of a line had at most since they were last made durable
+abbrev pub most_later : Line → ℕ
+most_later [] = 0
+most_later (word ∷ line) = max (length word.later) (most_later line)
 
--- the room of lines of 16 contents each
+-- How many more stores a line can take: of each word 16 values are kept, one of which is the durable one.
+abbrev pub spare_of : Line → ℕ
+spare_of line = 15 - most_later line
+
+-- the room of lines of which 16 values of each word are kept
 abbrev pub room_of : Part → Room
 room_of part = record {
   lines = length part;

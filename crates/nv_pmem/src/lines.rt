@@ -34,12 +34,13 @@ impl From<Refused> for LineFault {
 
 /// A part of persistent memory: lines of 64 bytes, eight words of 8 bytes each, little-endian. Line `l` has the part's
 /// bytes from 64 `l` on, and word `w` of it, 0 to 7, those from 64 `l` + 8 `w` on, the least byte first. After a power
-/// failure a line holds one of the contents that it had since the one last made durable, that one included.
+/// failure each word of a line, by itself, holds one of the values that it had since the one last made durable, that one
+/// included.
 /// No call is handed an allocator, and none answers for want of memory. After a fault the caller may go on: the part is
 /// as it was or as if the call had gone well, and of `store_line` the first so many words may be stored.
 ///
 /// Over persistent memory of a processor of Intel's (Software Developer's Manual, volume 2) `store` is a store of 8
-/// aligned bytes, which isn't torn; `flush` is `CLWB` or `CLFLUSHOPT` of the line, which writes it back; and `fence` is
+/// aligned bytes, which isn't torn, while two of them may become durable in either order; `flush` is `CLWB` or `CLFLUSHOPT` of the line, which writes it back; and `fence` is
 /// `SFENCE`, behind which all lines are durable that were written back before it.
 pub trait Lines {
     /// Which device this is. No call changes it.
@@ -48,7 +49,7 @@ pub trait Lines {
     /// The states that it has had, the present one first; empty where it doesn't tell. Loads leave no trace in it.
     ghost history: { Self → PartHistory };
 
-    /// How many lines it has, and how many more contents each can take, now and after the next fence.
+    /// How many lines it has, and how many more stores each can take, now and after the next fence.
     ghost room: { Self → Room };
 
     /// How often it has failed, up to 2^64 - 1, where the count stands still.
@@ -69,8 +70,9 @@ pub trait Lines {
         ensures cause { HasCause (fault_count self.old) (fault_count self.new) result }
         ensures device { device self.new ≡ device self.old };
 
-    /// Stores a word, 0 to 7, of a line. The line can take one content less. Nothing of it is durable before a flush of
-    /// the line and then a fence; before that a power failure may leave the word as it was or as it is stored.
+    /// Stores a word, 0 to 7, of a line. The line can take one store less. Nothing of it is durable before a flush of
+    /// the line and then a fence; before that a power failure may leave the word as it was or as it is stored, whatever it
+    /// leaves of the line's other words.
     fn store(&mut self, line: u64, word: u64, value: u64) -> Result<(), LineFault>
         requires line { line < (room self.old).lines }
         requires word { word < 8 }
@@ -82,18 +84,18 @@ pub trait Lines {
         ensures device { device self.new ≡ device self.old };
 
     /// Stores the eight words of a line, rising: word `w` is the bytes from 8 `w` on, the least first. The line can take
-    /// eight contents less, since each store leaves one that a power failure may leave too.
+    /// one store less, as each of its words has one value more that a power failure may leave.
     fn store_line(&mut self, line: u64, bytes: &[u8; 64]) -> Result<(), LineFault>
         requires line { line < (room self.old).lines }
-        requires spare { 8 ≤ (room self.old).spare line }
+        requires spare { 1 ≤ (room self.old).spare line }
         ensures begun { DidSome (line_stores line bytes.now) (history self.old) (history self.new) }
         ensures done { OnOk result (DidLineStep (line_stores line bytes.now) (history self.old) (history self.new)) }
-        ensures room { Takes 8 line (room self.old) (room self.new) }
+        ensures room { Takes 1 line (room self.old) (room self.new) }
         ensures cause { HasCause (fault_count self.old) (fault_count self.new) result }
         ensures device { device self.new ≡ device self.old };
 
-    /// Flushes a line: the next fence makes its content of now the oldest that it may have. It is not durable before
-    /// that, and what is stored in the line behind this may come back or not.
+    /// Flushes a line: the next fence makes the value of now of each of its words the oldest that the word may have. It is
+    /// not durable before that, and what is stored in the line behind this may come back or not.
     fn flush(&mut self, line: u64) -> Result<(), LineFault>
         requires line { line < (room self.old).lines }
         ensures begun { DidSome (Flush line ∷ []) (history self.old) (history self.new) }
@@ -103,7 +105,7 @@ pub trait Lines {
         ensures cause { HasCause (fault_count self.old) (fault_count self.new) result }
         ensures device { device self.new ≡ device self.old };
 
-    /// Makes the flushed contents durable: of each line what its last flush noted, or something since. A line that wasn't
+    /// Makes the flushed lines durable: of each of their words what the last flush noted, or something since. A line that wasn't
     /// flushed since the last fence stays as it is. After a fault that may be done or not, so nothing counts as durable by it.
     fn fence(&mut self) -> Result<(), LineFault>
         ensures begun { DidSome (Fence ∷ []) (history self.old) (history self.new) }

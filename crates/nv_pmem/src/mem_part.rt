@@ -24,7 +24,7 @@ pub struct MemPart {
 impl MemPart {
     ghost use Rattle.nv_pmem.specs.MemPart.{IsBlankMemPart, IsNewPart, part_now, part_history, part_room, part_faults, part_device};
 
-    /// A part of so many lines of zeros, durable, whose calls all go well. It takes about 1,050 bytes a line.
+    /// A part of so many lines of zeros, durable, whose calls all go well. It takes about 1,220 bytes a line.
     pub fn new(alloc: Global, lines: u64) -> Result<Self, NoMemory>
         ensures { IfOk result (IsBlankMemPart lines) }
     {
@@ -61,7 +61,7 @@ impl MemPart {
         })
     }
 
-    /// A part of so many lines that holds what this one does, each line with all of its contents: new ones are zeros, and
+    /// A part of so many lines that holds what this one does, each word with all of its values: new lines are zeros, and
     /// those that are too many are left out. It is a new device: its history and its count of faults begin with it.
     pub fn resized(&self, alloc: Global, lines: u64, fuse: Option<Fuse>) -> Result<Self, NoMemory>
         ensures { IfOk result (IsNewPart (resized lines (part_now self.now))) }
@@ -81,8 +81,8 @@ impl MemPart {
         self.told.load(line as usize, word as usize)
     }
 
-    /// Loses power: each line is left with one of the contents that it may have, the one that the picker takes, and the
-    /// part is quiet. Lines of several contents are drawn for in their order. It isn't a call of `Lines`: no fuse counts
+    /// Loses power: each word of a line is left with one of the values that it may have, the one that the picker takes, and
+    /// the part is quiet. Words of several values are drawn for in their order, line by line. It isn't a call of `Lines`: no fuse counts
     /// it, and it takes no memory.
     pub fn image(&mut self, picker: &mut Picker)
         ensures picked { part_history self.new ≡ (picked picker.old (part_now self.old)).0 ∷ part_history self.old }
@@ -136,11 +136,11 @@ impl Lines for MemPart {
 
     fn store_line(&mut self, line: u64, bytes: &[u8; 64]) -> Result<(), LineFault>
         requires line { line < (part_room self.old).lines }
-        requires spare { 8 ≤ (part_room self.old).spare line }
+        requires spare { 1 ≤ (part_room self.old).spare line }
         ensures begun { DidSome (line_stores line bytes.now) (part_history self.old) (part_history self.new) }
         ensures done { OnOk result (DidLineStep (line_stores line bytes.now) (part_history self.old) (part_history self.new)) }
         ensures refused { OnErr result (part_history self.new ≡ part_history self.old) }
-        ensures room { Takes 8 line (part_room self.old) (part_room self.new) }
+        ensures room { Takes 1 line (part_room self.old) (part_room self.new) }
         ensures cause { HasCause (part_faults self.old) (part_faults self.new) result }
         ensures device { part_device self.new ≡ part_device self.old }
     {

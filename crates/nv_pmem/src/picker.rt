@@ -9,12 +9,14 @@ use std::marker::Model;
 /// Which of the images that a power failure may leave is taken.
 #[derive(Clone, Copy, Debug, PartialEq, Eq)]
 pub enum Pick {
-    /// The content last made durable, of lines and of stores.
+    /// The value last made durable of each word of a line, and the content last made durable of stores.
     Old,
-    /// The newest content, of lines and of stores.
+    /// The newest value of each word of a line, and the newest content of stores.
     New,
-    /// The oldest content of lines; of stores the newest length, with the byte a5 wherever a byte isn't certain.
+    /// The oldest value of each word of a line; of stores the newest length, with the byte a5 wherever a byte isn't certain.
     Torn,
+    /// The oldest value of the words 0, 2, 4 and 6 of each line, and the newest of 1, 3, 5 and 7; stores as `Torn`.
+    Mixed,
     /// One by draws from SplitMix64, which begins in this state.
     Seed(u64),
 }
@@ -43,7 +45,7 @@ impl Picker {
     {
         let state = match pick {
             Pick::Seed(state) => state,
-            Pick::Old | Pick::New | Pick::Torn => 0,
+            Pick::Old | Pick::New | Pick::Torn | Pick::Mixed => 0,
         };
         Picker {
             pick,

@@ -1,7 +1,7 @@
 //! Lines in memory, with the states that they have had.
 ghost use Rattle.std.specs.Prelude.{◌≡◌, ◌+◌, ◌*◌, ◌<◌, ◌≤◌, [], ◌∷◌, length, replicate, IfOk};
 ghost use Rattle.nv_pmem.specs.Made.{words_in, line_in, part_in, resized};
-ghost use Rattle.nv_pmem.specs.Part.{blank_line, line_of, part_word};
+ghost use Rattle.nv_pmem.specs.Part.{blank_line, line_of, word_of, part_word};
 ghost use Rattle.nv_pmem.specs.Picked.{settled, picked};
 ghost use Rattle.nv_pmem.specs.Room.{Keeps, Takes, Frees};
 ghost use Rattle.nv_pmem.specs.Runs.{run, grown};
@@ -91,7 +91,7 @@ impl Told {
     pub(crate) fn store(&mut self, line: usize, word: usize, value: u64)
         requires line { line < (told_room self.old).lines }
         requires word { word < 8 }
-        requires spare { 1 ≤ (told_room self.old).spare line }
+        requires spare { length (word_of (line_of self.old.lines.items line) word).later < 15 }
         ensures history { told_part_history self.new ≡ grown after_line_step (StoreWord line word value) (told_part_history self.old) }
         ensures room { Takes 1 line (told_room self.old) (told_room self.new) }
     {
@@ -102,9 +102,9 @@ impl Told {
     /// Stores a line's words, rising.
     pub(crate) fn store_line(&mut self, line: usize, bytes: &[u8; 64])
         requires line { line < (told_room self.old).lines }
-        requires spare { 8 ≤ (told_room self.old).spare line }
+        requires spare { 1 ≤ (told_room self.old).spare line }
         ensures history { told_part_history self.new ≡ run (grown after_line_step) (line_stores line bytes.now) (told_part_history self.old) }
-        ensures room { Takes 8 line (told_room self.old) (told_room self.new) }
+        ensures room { Takes 1 line (told_room self.old) (told_room self.new) }
     {
         for word in 0..8 {
             self.store(line, word, word_of_bytes(bytes, word));
@@ -132,7 +132,7 @@ impl Told {
         }
     }
 
-    /// Loses power: each line is left as the picker takes it, and its contents are one.
+    /// Loses power: each line is left as the picker takes it, and each of its words has one value.
     pub(crate) fn lose_power(&mut self, picker: &mut Picker)
         ensures history { told_part_history self.new ≡ (picked picker.old self.old.lines.items).0 ∷ told_part_history self.old }
         ensures draws { picker.new ≡ (picked picker.old self.old.lines.items).1 }

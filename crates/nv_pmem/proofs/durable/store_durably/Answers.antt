@@ -1,7 +1,7 @@
 use Rattle.std.proofs.Common.{[], ◌∷◌, ◌<◌, length, arith}
 use Rattle.std.proofs.lemmas.Result.{on_ok_weaker}
 use Rattle.nv_pmem.specs.Steps.{Flush, Fence, durable_store}
-use Rattle.nv_pmem.proofs.CallLaws.{one_well, one_failed, fence_call, calls_failed, takes_as_line, failed_front, each_failed, each_each, each_then}
+use Rattle.nv_pmem.proofs.CallLaws.{one_well, one_failed, fence_call, calls_failed, failed_front, each_failed, each_each, each_then}
 use Rattle.nv_pmem.proofs.DurableLaws.{durable_moments, durable_value, durable_quiet}
 use Rattle.nv_pmem.proofs.StepLaws.{did_did, did_did_some, did_some_front, tells_told}
 use Rattle.nv_pmem.proofs.durable.store_durably.Goals as goal
@@ -46,7 +46,7 @@ pub returns-in_err-store-clause-calls : goal.returns-in_err-store-clause-calls
 unfolding durable_store
 returns-in_err-store-clause-calls g c =
     calls_failed _ c.from_residual.ensures.0
-    (failed_front (Flush c.args.line ∷ Fence ∷ []) (one_failed c.store.ensures.begun (takes_as_line c.store.ensures.room) c.in_err-store.ensures.cause))
+    (failed_front (Flush c.args.line ∷ Fence ∷ []) (one_failed c.store.ensures.begun c.store.ensures.room c.in_err-store.ensures.cause))
 
 pub returns-in_err-flush-clause-calls : goal.returns-in_err-flush-clause-calls
 unfolding durable_store
