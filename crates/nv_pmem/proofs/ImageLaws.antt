@@ -16,7 +16,7 @@ use Rattle.nv_pmem.proofs.LineLaws.{last_of, word_of-stored_same, word_of-stored
 -- ---- one line
 
 -- the newest value of a word
-has_newest : (word : Word) → MayHave word (newest_value word)
+pub has_newest : (word : Word) → MayHave word (newest_value word)
 has_newest word = (length word.later, omega arith, sym (last_of word.oldest word.later (length word.later) refl))
 
 -- what a load sees may be left

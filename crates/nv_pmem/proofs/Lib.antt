@@ -14,3 +14,4 @@ pub mod CallLaws
 pub mod Ranges
 mod RowStateLaws
 mod LineLoops
+mod LineWiseLaws

@@ -69,26 +69,30 @@ pub last_of : {X : Type 0} (first : X) (rest : List X) (count : ℕ) → count �
 last_of first rest zero end = sym (get_or_past rest (0 - 1) first (omega arith))
 last_of first rest (suc count) end = ap (λ i. get_or rest i first) (omega arith)
 
--- a fence leaves the newest value
-newest-fenced_at : (word : Word) (noted : Option ℕ) → newest_value (fenced_at word noted) ≡ newest_value word
-newest-fenced_at word None = refl
-newest-fenced_at word (Some count) =
-    let newest_of = get_or word.later (length word.later - 1) word.oldest in
-    elim (cases_lt count (length word.later)) [
+-- the newest of some things is left where those before one of them are dropped
+pub newest_left : {X : Type 0} (first : X) (rest : List X) (count : ℕ) → get_or (drop count rest) (length (drop count rest) - 1) (get_or (first ∷ rest) count (get_or rest (length rest - 1) first)) ≡ get_or rest (length rest - 1) first
+newest_left first rest count =
+    let newest_of = get_or rest (length rest - 1) first in
+    elim (cases_lt count (length rest)) [
       | inl less ↦
-          get_or-drop count word.later (length (drop count word.later) - 1) (get_or (word.oldest ∷ word.later) count newest_of)
-          ∙ get_or_default word.later (count + (length (drop count word.later) - 1)) _ word.oldest (omega (arith, length-drop count word.later))
-          ∙ ap (λ i. get_or word.later i word.oldest) (omega (arith, length-drop count word.later))
+          get_or-drop count rest (length (drop count rest) - 1) (get_or (first ∷ rest) count newest_of)
+          ∙ get_or_default rest (count + (length (drop count rest) - 1)) _ first (omega (arith, length-drop count rest))
+          ∙ ap (λ i. get_or rest i first) (omega (arith, length-drop count rest))
       | inr past ↦
-          get_or_past (drop count word.later) (length (drop count word.later) - 1) _ (omega (arith, length-drop count word.later))
-          ∙ elim (cases_lt (length word.later) count) [
-            | inl beyond ↦ get_or_past (word.oldest ∷ word.later) count newest_of (omega arith)
+          get_or_past (drop count rest) (length (drop count rest) - 1) _ (omega (arith, length-drop count rest))
+          ∙ elim (cases_lt (length rest) count) [
+            | inl beyond ↦ get_or_past (first ∷ rest) count newest_of (omega arith)
             | inr last ↦
-                get_or_default (word.oldest ∷ word.later) count newest_of word.oldest (omega arith)
-                ∙ last_of word.oldest word.later count (omega arith)
-                ∙ ap (λ i. get_or word.later i word.oldest) (omega arith)
+                get_or_default (first ∷ rest) count newest_of first (omega arith)
+                ∙ last_of first rest count (omega arith)
+                ∙ ap (λ i. get_or rest i first) (omega arith)
           ]
     ]
+
+-- so a fence leaves the newest value
+pub newest-fenced_at : (word : Word) (noted : Option ℕ) → newest_value (fenced_at word noted) ≡ newest_value word
+newest-fenced_at word None = refl
+newest-fenced_at word (Some count) = newest_left word.oldest word.later count
 
 pub newest-fenced : (line : Line) → newest (fenced line) ≡ newest line
 unfolding newest fenced

@@ -7,7 +7,7 @@ use Rattle.nv_pmem.specs.Part.{Part, word_of, line_of, stored, stored_value}
 use Rattle.nv_pmem.specs.Room.{Room, Takes}
 use Rattle.nv_pmem.specs.RoomSteps.{LineIsItsStores}
 use Rattle.nv_pmem.specs.Runs.{run}
-use Rattle.nv_pmem.specs.Steps.{LineStep, StoreWord, after_line_step, line_stores, word_in}
+use Rattle.nv_pmem.specs.Steps.{LineStep, StoreWord, after_line_step, line_stores}
 use Rattle.nv_pmem.specs.Told.{room_of}
 use Rattle.nv_pmem.proofs.LineLaws.{word_of-stored_same, word_of-stored_other, line_of-set_same, line_of-set_other, length-after_steps}
 use Rattle.nv_pmem.proofs.Rooms.{IsOneMore, none_more, one_more_stored, takes_words}

@@ -1,7 +1,7 @@
 -- Laws about rows: what steps on several parts make of each of them, of their histories and of their images.
 use Rattle.std.proofs.Common.{◌≡◌, ◌≢◌, ℕ, ◌<◌, ◌⊎◌, inl, inr, List, [], ◌∷◌, ◌++◌, All, length, take, drop, replicate, slice_set, slice_index_or, zero, suc, refl, sym, ap, ◌∙◌, subst, arith}
 use Rattle.std.proofs.lemmas.Bool.{cases_eq, cases_lt, eq-eqb, ne_eqb}
-use Rattle.std.proofs.lemmas.List.{get_or-replicate, get_or-set_same, get_or-set_other, get_or_past, length-set, length-take, set_past, set-get_or, set-set, take-append-drop, take-take, take_at}
+use Rattle.std.proofs.lemmas.List.{get_or-set_same, get_or-set_other, get_or_past, length-set, length-take, set_past, set-get_or, set-set, take-append-drop, take-take, take_at}
 use Rattle.std.proofs.lemmas.List.Elements.{All-head, All-tail}
 use Rattle.nv_plain.specs.Images.{PartImage, Image}
 use Rattle.nv_pmem.specs.Images.{IsPartImage, IsQuietLine}

@@ -17,3 +17,4 @@ pub mod Told
 pub mod MemPart
 pub mod FilePart
 pub mod RowStates
+pub mod LineWise

@@ -2,6 +2,7 @@
 ghost use Rattle.nv_pmem.specs.Laws.{StoredIsLoaded, OthersAreKept, StepsKeepLines, BlankIsZeros};
 ghost use Rattle.nv_pmem.specs.Laws.{LoadsAreAnImage, StepsAddTheirStores, NoStoreAddsNothing, QuietPartHasOneImage, FlushAndFenceSettle, QuietStays, BlankIsQuiet};
 ghost use Rattle.nv_pmem.specs.RoomSteps.{LineIsItsStores};
+ghost use Rattle.nv_pmem.specs.LineWise.{WholeImagesAreLeft, LaterStoreIsLeft};
 ghost use Rattle.nv_pmem.specs.RowStates.{TellingRowsHaveStates, RowsHaveOneState, EachPartHasOne};
 
 /// What loads of a part give, as the calls of [`Lines`](crate::Lines) go on.
@@ -35,4 +36,11 @@ pub fn rows_have_states()
     ensures some { TellingRowsHaveStates }
     ensures one { RowsHaveOneState }
     ensures each { EachPartHasOne }
+{}
+
+/// What a power failure may leave where a line is left whole, as one of the contents that it had, it may leave too where each
+/// word is left by itself; and more.
+pub fn words_leave_more_than_lines()
+    ensures whole { WholeImagesAreLeft }
+    ensures more { LaterStoreIsLeft }
 {}

@@ -21,7 +21,10 @@ pub use fault_counter::{FaultCounter, Refused};
 pub use file_part::{FilePart, PartError};
 pub use fuse::Fuse;
 pub use geometry::{BadGeometry, Geometry, GeometryField};
-pub use laws::{images_follow_calls, loads_follow_calls, rooms_follow_calls, rows_have_states};
+pub use laws::{
+    images_follow_calls, loads_follow_calls, rooms_follow_calls, rows_have_states,
+    words_leave_more_than_lines,
+};
 pub use lines::{LineFault, Lines, RegionFault};
 pub use mem_part::MemPart;
 pub use past::Past;
