@@ -4,7 +4,7 @@ use Rattle.std.proofs.lemmas.Bool.{cases_lt, cases_Bool}
 use Rattle.std.proofs.lemmas.List.{get_or_past, ext_get_or, length-take, get_or-take}
 use Rattle.std.proofs.lemmas.List.FromFn.{length-map-range_with_len, get_or-map-range_with_len, fill_by_all}
 use Rattle.nv_pmem.specs.declared.picker.Pick.{Pick}
-use Rattle.nv_pmem.specs.declared.picker.Pick.TheVariants.{Old, New, Torn, Seed}
+use Rattle.nv_pmem.specs.declared.picker.Pick.TheVariants.{Old, New, Torn, Mixed, Seed}
 use Rattle.nv_pmem.specs.Draws.{Draws, after_draw}
 use Rattle.nv_store.specs.Store.{Store, is_unsynced, durable_byte, IsWholeStore, IsQuietStore}
 use Rattle.nv_store.specs.Images.{IsStoreImage}
@@ -72,6 +72,7 @@ image_by_is_image : (pick : Pick) (store : Store) (draws : Draws) → IsWholeSto
 image_by_is_image Old store draws whole = durable_is_image store whole
 image_by_is_image New store draws whole = seen_is_image store whole
 image_by_is_image Torn store draws whole = image_with_is_image store (length store.seen) _ whole.no_longer (omega arith)
+image_by_is_image Mixed store draws whole = image_with_is_image store (length store.seen) _ whole.no_longer (omega arith)
 image_by_is_image (Seed state) store draws whole = drawn_is_image store draws (has_unsynced store) whole
 
 pub picked_is_image : (store : Store) (draws : Draws) → IsWholeStore store → IsStoreImage store (picked_image store draws)

@@ -2,7 +2,7 @@
 use Rattle.std.specs.Prelude.{ℕ, zero, suc, ◌+◌, ◌-◌, ◌%◌, Bool, if◌then◌else◌, List, length, map, take, count_by}
 use Rattle.std.specs.List.{range_with_len, list_any}
 use Rattle.nv_pmem.specs.declared.picker.Pick.{Pick}
-use Rattle.nv_pmem.specs.declared.picker.Pick.TheVariants.{Old, New, Torn, Seed}
+use Rattle.nv_pmem.specs.declared.picker.Pick.TheVariants.{Old, New, Torn, Mixed, Seed}
 use Rattle.nv_pmem.specs.Draws.{Draws, next_word, after_draw}
 use Rattle.nv_store.specs.Store.{Store, is_unsynced, durable_byte}
 
@@ -52,6 +52,7 @@ abbrev pub image_by : Pick → Store → Draws → List ℕ
 image_by Old store draws = store.durable
 image_by New store draws = store.seen
 image_by Torn store draws = torn_image store
+image_by Mixed store draws = torn_image store
 image_by (Seed state) store draws = drawn_image store draws
 
 abbrev pub picked_image : Store → Draws → List ℕ
@@ -62,6 +63,7 @@ abbrev pub draws_by : Pick → Store → Draws → Draws
 draws_by Old store draws = draws
 draws_by New store draws = draws
 draws_by Torn store draws = draws
+draws_by Mixed store draws = draws
 draws_by (Seed state) store draws = after_drawn store draws
 
 abbrev pub draws_after : Store → Draws → Draws

@@ -117,7 +117,7 @@ impl Disk {
         match picker.pick() {
             Pick::Old => self.forget(),
             Pick::New => {}
-            Pick::Torn => self.tear(),
+            Pick::Torn | Pick::Mixed => self.tear(),
             Pick::Seed(_) => self.draw(picker),
         }
         self.sync();
