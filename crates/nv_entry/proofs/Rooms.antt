@@ -6,7 +6,7 @@ use Rattle.nv_entry.specs.Group.{IsReady}
 use Rattle.nv_entry.specs.Ready.{WritesLines, FencesHead, StaysReady}
 
 -- one data line more
-pub writes_lines_more : {old between new : Room} (k : ℕ) → WritesLines k old between → Takes 8 (1 + k) between new → 15 ≤ new.after_fence (1 + k) → WritesLines (k + 1) old new
+pub writes_lines_more : {old between new : Room} (k : ℕ) → WritesLines k old between → Takes 1 (1 + k) between new → 15 ≤ new.after_fence (1 + k) → WritesLines (k + 1) old new
 writes_lines_more {old} {between} {new} k before line flushed = record {
   written = λ j below. elim (cases_eq j k) [
     | inl same ↦ let At : ℕ → Type 0 = λ i. 15 ≤ new.after_fence (1 + i) in subst At (sym same) flushed

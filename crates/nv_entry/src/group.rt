@@ -205,11 +205,11 @@ fn write_data<L: Lines>(part: &mut L, bytes: &[u8]) -> Result<(), RegionFault>
 // A data line, padded with zeros.
 fn write_line<L: Lines>(part: &mut L, line: u64, bytes: &[u8]) -> Result<(), RegionFault>
     requires line { line < (L.room part.old).lines }
-    requires spare { 8 ≤ (L.room part.old).spare line }
+    requires spare { 1 ≤ (L.room part.old).spare line }
     requires size { length bytes.now ≤ 64 }
     ensures calls { PartCalls (line_stores line (padded bytes.now 64) ++ Flush line ∷ [])
         (seen_of L.history L.room L.fault_count part.old) (seen_of L.history L.room L.fault_count part.new) result }
-    ensures room { Takes 8 line (L.room part.old) (L.room part.new) }
+    ensures room { Takes 1 line (L.room part.old) (L.room part.new) }
     ensures flushed { OnOk result (15 ≤ (L.room part.new).after_fence line) }
     ensures cause { HasCause (L.fault_count part.old) (L.fault_count part.new) result }
     ensures device { L.device part.new ≡ L.device part.old }
