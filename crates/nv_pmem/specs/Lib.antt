@@ -14,6 +14,7 @@ pub mod Draws
 pub mod Picked
 pub mod Made
 pub mod Told
+pub mod MemLine
 pub mod MemPart
 pub mod FilePart
 pub mod RowStates

@@ -15,18 +15,20 @@ const LATER_VALUES: usize = 15;
 /// A line in memory. Contracts see it as the line that it is.
 #[derive(Drop)]
 pub(crate) struct MemLine {
+    // Whether it was flushed since the last fence: a fence looks at no word of a line that wasn't.
+    is_flushed: bool,
     words: [MemWord; 8],
 }
 
 impl Model for MemLine {
-    ghost use Rattle.std.specs.Prelude.{◌≡◌, length};
     ghost use Rattle.nv_pmem.specs.Part.{Line};
+    ghost use Rattle.nv_pmem.specs.MemLine.{HoldsLine};
 
     ghost Value = { Line };
 
     ghost view = { λ l. l.words };
 
-    ghost invariant = { λ l. length l.words ≡ 8 };
+    ghost invariant = { λ l. HoldsLine l.is_flushed l.words };
 }
 
 impl MemLine {
@@ -34,6 +36,7 @@ impl MemLine {
         ensures { result ≡ blank_line }
     {
         MemLine {
+            is_flushed: false,
             words: [
                 MemWord::settled(0),
                 MemWord::settled(0),
@@ -53,6 +56,7 @@ impl MemLine {
         ensures { result ≡ settled (words_in bytes.now) }
     {
         MemLine {
+            is_flushed: false,
             words: [
                 MemWord::settled(word_of_bytes(bytes, 0)),
                 MemWord::settled(word_of_bytes(bytes, 1)),
@@ -70,6 +74,7 @@ impl MemLine {
         ensures { result ≡ self.now }
     {
         MemLine {
+            is_flushed: self.is_flushed,
             words: [
                 self.words[0].copy(),
                 self.words[1].copy(),
@@ -109,15 +114,19 @@ impl MemLine {
             let word = &mut self.words[at];
             word.flush();
         }
+        self.is_flushed = true;
     }
 
     #[tactic(auto, unfolding(crate::specs::Part::fenced))]
     pub(crate) fn fence(&mut self)
         ensures { self.new ≡ fenced self.old }
     {
-        for at in 0..8 {
-            let word = &mut self.words[at];
-            word.fence();
+        if self.is_flushed {
+            self.is_flushed = false;
+            for at in 0..8 {
+                let word = &mut self.words[at];
+                word.fence();
+            }
         }
     }
 
@@ -125,6 +134,7 @@ impl MemLine {
     pub(crate) fn lose_power(&mut self, picker: &mut Picker)
         ensures { (self.new, picker.new) ≡ picked_line picker.old self.old }
     {
+        self.is_flushed = false;
         for at in 0..8 {
             let word = &mut self.words[at];
             word.lose_power(at, picker);
@@ -201,7 +211,11 @@ impl MemWord {
             if let Some(value) = self.later[..count].last() {
                 self.oldest = *value;
             }
-            drop(self.later.drain(..count));
+            if count == self.later.len() {
+                self.later.clear();
+            } else {
+                drop(self.later.drain(..count));
+            }
         }
     }
 
