@@ -150,7 +150,7 @@ fn store_name<L: Lines>(header: &mut L, index: u64, name: &[u8]) -> Result<(), R
 // A name's record in this line, durable at `Ok`.
 fn store_record<L: Lines>(header: &mut L, line: u64, name: &[u8]) -> Result<(), RegionFault>
     requires line { line < (L.room header.old).lines }
-    requires spare { 8 ≤ (L.room header.old).spare line }
+    requires spare { 1 ≤ (L.room header.old).spare line }
     requires size { length name.now ≤ version_1.name_limit }
     ensures begun { DidSome (line_stores line (name_record version_1 name.now) ++ Flush line ∷ Fence ∷ []) (L.history header.old) (L.history header.new) }
     ensures done { OnOk result (DidLineStep (line_stores line (name_record version_1 name.now) ++ Flush line ∷ Fence ∷ []) (L.history header.old) (L.history header.new)) }

@@ -29,4 +29,4 @@ returns-clause-begun g c = did_some_all (returns-clause-done g c)
 
 pub returns-clause-room : goal.returns-clause-room
 returns-clause-room g c =
-    stays_stored 8 c.args.line c.store_line.ensures.room c.flush.ensures.room c.in_ok-flush.ensures.flushed c.fence.ensures.room c.in_ok-fence.ensures.freed
+    stays_stored 1 c.args.line c.store_line.ensures.room c.flush.ensures.room c.in_ok-flush.ensures.flushed c.fence.ensures.room c.in_ok-fence.ensures.freed
