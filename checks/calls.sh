@@ -22,7 +22,7 @@ for edit in 's/calls: 2_500,/calls: 25_000,/' 's/answered.len(), 10_000)/answere
     sed -i "$edit" src/board_threads.rt
     [ "$before" != "$(cksum < src/board_threads.rt)" ] || { echo "the test reads otherwise: $edit"; exit 1; }
 done
-said=$(rt try --test --seconds 600 2>&1 < /dev/null) || { echo "$said"; echo "0 passed, 1 failed"; exit 1; }
+said=$(rt try --test --seconds 1200 2>&1 < /dev/null) || { echo "$said"; echo "0 passed, 1 failed"; exit 1; }
 echo "$said"
 if grep -q "^test board_threads::$test \.\.\. ok$" <<< "$said"; then
     echo "1 passed, 0 failed"

@@ -43,9 +43,9 @@ NOBODY = 65534
 
 def call(program, words, given=b"", **how):
     try:
-        done = subprocess.run([program, *words], input=given, stdout=subprocess.PIPE, timeout=60, **how)
+        done = subprocess.run([program, *words], input=given, stdout=subprocess.PIPE, timeout=600, **how)
     except subprocess.TimeoutExpired:
-        return b"", "no end in 60 seconds"
+        return b"", "no end in ten minutes"
     return done.stdout, done.returncode
 
 

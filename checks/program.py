@@ -78,7 +78,7 @@ TABLE = [
 
 
 def run(program, words, **streams):
-    return subprocess.run([program, *words], stderr=subprocess.PIPE, timeout=60, **streams)
+    return subprocess.run([program, *words], stderr=subprocess.PIPE, timeout=600, **streams)
 
 
 def table(program):

@@ -223,7 +223,7 @@ def rows():
 def main(program):
     passed = failed = 0
     for words, given, reports, status in rows():
-        done = subprocess.run([program, *words], input=given.replace("|", "\n").encode(), capture_output=True, timeout=60)
+        done = subprocess.run([program, *words], input=given.replace("|", "\n").encode(), capture_output=True, timeout=600)
         found = done.stdout.decode().replace("\n", "|")
         if found in reports and (done.returncode, done.stderr) == (status, b""):
             passed += 1

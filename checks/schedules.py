@@ -188,9 +188,9 @@ class Schedule:
     def shown(self, program):
         """The report and the status, by the program."""
         try:
-            done = subprocess.run([program, "sched", *self.words()], input=self.trace().encode(), stdout=subprocess.PIPE, timeout=60)
+            done = subprocess.run([program, "sched", *self.words()], input=self.trace().encode(), stdout=subprocess.PIPE, timeout=600)
         except subprocess.TimeoutExpired:
-            return "", "no end in 60 seconds"
+            return "", "no end in ten minutes"
         return done.stdout.decode(), done.returncode
 
 

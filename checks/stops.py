@@ -119,9 +119,9 @@ def wanted(report):
 
 def call(program, words):
     try:
-        done = subprocess.run([program, *words], input=TRACE, stdout=subprocess.PIPE, timeout=60)
+        done = subprocess.run([program, *words], input=TRACE, stdout=subprocess.PIPE, timeout=600)
     except subprocess.TimeoutExpired:
-        return "", "no end in 60 seconds"
+        return "", "no end in ten minutes"
     return done.stdout.decode(), done.returncode
 
 

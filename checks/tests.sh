@@ -8,7 +8,7 @@ trap 'rm -rf "$room"' EXIT
 ./lay_out_tests.sh "$room"
 cd "$room/crates/unproved_tests"
 status=0
-said=$(rt try --test --seconds 300 2>&1 < /dev/null) || status=$?
+said=$(rt try --test --seconds 600 2>&1 < /dev/null) || status=$?
 echo "$said"
 told=$(sed -nE 's/^test result: .* ([0-9]+) passed; ([0-9]+) failed;.*/\1 \2/p' <<< "$said")
 read -r passed failed <<< "${told:-0 1}"

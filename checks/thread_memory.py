@@ -61,7 +61,7 @@ def counted(program, room):
     environment = {**os.environ, "LD_PRELOAD": f"{room}/count.so", "COUNTS": f"{room}/counts"}
     os.mkdir(f"{room}/folder")
     words = [program, f"{room}/folder", "run", "--cache", "2"]
-    done = subprocess.run(words, input=trace(), stdout=subprocess.PIPE, env=environment, timeout=120)
+    done = subprocess.run(words, input=trace(), stdout=subprocess.PIPE, env=environment, timeout=600)
     with open(f"{room}/counts", encoding="ascii") as rows:
         return done.returncode, done.stdout.count(b"\n"), [[int(word) for word in row.split()] for row in rows]
 

@@ -40,9 +40,9 @@ def trace(writes):
 
 def call(program, words, given=b""):
     try:
-        done = subprocess.run([program, *words], input=given, stdout=subprocess.PIPE, timeout=120)
+        done = subprocess.run([program, *words], input=given, stdout=subprocess.PIPE, timeout=600)
     except subprocess.TimeoutExpired:
-        return b"", "no end in 120 seconds"
+        return b"", "no end in ten minutes"
     return done.stdout, done.returncode
 
 

@@ -140,7 +140,7 @@ def refusals():
 
 def run(program, words, given):
     """What the program writes, and its status. Each character of the input is a byte."""
-    done = subprocess.run([program, *words], input=given.encode("latin-1"), stdout=subprocess.PIPE, timeout=60)
+    done = subprocess.run([program, *words], input=given.encode("latin-1"), stdout=subprocess.PIPE, timeout=600)
     return done.stdout.decode(), done.returncode
 
 
