@@ -2,9 +2,10 @@
 # Looks at the pages that a person reads (docs.py), tests nv_sim and nv_run as their users run them: streams and statuses (program.py),
 # rows of commands and their reports (rows.py), lines of traces (traces.py), folders of a real disk (folder.py), regions that are made by hand (regions.py); compares the
 # summaries of loads with those of the rules (load.py) and the reports of 300 drawn schedules with those of a model of the machine that is
-# made after the pages (schedules.py), looks for the one history of 20,000 calls of four threads (crowds.py), stops runs of two threads at each of many device calls (stops.py), kills a few of four over a folder
-# (threads.py), counts what threads take from the heap once they are at work (thread_memory.py) and what calls that take no memory allocate
-# (no_memory.sh), and tries the tests that nothing proves (tests.sh). These two build anew, so they go beside the others, and are told last.
+# made after the pages (schedules.py), looks for the one history of 20,000 calls of four threads, and of 18,000 amid which power fails (crowds.py), stops runs of two threads
+# at each of many device calls (stops.py), kills a few of four over a folder (threads.py), counts what threads take from the heap once they are at work (thread_memory.py) and what calls
+# that take no memory allocate (no_memory.sh), and tries the tests that nothing proves (tests.sh). These two build anew, and what runs over folders waits for the disk, so each of
+# these goes beside the others and is told behind them.
 # The gate leaves the programs built; without it, this builds them. All of it is made; ends with the status of the first that fails.
 set -eu
 cd "$(dirname "$0")/../crates"
@@ -17,11 +18,20 @@ room=$(mktemp -d)
 trap 'rm -rf "$room"' EXIT
 first=0
 tell() { "$@" || { status=$?; [ $first != 0 ] || first=$status; }; }
+beside=()
+begin() { "$@" > "$room/${#beside[@]}" 2>&1 & beside+=($!); }
 
-../checks/tests.sh > "$room/tests" 2>&1 &
-tests=$!
-../checks/no_memory.sh > "$room/no_memory" 2>&1 &
-no_memory=$!
+over_folders() {
+    tell python3 ../checks/folder.py "$run"
+    tell python3 ../checks/regions.py "$run"
+    tell python3 ../checks/threads.py "$run" 8 60
+    tell python3 ../checks/thread_memory.py "$run"
+    return $first
+}
+
+begin ../checks/tests.sh
+begin ../checks/no_memory.sh
+begin over_folders
 tell python3 ../checks/docs.py
 tell python3 ../checks/program.py "$sim"
 tell python3 ../checks/rows.py "$sim"
@@ -30,12 +40,8 @@ tell python3 ../checks/load.py "$sim"
 tell python3 ../checks/schedules.py "$sim"
 tell python3 ../checks/crowds.py "$sim"
 tell python3 ../checks/stops.py "$sim"
-tell python3 ../checks/folder.py "$run"
-tell python3 ../checks/regions.py "$run"
-tell python3 ../checks/threads.py "$run" 8 60
-tell python3 ../checks/thread_memory.py "$run"
-tell wait $no_memory
-cat "$room/no_memory"
-tell wait $tests
-cat "$room/tests"
+for i in 2 1 0; do
+    tell wait "${beside[$i]}"
+    cat "$room/$i"
+done
 exit $first
