@@ -7,7 +7,7 @@ use std::sync::Arc;
 use std::sync::atomic::{AtomicU64, Ordering};
 
 /// Decides which calls of the devices that share it fail: those of a list, and, while it is armed, all from one on.
-/// Calls are counted from 1, over all copies of the fuse.
+/// The calls of a list are counted from 1, over all copies of the fuse, and those of an arming from it on.
 #[derive(Drop)]
 pub struct Fuse {
     shared: Arc<Shared, Global>,
@@ -59,8 +59,12 @@ impl Fuse {
         self.shared.last.store(u64::MAX, Ordering::SeqCst);
     }
 
-    /// Counts one call, and says whether it fails.
+    /// Counts one call, and says whether it fails. Calls that can't fail aren't counted: so devices that several threads
+    /// use share no word that each of their calls changes.
     pub(crate) fn blows(&self) -> bool {
+        if self.shared.fails.is_empty() && self.shared.last.load(Ordering::SeqCst) == u64::MAX {
+            return false;
+        }
         let call = self
             .shared
             .calls
