@@ -1,4 +1,5 @@
 pub mod Flags
+pub mod Spans
 pub mod Choices
 pub mod StoreLaws
 pub mod ImageLaws

@@ -1,4 +1,5 @@
 pub mod Store
+pub mod Spans
 pub mod Steps
 pub mod Torn
 pub mod Causes

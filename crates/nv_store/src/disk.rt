@@ -1,7 +1,8 @@
 //! A disk in memory, and what of it is durable.
-ghost use Rattle.std.specs.Prelude.{◌≡◌, ◌+◌, ◌<◌, ◌≤◌, ◌++◌, drop, max, length, IfOk, OnOk, OnErr, vec_len, vec_capacity};
+ghost use Rattle.std.specs.Prelude.{◌≡◌, ◌+◌, ◌<◌, ◌≤◌, ◌++◌, false, take, drop, replicate, max, length, IfOk, OnOk, OnErr, vec_len, vec_capacity};
 ghost use Rattle.nv_plain.specs.Files.{bytes_at, overwritten};
 ghost use Rattle.nv_store.specs.Store.{Store, IsWholeStore, quiet_store, marked};
+ghost use Rattle.nv_store.specs.Spans.{LieWithin, DifferWithin};
 ghost use Rattle.nv_store.specs.Picked.{redrawn, count_below, after_draws};
 ghost use Rattle.nv_store.specs.Replaced.{replaced};
 
@@ -18,8 +19,12 @@ pub(crate) struct Disk {
     seen: Vec<u8>,
     durable: Vec<u8>,
     unsynced: Vec<bool>,
+    // Where those bytes lie that were written since the last sync, so that a sync copies these alone.
+    from: usize,
+    to: usize,
     pub ghost whole: { let store : Store = record { seen = seen.items; durable = durable.items; unsynced = unsynced.items } in
         IsWholeStore store },
+    pub ghost span: { LieWithin from to unsynced.items },
     // So a sync needs no memory.
     pub ghost room: { vec_len seen ≤ vec_capacity durable },
 }
@@ -40,6 +45,8 @@ impl Disk {
             seen: Vec::from_slice(alloc, bytes)?,
             durable: Vec::from_slice(alloc, bytes)?,
             unsynced: vec![in alloc; false; bytes.len()]?,
+            from: usize::MAX,
+            to: 0,
         })
     }
 
@@ -89,6 +96,8 @@ impl Disk {
         if !bytes.is_empty() {
             overwrite(&mut self.seen, at, bytes);
             flag(&mut self.unsynced, at, bytes.len());
+            self.from = self.from.min(at);
+            self.to = self.to.max(at + bytes.len());
         }
     }
 
@@ -97,16 +106,22 @@ impl Disk {
         ensures { disk_store self.new ≡ with_marks at count (disk_store self.old) }
     {
         mark(&mut self.unsynced, at, count);
+        self.from = self.from.min(at);
+        let end = at.saturating_add(count).min(self.unsynced.len());
+        self.to = self.to.max(end);
     }
 
     /// Makes durable what reads give.
     pub(crate) fn sync(&mut self)
         ensures { disk_store self.new ≡ after_store_step Sync (disk_store self.old) }
     {
-        self.durable.clear();
-        let copied = self.durable.extend_from_slice(&self.seen).is_ok();
+        let kept = self.durable.len();
+        settle(&mut self.durable, &self.seen, self.from, self.to);
+        let copied = self.durable.extend_from_slice(&self.seen[kept..]).is_ok();
         prove!(copied);
-        self.unsynced.fill(false);
+        clear(&mut self.unsynced, self.from, self.to);
+        self.from = usize::MAX;
+        self.to = 0;
     }
 
     /// Leaves the image that a picker takes, durable.
@@ -210,6 +225,29 @@ fn mark(flags: &mut [bool], at: usize, count: usize)
     let end = at.saturating_add(count).min(flags.len());
     if at < end {
         flags[at..end].fill(true);
+    }
+}
+
+// Makes some bytes those that stand in their places in others, where they are so but for a range already.
+fn settle(bytes: &mut [u8], source: &[u8], from: usize, to: usize)
+    requires long { length bytes.old ≤ length source.now }
+    requires same { DifferWithin from to bytes.old source.now }
+    ensures { bytes.new ≡ take (length bytes.old) source.now }
+{
+    let end = to.min(bytes.len());
+    if from < end {
+        bytes[from..end].copy_from_slice(&source[from..end]);
+    }
+}
+
+// Takes the marks of a range away, where there are no others.
+fn clear(flags: &mut [bool], from: usize, to: usize)
+    requires { LieWithin from to flags.old }
+    ensures { flags.new ≡ replicate (length flags.old) false }
+{
+    let end = to.min(flags.len());
+    if from < end {
+        flags[from..end].fill(false);
     }
 }
 

@@ -1,8 +1,10 @@
-use Rattle.std.proofs.Common.{◌≡◌, false, length, take, refl, ap, ◌∙◌, arith}
+use Rattle.std.proofs.Common.{◌≡◌, false, length, take, refl, sym, ap, subst, ◌∙◌, arith}
 use Rattle.std.proofs.lemmas.List.{with_items_is, length-take, get_or-take}
 use Rattle.nv_store.specs.Disk.{disk_store}
 use Rattle.nv_store.specs.Picked.{redrawn, image_with}
 use Rattle.nv_store.specs.Replaced.{replaced}
+use Rattle.nv_store.specs.Spans.{LieWithin}
+use Rattle.nv_store.proofs.Spans.{front_within}
 use Rattle.nv_store.proofs.StoreLaws.{whole_same}
 use Rattle.nv_store.proofs.ImageLaws.{whole_replaced, front_is_first, replaced_in, replaced_is_image_with}
 use Rattle.nv_store.proofs.disk.Disk.cut.Goals as goal
@@ -23,6 +25,7 @@ invariant_of-self c =
           (whole_replaced store (take len store.seen) other (take len store.unsynced) disk.whole first
           (omega (arith, length-take len store.unsynced, length-take len store.seen, disk.whole.flags))
           (λ i inside. get_or-take len store.unsynced i false (omega (arith, length-take len store.seen))));
+      span = subst (LieWithin disk.from disk.to) (sym c.truncate-2.ensures.items) (front_within disk.from disk.to len store.unsynced disk.span);
       room = omega (arith, disk.room, c.truncate.ensures.len);
     }
 

@@ -18,6 +18,7 @@ invariant_of-self c =
       whole =
           whole_same _ _ (back ∙ now) refl refl
           (whole_replaced store store.seen (λ i. 0xa5) store.unsynced disk.whole first disk.whole.flags (λ i inside. refl));
+      span = disk.span;
       room = disk.room;
     }
 

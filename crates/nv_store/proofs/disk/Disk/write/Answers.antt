@@ -1,11 +1,13 @@
 use Rattle.std.proofs.lemmas.Bool.Decides.{nat_tests}
-use Rattle.std.proofs.Common.{◌≡◌, ◌==◌, ◌<◌, Bool, true, false, length, List, [], ℕ, refl, sym, ap, ◌∙◌, arith}
+use Rattle.std.proofs.Common.{◌≡◌, ◌==◌, ◌<◌, Bool, true, false, length, List, [], ℕ, refl, sym, ap, subst, ◌∙◌, arith, inl}
 use Rattle.std.proofs.lemmas.List.{nil_from_length}
 use Rattle.nv_plain.specs.Files.{overwritten}
 use Rattle.nv_plain.proofs.FileLemmas.{length-overwritten}
 use Rattle.nv_store.specs.Store.{marked}
 use Rattle.nv_store.specs.Steps.{Write, after_store_step}
 use Rattle.nv_store.specs.Disk.{disk_store}
+use Rattle.nv_store.specs.Spans.{LieWithin}
+use Rattle.nv_store.proofs.Spans.{marked_within}
 use Rattle.nv_store.proofs.StoreLaws.{whole_same, whole_after_step, write_nothing}
 use Rattle.nv_store.proofs.disk.Disk.write.Goals as goal
 
@@ -28,6 +30,10 @@ invariant_of-self c =
     let room = c.requires some in
     record {
       whole = whole_same (after_store_step (Write at bytes) store) _ c.overwrite.ensures refl flags (whole_after_step (Write at bytes) store disk.whole);
+      span =
+          subst (LieWithin c.min-self.result c.max-self.result) (sym flags)
+          (marked_within disk.from disk.to c.min-self.result c.max-self.result at (length bytes) (length (overwritten store.seen at bytes)) store.unsynced
+          (omega arith) (omega arith) (omega arith) (inl (omega arith)) disk.span);
       room = omega (arith, len, ap length c.overwrite.ensures, c.overwrite.new.bytes.ok.0, room.durable, disk.room, disk.seen.ok.0);
     }
 
