@@ -40,37 +40,38 @@ class Fuse:
 
 
 class Part:
-    """Lines of persistent memory: of each its contents since the durable one, the oldest first."""
+    """Lines of persistent memory: of each word of a line its values since the durable one, the oldest first."""
 
     def __init__(self, fuse, lines):
-        self.fuse, self.lines, self.noted = fuse, [[(0,) * 8] for _ in range(lines)], {}
-
-    def appended(self, line, word, value):
-        last = self.lines[line][-1]
-        self.lines[line].append((*last[:word], value, *last[word + 1 :]))
+        self.fuse, self.lines, self.noted = fuse, [[[0] for _ in range(8)] for _ in range(lines)], {}
 
     def load(self, line, word):
         self.fuse.count("region fault")
-        return self.lines[line][-1][word]
+        return self.lines[line][word][-1]
 
     def store(self, line, word, value):
         self.fuse.count("region fault")
-        self.appended(line, word, value)
+        self.lines[line][word].append(value)
 
     def store_line(self, line, data):
         self.fuse.count("region fault")
         for word in range(8):
-            self.appended(line, word, int.from_bytes(data[8 * word : 8 * word + 8], "little"))
+            self.lines[line][word].append(int.from_bytes(data[8 * word : 8 * word + 8], "little"))
 
     def flush(self, line):
         self.fuse.count("region fault")
-        self.noted[line] = len(self.lines[line]) - 1
+        self.noted[line] = [len(values) - 1 for values in self.lines[line]]
 
     def fence(self):
         self.fuse.count("region fault")
         for line, oldest in self.noted.items():
-            del self.lines[line][:oldest]
+            for values, first in zip(self.lines[line], oldest):
+                del values[:first]
         self.noted.clear()
+
+    def lose_power(self, picker):
+        for line in self.lines:
+            line[:] = [[picker.word(word, values)] for word, values in enumerate(line)]
 
     def store_durably(self, line, word, value):
         self.store(line, word, value)
@@ -124,10 +125,10 @@ class Picker:
     def __init__(self, pick):
         self.pick, self.draws = pick, splitmix(int(pick)) if pick.isdigit() else None
 
-    def content(self, contents):
-        if len(contents) > 1 and self.draws:
-            return contents[next(self.draws) % len(contents)]
-        return contents[-1 if self.pick == "new" else 0]
+    def word(self, word, values):
+        if len(values) > 1 and self.draws:
+            return values[next(self.draws) % len(values)]
+        return values[-1 if self.pick == "new" or self.pick == "mixed" and word % 2 else 0]
 
     def file(self, store):
         if not store.unsynced or self.pick == "new":

@@ -70,6 +70,7 @@ RUNS = [
     ("run --noworker --stop 12 --image old", HELLO, LOST),
     ("run --noworker --stop 12 --image 0", HELLO, KEPT),
     ("run --noworker --stop=12 --image=torn", HELLO, LOST),
+    ("run --noworker --stop=12 --image=mixed", HELLO, LOST),
     ("run --noworker --stop=12 --image=new", HELLO, KEPT),
     ("run --noworker --stop 13 --image old", HELLO, AT_THE_STORE),
     ("run --noworker --stop=4294967295 --image=4294967295", HELLO, WHOLE),
@@ -191,7 +192,7 @@ BAD_VALUES = {
     "--batch": ["0", "1025", "four"],
     "--pages": ["0", "1025", " 1"],
     "--stop": ["0", "4294967296", "18446744073709551617", "-1", ""],
-    "--image": ["4294967296", "NEW", "-1", "", "18446744073709551617"],
+    "--image": ["4294967296", "NEW", "Mixed", "-1", "", "18446744073709551617"],
 }
 
 

@@ -96,8 +96,7 @@ def follow(mount, callers, tokens, most):
 def lose_power(mount, pick):
     picker = Picker(pick)
     for part in mount.parts:
-        for line in part.lines:
-            line[:] = [picker.content(line)]
+        part.lose_power(picker)
     for store in mount.stores:
         store.now = picker.file(store)
     mount.fuse.last = None
@@ -196,7 +195,7 @@ class Schedule:
 
 # ---- rows whose reports are known
 
-PICKS = ["old", "new", "torn", *map(str, range(10))]
+PICKS = ["old", "new", "torn", "mixed", *map(str, range(10))]
 TWO_THREADS = (["0 pfill 0 0 128 0", "0 pwrite 0 0 aa", "1 pwrite 0 64 bb"], "0:done 0:seize 1:done 0:pledge cut:12 0")
 IN_TWO_ENTRIES = ([f"0 pwrite 0 {k} 0{k}" for k in range(3)], "0:done w:done 0:done w:done 0:done")
 ONE = ["0 pwrite 0 0 aa"]
@@ -209,9 +208,9 @@ PLACED = "0 0 pwrite 0 0 1 = 1|file a 1 aa|end 1 0 0"
 
 # A name, the sizes, the pick, the calls, the tokens, and the report; a line feed is a bar.
 ROWS = [
-    ("cut before the fence, old image", {}, "old", *TWO_THREADS,
-     f"0 0 pwrite 0 0 128 = 128|1 1 pwrite 0 64 1 = 1|open 0 pwrite 0 0 1: lost|file a 128 {'00' * 64}bb{'00' * 63}|end 2 0 1"),
-    ("the same, new image", {}, "new", *TWO_THREADS,
+    *[("cut before the fence, without its commit word", {}, pick, *TWO_THREADS,
+       f"0 0 pwrite 0 0 128 = 128|1 1 pwrite 0 64 1 = 1|open 0 pwrite 0 0 1: lost|file a 128 {'00' * 64}bb{'00' * 63}|end 2 0 1") for pick in ("old", "torn", "mixed")],
+    ("cut before the fence, with its commit word", {}, "new", *TWO_THREADS,
      f"0 0 pwrite 0 0 128 = 128|1 1 pwrite 0 64 1 = 1|open 0 pwrite 0 0 1: kept|file a 128 aa{'00' * 63}bb{'00' * 63}|end 2 0 1"),
     ("group cut in its third piece", {}, "new", ["0 pfill 0 0 192 5"], "0:pledge cut:19 0",
      "open 0 pwrite 0 0 192: lost|file a 0 -|end 0 0 1"),
@@ -253,7 +252,7 @@ ROWS = [
     ("no calls", {}, "old", [], "", "file a 0 -|end 0 0 0"),
     *[(f"cut at call {k} of a write", {}, pick, ONE, f"cut:{k} 0:done", LOST) for k in range(1, 11) for pick in PICKS],
     *[(f"cut at call {k} of a write", {}, pick, ONE, f"cut:{k} 0:done", text)
-      for k in (11, 12) for pick, text in [("old", LOST), ("torn", LOST), ("new", KEPT), ("0", KEPT)]],
+      for k in (11, 12) for pick, text in [("old", LOST), ("torn", LOST), ("mixed", LOST), ("new", KEPT), ("0", KEPT)]],
     *[(f"cut at call {k}, behind a write", {}, pick, ONE, f"cut:{k} 0:done w:done", PLACED) for k in range(13, 61) for pick in PICKS],
 ]
 
@@ -376,7 +375,7 @@ def drawn(number):
     if draw.random() < 0.6:
         lines, tokens = ["0 pfill 0 0 200 238", *lines], ["0:done", *tokens]
     tokens += drawn_end(draw)
-    pick = draw.choice(["old", "new", "torn", *[str(draw.randrange(1 << 32))] * 2])
+    pick = draw.choice(["old", "new", "torn", "mixed", *[str(draw.randrange(1 << 32))] * 2])
     schedule = Schedule(sizes, pick, lines, tokens, ("a rw", "a r", "a w", draw.choice(["a rw", "b rw"])))
     used_up = schedule.followed(FEW_ADVANCES)[2]
     while used_up is not None and number % 50:

@@ -38,7 +38,7 @@ round
 """.split("\n")[1:-1]
 TRACE = "\n".join(["file a", "fd 0 a rw", *CALLS, ""]).encode()
 SIZES = ["--entries", "6", "--cache", "2"]
-PICKS = ["old", "new", "torn", "5"]
+PICKS = ["old", "new", "torn", "mixed", "5"]
 WHYS = {"stopped", "region fault", "store fault"}
 
 

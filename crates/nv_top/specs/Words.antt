@@ -10,7 +10,7 @@ use Rattle.clap.specs.declared.builder.action.ArgAction.TheVariants.{SetTrue}
 use Rattle.nv_plain.specs.Layouts.{version_1}
 use Rattle.nv_pmem.specs.Limits.{IsEntryCount, IsPageSize}
 use Rattle.nv_pmem.specs.declared.picker.Pick.{Pick}
-use Rattle.nv_pmem.specs.declared.picker.Pick.TheVariants.{Old, New, Torn, Seed}
+use Rattle.nv_pmem.specs.declared.picker.Pick.TheVariants.{Old, New, Torn, Mixed, Seed}
 use Rattle.nv_top.specs.declared.words.Command.{Command}
 use Rattle.nv_top.specs.declared.words.Command.TheVariants.{Run, Sched, Recover, Look, Gen}
 use Rattle.nv_top.specs.declared.words.RunOptions.{RunOptions}
@@ -78,13 +78,14 @@ abbrev pub stop_in : Option (List ℕ) → Option (Option ℕ)
 stop_in None = Some None
 stop_in (Some text) = option_map Some (number_in 1 largest_number text)
 
--- the image that an option names: `old`, `new`, `torn`, or a number; the old one where the option isn't there
+-- the image that an option names: `old`, `new`, `torn`, `mixed`, or a number; the old one where the option isn't there
 abbrev pub image_in : Option (List ℕ) → Option Pick
 image_in None = Some Old
 image_in (Some text) =
     if bytes_eq text (codes "old") then Some Old
     else if bytes_eq text (codes "new") then Some New
     else if bytes_eq text (codes "torn") then Some Torn
+    else if bytes_eq text (codes "mixed") then Some Mixed
     else option_map Seed (number_in 0 largest_number text)
 
 -- what all options say

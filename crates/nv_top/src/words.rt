@@ -286,6 +286,7 @@ fn image_of(matches: &ArgMatches<'_>) -> Option<Pick>
         None | Some("old") => Some(Pick::Old),
         Some("new") => Some(Pick::New),
         Some("torn") => Some(Pick::Torn),
+        Some("mixed") => Some(Pick::Mixed),
         Some(text) => parse_number(text, 0, LARGEST).map(Pick::Seed),
     }
 }
