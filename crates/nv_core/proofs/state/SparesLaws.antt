@@ -70,7 +70,7 @@ after_told (Flush line) old new there after = (
 after_told Fence old new there after = (keeps_told old new after.0, frees_told old new after.0.lines after.1)
 
 fault_told : (step : LineStep) (old new : Room) → RoomAfterFault step old new → RoomAfterFault step (room_of_spares (spares_of old)) (room_of_spares (spares_of new))
-fault_told (StoreWord line word value) old new after = takes_told 8 line old new after
+fault_told (StoreWord line word value) old new after = takes_told 1 line old new after
 fault_told (Flush line) old new after = keeps_told old new after
 fault_told Fence old new after = keeps_told old new after
 

@@ -1,6 +1,6 @@
 -- The batch walks are runs.
 use Rattle.std.proofs.Common.{◌≡◌, Some, replicate, option_map, refl, arith}
-use Rattle.nv_pmem.specs.Part.{newest, stored, with_word as with_word_of, flushed, fenced, fenced_at, word_at}
+use Rattle.nv_pmem.specs.Part.{newest, stored, flushed, fenced, word_at}
 use Rattle.nv_pmem.specs.Steps.{Fence, Flush, StoreWord, line_stores, durable_store}
 use Rattle.nv_store.specs.Store.{quiet_store, marked}
 use Rattle.nv_store.specs.Steps.{Write as StoreWrite, after_store_step}
@@ -16,11 +16,11 @@ use Rattle.nv_core.proofs.steps.Tabled.{come, tabled}
 
 -- the parts of the two entries have their pieces
 first_says : SaysPieceOf walk_sizes 0 walk_bytes (dirty_core.values (ENTRY 0))
-unfolding group_steps pieces_steps piece_steps data_steps entry_field_steps line_stores durable_store newest stored with_word_of flushed fenced fenced_at word_at
+unfolding group_steps pieces_steps piece_steps data_steps entry_field_steps line_stores durable_store newest stored flushed fenced word_at
 first_says = (refl, refl)
 
 second_says : SaysPieceOf walk_sizes 64 walk_bytes (dirty_core.values (ENTRY 1))
-unfolding group_steps pieces_steps piece_steps data_steps entry_field_steps line_stores durable_store newest stored with_word_of flushed fenced fenced_at word_at
+unfolding group_steps pieces_steps piece_steps data_steps entry_field_steps line_stores durable_store newest stored flushed fenced word_at
 second_says = (refl, refl)
 
 -- what the two writes to the store leave of it
@@ -34,7 +34,7 @@ second_leaves = refl
 
 -- the header's part with the new tail
 header_moves : batch_core.values HEADER ≡ APart record { told = Some moved_header; faults = 0; identity = 0 } (walk_spares 18)
-unfolding newest stored with_word_of flushed fenced fenced_at
+unfolding newest stored flushed fenced
 header_moves = refl
 
 pub batch_is_walked : BatchIsWalked

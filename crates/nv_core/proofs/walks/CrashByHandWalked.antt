@@ -6,7 +6,7 @@ use Rattle.nv_plain.specs.Images.{Image, Entry, entry_of, PartImage}
 use Rattle.nv_plain.specs.Recovered.{recovered}
 use Rattle.nv_plain.specs.declared.call.FileCall.{FileCall}
 use Rattle.nv_plain.specs.declared.call.FileCall.TheVariants.{Read, Write, Sync}
-use Rattle.nv_pmem.specs.Part.{Part, line_of, part_word, word_at, newest, stored, with_word as with_word_of, flushed, fenced, fenced_at}
+use Rattle.nv_pmem.specs.Part.{Part, word_of, line_of, part_word, word_at, newest, stored, flushed, fenced}
 use Rattle.nv_pmem.specs.Images.{IsPartImage, PowerMayLeave}
 use Rattle.nv_pmem.specs.Laws as lines
 use Rattle.nv_pmem.specs.Steps.{line_stores, durable_store}
@@ -35,11 +35,11 @@ use Rattle.nv_core.proofs.steps.RunLaws.{run_both}
 
 -- what was last made durable
 abbrev oldest_of : Part → PartImage
-oldest_of part line word = word_at (line_of part line).oldest word
+oldest_of part line word = (word_of (line_of part line) word).oldest
 
 oldest_is : (part : Part) → IsPartImage part (oldest_of part)
-unfolding PowerMayLeave word_at
-oldest_is part = record { lines = λ line. (0, omega arith, λ word. refl) }
+unfolding PowerMayLeave
+oldest_is part = record { lines = λ line word. (0, omega arith, refl) }
 
 -- whatever log one begins with
 abbrev any_log : Log
@@ -97,19 +97,19 @@ five_left a b c d e = record { count = refl; each = each }
 
 -- the third write's commit word is the newest content of its line, and not the oldest
 newest_entries : map (λ slot. entry_of (region_of part_word hand_core.values (1 + slot))) (0 ∷ 1 ∷ 2 ∷ []) ≡ hand_entries 3
-unfolding group_steps pieces_steps piece_steps data_steps entry_field_steps line_stores durable_store newest stored with_word_of flushed fenced fenced_at word_at
+unfolding group_steps pieces_steps piece_steps data_steps entry_field_steps line_stores durable_store newest stored flushed fenced word_at
 newest_entries = refl
 
 oldest_entries : map (λ slot. entry_of (region_of oldest_of hand_core.values (1 + slot))) (0 ∷ 1 ∷ 2 ∷ []) ≡ hand_entries 0
-unfolding group_steps pieces_steps piece_steps data_steps entry_field_steps line_stores durable_store newest stored with_word_of flushed fenced fenced_at word_at
+unfolding group_steps pieces_steps piece_steps data_steps entry_field_steps line_stores durable_store newest stored flushed fenced word_at
 oldest_entries = refl
 
 newest_commits : is_committed walk_sizes (region_of part_word hand_core.values) 2 ≡ true
-unfolding group_steps pieces_steps piece_steps data_steps entry_field_steps line_stores durable_store newest stored with_word_of flushed fenced fenced_at word_at
+unfolding group_steps pieces_steps piece_steps data_steps entry_field_steps line_stores durable_store newest stored flushed fenced word_at
 newest_commits = refl
 
 oldest_commits : is_committed walk_sizes (region_of oldest_of hand_core.values) 2 ≡ false
-unfolding group_steps pieces_steps piece_steps data_steps entry_field_steps line_stores durable_store newest stored with_word_of flushed fenced fenced_at word_at
+unfolding group_steps pieces_steps piece_steps data_steps entry_field_steps line_stores durable_store newest stored flushed fenced word_at
 oldest_commits = refl
 
 -- ---- the law

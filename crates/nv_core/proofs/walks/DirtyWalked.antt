@@ -2,7 +2,7 @@
 use Rattle.std.proofs.Common.{replicate, refl, arith}
 use Rattle.nv_entry.specs.Group.{group_steps, pieces_steps, piece_steps, data_steps, entry_field_steps}
 use Rattle.nv_pmem.specs.Steps.{line_stores, durable_store}
-use Rattle.nv_pmem.specs.Part.{newest, stored, with_word as with_word_of, flushed, fenced, fenced_at, word_at}
+use Rattle.nv_pmem.specs.Part.{newest, stored, flushed, fenced, word_at}
 use Rattle.nv_core.specs.state.Words.{ENTRY}
 use Rattle.nv_core.specs.steps.Order.{SaysPieceOf}
 use Rattle.nv_core.specs.walks.Walks.{walk_sizes, walk_bytes, write_core}
@@ -12,7 +12,7 @@ use Rattle.nv_core.proofs.steps.Tabled.{come, tabled}
 
 -- the part of entry 1 has the piece
 piece_says : SaysPieceOf walk_sizes 64 walk_bytes (second_core.values (ENTRY 1))
-unfolding group_steps pieces_steps piece_steps data_steps entry_field_steps line_stores durable_store newest stored with_word_of flushed fenced fenced_at word_at
+unfolding group_steps pieces_steps piece_steps data_steps entry_field_steps line_stores durable_store newest stored flushed fenced word_at
 piece_says = (refl, refl)
 
 pub dirty_read_is_walked : DirtyReadIsWalked

@@ -1,7 +1,7 @@
 -- The events of the crash by hand are a run.
 use Rattle.std.proofs.Common.{zero, suc, Some, refl, arith}
 use Rattle.nv_plain.specs.declared.call.FileCall.TheVariants.{Write}
-use Rattle.nv_pmem.specs.Part.{word_at, newest, stored, with_word as with_word_of, flushed, fenced, fenced_at}
+use Rattle.nv_pmem.specs.Part.{word_at, newest, stored, flushed, fenced}
 use Rattle.nv_pmem.specs.Steps.{line_stores, durable_store}
 use Rattle.nv_store.specs.Store.{marked}
 use Rattle.nv_entry.specs.Group.{group_steps, pieces_steps, piece_steps, data_steps, entry_field_steps}
@@ -16,7 +16,7 @@ use Rattle.nv_core.proofs.steps.Tabled.{come, tabled}
 
 -- the part of entry 0 has the first write's piece
 piece_says : SaysPieceOf walk_sizes 0 walk_bytes (placed_core.values (ENTRY 0))
-unfolding group_steps pieces_steps piece_steps data_steps entry_field_steps line_stores durable_store newest stored with_word_of flushed fenced fenced_at word_at
+unfolding group_steps pieces_steps piece_steps data_steps entry_field_steps line_stores durable_store newest stored flushed fenced word_at
 piece_says = (refl, refl)
 
 pub clean_run : IsRun walk_sizes placed_core hand_clean

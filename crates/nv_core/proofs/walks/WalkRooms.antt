@@ -51,6 +51,6 @@ pub stays : (step : LineStep) → has_line 2 step ≡ true → RoomAfter step (r
 stays = any_stays 2
 
 pub fault_stays : (lines : ℕ) (step : LineStep) → RoomAfterFault step (room_of_spares (walk_spares lines)) (room_of_spares (walk_spares lines))
-fault_stays lines (StoreWord line word value) = takes lines 8 line
+fault_stays lines (StoreWord line word value) = takes lines 1 line
 fault_stays lines (Flush line) = keeps lines
 fault_stays lines Fence = keeps lines

@@ -4,6 +4,7 @@ use Rattle.nv_plain.specs.declared.call.FileCall.TheVariants.{Read, Write}
 use Rattle.nv_plain.specs.declared.call.Reply.TheVariants.{Bytes, Count}
 use Rattle.nv_plain.specs.Images.{header_magic}
 use Rattle.nv_pmem.specs.Part.{Line, Part, blank_line}
+use Rattle.nv_pmem.specs.Picked.{settled}
 use Rattle.nv_pmem.specs.Rows.{RowStep}
 use Rattle.nv_pmem.specs.Steps.{Fence}
 use Rattle.nv_entry.specs.Group.{group_steps}
@@ -28,7 +29,7 @@ walk_spares lines = replicate lines (15, 15)
 
 -- a durable line with these words
 abbrev pub durable_line : List ℕ → Line
-durable_line words = record { oldest = words; later = []; flushed = None }
+durable_line words = settled words
 
 -- the header's part of 18 lines: version 1, pages of 64 bytes, 16 entries and one file; tail 0; the file's name, which is "a"
 abbrev pub walk_header : Part
