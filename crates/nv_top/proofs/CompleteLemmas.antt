@@ -7,11 +7,10 @@ use Rattle.nv_bench.specs.Holding.{Holding}
 use Rattle.nv_open.specs.declared.error.Refusal.{Refusal}
 use Rattle.nv_top.specs.Commands.{IsLookedAt}
 use Rattle.nv_top.specs.Headline.{HasRefusal, IsCommandRefused, IsUnhindered}
-use Rattle.nv_top.specs.Stops.{IsOwnStop, SaidAs, TakesMemory, stop_status}
+use Rattle.nv_top.specs.Stops.{IsOwnStop}
 use Rattle.nv_top.specs.Stopping.{IsSettledStop}
 use Rattle.nv_top.specs.declared.ending.Stop.{Stop}
 use Rattle.nv_top.specs.declared.ending.Stop.TheVariants.{Usage, BadLine as BadLineStop, InputLong, Read, Device, Region, NoMemory, Turns}
-use Rattle.nv_top.specs.declared.ending.TheConstants.{NO_MEMORY, TURNS_USED, WRITE_FAULT}
 use Rattle.nv_top.specs.declared.words.Command.{Command}
 use Rattle.nv_top.specs.declared.words.Command.TheVariants.{Run, Sched, Recover, Look, Gen}
 use Rattle.nv_top.proofs.CommandLemmas.{if_told, told_at}
@@ -60,19 +59,3 @@ look_unarmed true old new left = ap (λ (state : BenchState). state.arms) left.0
 pub settled_counts : {T : Type 0} (settled now : ℕ) (result : Result T Stop) → IsSettledStop settled now result → OnOk result (now ≡ settled)
 settled_counts settled now (Ok value) cause = cause
 settled_counts settled now (Err stop) cause = tt
-
--- ---- what is said
-
-pub said_own : (result : ℕ) (stop : Stop) → SaidAs result (stop_status stop) (TakesMemory stop) → IsOwnStop stop → (result ≡ WRITE_FAULT → ⊥) → (result ≡ NO_MEMORY) ⊎ (result ≡ TURNS_USED)
-said_own result stop said own sound =
-    let Said : Stop → Type 0 = λ stop. SaidAs result (stop_status stop) (TakesMemory stop) in
-    elim own [
-      | inl is ↦ elim (subst Said is said) [
-        | inl same ↦ inl same
-        | inr rest ↦ elim rest [ inl fault ↦ absurd (sound fault) | inr memory ↦ inl memory.0 ]
-      ]
-      | inr is ↦ elim (subst Said is said) [
-        | inl same ↦ inr same
-        | inr rest ↦ elim rest [ inl fault ↦ absurd (sound fault) | inr memory ↦ inl memory.0 ]
-      ]
-    ]

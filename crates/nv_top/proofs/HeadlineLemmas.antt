@@ -137,16 +137,6 @@ quiet_left blank names (Some holding) quiet = record {
   stores = kept_in_all (λ (named : NamedStore). IsQuietStore named.store) names holding.stores quiet.stores;
 }
 
--- ---- the report of a command
-
--- a text that is shown, and written
-pub written_so : (command : Command) (left : Option (List ℕ)) (old new : BenchState) (text said : List ℕ) (W : List ℕ → Type 0) → said ≡ text
-    → IfSome old.told (λ holding. IsShown command left old new holding text) → W said
-    → IfSome old.told (λ holding. (text : List ℕ) × IsShown command left old new holding text × W text)
-written_so command left old new text said W same shown written =
-    if_told old.told (λ holding. (text : List ℕ) × IsShown command left old new holding text × W text) (λ holding told.
-    (text, told_at old.told (λ holding. IsShown command left old new holding text) holding told shown, subst W same written))
-
 pub same_some : {one other : Command} → Some one ≡ Some other → one ≡ other
 same_some {one} {other} is = cc
 

@@ -1,6 +1,6 @@
 pub mod CauseLemmas
 pub mod CommandLemmas
-pub mod EndingLemmas
+pub mod SaidLemmas
 pub mod FateLemmas
 pub mod HeadlineLemmas
 pub mod HomeLemmas

@@ -71,12 +71,6 @@ abbrev pub OfRead : TraceForm → (input : Option (List ℕ)) → (Traced → Ty
 OfRead form None P = (trace : Traced) × (trace.form ≡ form) × IsRunnable trace × P trace
 OfRead form (Some input) P = (trace : Traced) × (ending_of form input ≡ Whole trace) × P trace
 
--- a line that says why there is no report
-abbrev pub IsErrorLine : List ℕ → Type 0
-IsErrorLine text =
-    (bad : BadLine) × (refusal : Refusal)
-    × Contains (usage_line ∷ bad_line bad ∷ long_line ∷ read_line ∷ device_line ∷ memory_line ∷ region_line refusal ∷ turns_line ∷ []) text
-
 -- what was written, where it is told, has a front of these bytes more
 abbrev pub AppendsFront : Option (List ℕ) → Option (List ℕ) → List ℕ → Type 0
 AppendsFront old new text = (count : ℕ) × Appends old new (take count text)

@@ -11,6 +11,7 @@ pub mod Fates
 pub mod Outcomes
 pub mod Stopping
 pub mod Stops
+pub mod Said
 pub mod Scheduling
 pub mod Commands
 pub mod Loads

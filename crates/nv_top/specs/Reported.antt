@@ -19,33 +19,44 @@ use Rattle.nv_top.specs.declared.words.Command.{Command}
 use Rattle.nv_top.specs.declared.words.Command.TheVariants.{Run, Sched, Recover, Look, Gen}
 use Rattle.nv_top.specs.declared.words.RunOptions.{RunOptions}
 
--- What a command comes to, if the words are one: its report, or why there is none. The source held the input `given`, and holds `left` of it, with so many faults before and now; the bench was `old`, and is `new`.
--- Each field is the clause of the top call with its name, of a report or a stop where that has a status.
+-- What a command comes to, if the words are one: its report, or why there is none, each with its cause. The source held the input `given`, and holds `left` of it, with so many faults before and now; the bench was `old`, and is `new`.
 pub record HasReported (over : Option Command) (given left : Option (List ℕ)) (before now : ℕ) (old new : BenchState) (result : Result (Vec ℕ) Stop) : Type 0 where
+  -- All that was lent is back.
   pub back : (command : Command) → over ≡ Some command → IsLeftBy command old new
+  -- A schedule armed it at its cuts, with their numbers: at the first ones of them, or, where it was followed to its end, at all. Where no trace was read it armed nothing.
   pub cuts : (options : RunOptions) → over ≡ Some (Sched options) → IsArmedBySome given old new
   pub all_cuts : (options : RunOptions) → over ≡ Some (Sched options) → OnOk result (IsArmedByAll given old new)
+  -- The words decide before anything is read or opened, and take memory to read.
   pub usage : result ≡ Err Usage → over ≡ None
   pub command : over ≡ None → ((result ≡ Err Usage) ⊎ (result ≡ Err NoMemory)) × (left ≡ given) × (new ≡ old)
+  -- The input of a run is a trace, or its first bad line or its length is told, and that of a schedule a trace with tokens; then it was read to its end. The other commands have none.
   pub bad_line : IfErr result (λ stop. IfSome given (IsCauseOf (form_by over) stop))
   pub good_input : (options : RunOptions) → over ≡ Some (Run options) → OnOk result (IfSome given (λ input. IsTrace forms.Run input × (left ≡ Some [])))
   pub good_schedule : (options : RunOptions) → over ≡ Some (Sched options) → IsFollowed result → IfSome given (λ input. IsTrace forms.Sched input × (left ≡ Some []))
   pub unread : over ≡ Some Recover → left ≡ given
   pub unread_look : (files : Bool) → over ≡ Some (Look files) → left ≡ given
   pub unread_load : (load : Load) → over ≡ Some (Gen load) → left ≡ given
+  -- A fault of the source, or of the bench, is told exactly where its count rose. A stop's own faults, until power goes off, are none.
   pub read_fault : result ≡ Err Read → Rose before now
   pub read_sound : result ≢ Err Read → now ≡ before
   pub device_fault : result ≡ Err Device → Rose (expected_faults old new) new.faults
   pub device_sound : result ≢ Err Device → new.faults ≤ expected_faults old new
+  -- Only a schedule uses its turns up, and power went off then, with its pick: its tokens were followed up to one that made 100,000 advances short of its point, and what power left behind that run was recovered.
   pub turns : result ≡ Err Turns → (options : RunOptions) × (over ≡ Some (Sched options)) × (new.picked ≡ options.image ∷ old.picked)
   pub turns_used : result ≡ Err Turns → (options : RunOptions) → over ≡ Some (Sched options) → IfSome old.told (UsesTurns options given old new)
+  -- A region is refused at entry, for its bytes or for too many files, and never after a power failure. It is as it was then, or, where there would be too many files, at rest.
   pub region : (why : Refusal) → result ≡ Err (Region why) → (command : Command) → over ≡ Some command → IfSome old.told (λ holding. IsCommandRefused command given old new holding why)
   pub unarmed : (why : Refusal) → result ≡ Err (Region why) → IfSome old.told (λ holding. new.arms ≡ old.arms)
+  -- Where nothing stands in its way a command is followed to its end, unless memory is wanting, or a token of a schedule has used its advances up. Then no device has failed, but for a stop's own faults.
   pub complete : (command : Command) → over ≡ Some command → IfSome old.told (λ holding. IsUnhindered command given holding (Rose before now) (Rose (expected_faults old new) new.faults) → IfErr result IsOwnStop)
   pub counts : OnOk result (new.faults ≡ expected_faults old new)
+  -- Whatever it comes to, the count of the bench's faults is no lower than it was.
   pub never_falls : old.faults ≤ new.faults
+  -- Whatever it comes to, a bench that stood for files stands for them still, or for those after a legal history of calls of the trace and some other calls, each whole, in whatever state power leaves it; and where the words or the input
+  -- stopped it, it is as it was.
   pub life : (command : Command) → over ≡ Some command → IfSome old.told (λ was. LeavesLife command given was new.told)
   pub unopened : IfErr result (λ stop. ComesBeforeOpening stop → new ≡ old)
+  -- The report is what the command shows, and the bench holds what it shows.
   pub report : IfOk result (λ text. (command : Command) → over ≡ Some command → IfSome old.told (λ holding. IsShown command given old new holding text.items))
 
 -- What a run of a trace comes to, which may be stopped: its report, or why there is none. The trace is as its reader makes it; the bench was `old`, and is `new`.

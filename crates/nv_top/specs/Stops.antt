@@ -148,7 +148,3 @@ TakesMemory Device = ⊥
 TakesMemory (Region refusal) = Unit {0}
 TakesMemory NoMemory = ⊥
 TakesMemory Turns = ⊥
-
--- a status in the end: the wanted one, or the sink failed, or its line took memory that was wanting
-abbrev pub SaidAs : ℕ → ℕ → Type 0 → Type 0
-SaidAs result status takes_memory = (result ≡ status) ⊎ ((result ≡ WRITE_FAULT) ⊎ ((result ≡ NO_MEMORY) × takes_memory))

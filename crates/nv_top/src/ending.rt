@@ -3,8 +3,9 @@ ghost use Rattle.std.specs.Prelude.{◌≡◌, ◌≢◌, ℕ, List, Err};
 ghost use Rattle.nv_plain.specs.Faults.{Rose};
 ghost use Rattle.nv_trace.specs.Streams.{Appends};
 ghost use Rattle.nv_top.specs.declared.ending.Stop.TheVariants as stops;
-ghost use Rattle.nv_top.specs.Endings.{memory_line, bad_line, region_line, why_text, IsErrorLine, AppendsFront};
-ghost use Rattle.nv_top.specs.Stops.{SaidAs, TakesMemory, stop_status, stop_line, stop_of_mount, stop_of_opening, stop_of_read, stop_of_recovery, stop_of_run, stop_of_words};
+ghost use Rattle.nv_top.specs.Endings.{why_text, AppendsFront};
+ghost use Rattle.nv_top.specs.Said.{IsSaid};
+ghost use Rattle.nv_top.specs.Stops.{stop_of_mount, stop_of_opening, stop_of_read, stop_of_recovery, stop_of_run, stop_of_words};
 
 use crate::region_text::region_line_of;
 use crate::words::WordsError;
@@ -175,12 +176,7 @@ pub fn say<O: Sink>(out: &mut O, status: u8, text: &[u8]) -> u8
 
 // Writes the line that says why there is no report. Only a line with a number in it, and that of a region, take memory.
 pub(crate) fn say_stop<O: Sink>(alloc: Global, out: &mut O, stop: &Stop) -> u8
-    ensures status { SaidAs result (stop_status stop.now) (TakesMemory stop.now) }
-    ensures front { result ≡ WRITE_FAULT → (text : List ℕ) × IsErrorLine text × AppendsFront (O.written out.old) (O.written out.new) text }
-    ensures said { result ≢ WRITE_FAULT → result ≢ NO_MEMORY → Appends (O.written out.old) (O.written out.new) (stop_line stop.now) }
-    ensures memory { result ≡ NO_MEMORY → Appends (O.written out.old) (O.written out.new) memory_line }
-    ensures fault { result ≡ WRITE_FAULT → Rose (O.fault_count out.old) (O.fault_count out.new) }
-    ensures sound { result ≢ WRITE_FAULT → O.fault_count out.new ≡ O.fault_count out.old }
+    ensures { IsSaid (Err stop.now) (O.written out.old) (O.written out.new) (O.fault_count out.old) (O.fault_count out.new) result }
 {
     match stop {
         Stop::Usage => say(out, USAGE, b"error usage\n"),
@@ -195,12 +191,7 @@ pub(crate) fn say_stop<O: Sink>(alloc: Global, out: &mut O, stop: &Stop) -> u8
 }
 
 fn say_bad_line<O: Sink>(alloc: Global, out: &mut O, bad: BadLine) -> u8
-    ensures status { SaidAs result BAD_INPUT (Unit {0}) }
-    ensures front { result ≡ WRITE_FAULT → (text : List ℕ) × IsErrorLine text × AppendsFront (O.written out.old) (O.written out.new) text }
-    ensures said { result ≢ WRITE_FAULT → result ≢ NO_MEMORY → Appends (O.written out.old) (O.written out.new) (bad_line bad) }
-    ensures memory { result ≡ NO_MEMORY → Appends (O.written out.old) (O.written out.new) memory_line }
-    ensures fault { result ≡ WRITE_FAULT → Rose (O.fault_count out.old) (O.fault_count out.new) }
-    ensures sound { result ≢ WRITE_FAULT → O.fault_count out.new ≡ O.fault_count out.old }
+    ensures { IsSaid (Err (stops.BadLine bad)) (O.written out.old) (O.written out.new) (O.fault_count out.old) (O.fault_count out.new) result }
 {
     let BadLine { number, why } = bad;
     let why = why_text(why);
@@ -230,12 +221,7 @@ fn why_text(why: Why) -> &'static str
 }
 
 fn say_refusal<O: Sink>(alloc: Global, out: &mut O, refusal: &Refusal) -> u8
-    ensures status { SaidAs result BAD_REGION (Unit {0}) }
-    ensures front { result ≡ WRITE_FAULT → (text : List ℕ) × IsErrorLine text × AppendsFront (O.written out.old) (O.written out.new) text }
-    ensures said { result ≢ WRITE_FAULT → result ≢ NO_MEMORY → Appends (O.written out.old) (O.written out.new) (region_line refusal.now) }
-    ensures memory { result ≡ NO_MEMORY → Appends (O.written out.old) (O.written out.new) memory_line }
-    ensures fault { result ≡ WRITE_FAULT → Rose (O.fault_count out.old) (O.fault_count out.new) }
-    ensures sound { result ≢ WRITE_FAULT → O.fault_count out.new ≡ O.fault_count out.old }
+    ensures { IsSaid (Err (stops.Region refusal.now)) (O.written out.old) (O.written out.new) (O.fault_count out.old) (O.fault_count out.new) result }
 {
     match region_line_of(alloc, refusal) {
         Ok(line) => say(out, BAD_REGION, line.as_bytes()),

@@ -3,6 +3,7 @@ ghost use Rattle.std.specs.Prelude.{[]};
 ghost use Rattle.nv_trace.specs.declared.trace.Form.TheVariants as forms;
 ghost use Rattle.nv_top.specs.Endings.{IsTrace};
 ghost use Rattle.nv_top.specs.Headline.{PlainIsUnhindered, ShownIsNotRefused};
+ghost use Rattle.nv_top.specs.Said.{StatusesTellWhatCame};
 ghost use Rattle.nv_top.specs.NextCommands.{NextBeginsBehind, NextBeginsBehindRecovery, NextBeginsBehindSchedule, NextBeginsBehindStop, NextFindsLooked, NextFindsRecovered, NextFindsRun, NextFindsScheduled, NextFindsShown, NextFindsStopped, NextIsReady, RunsHaveOneHistory};
 ghost use Rattle.nv_top.specs.Readings.{OneNumber, OneReading, OneRecoveryReading};
 
@@ -18,7 +19,7 @@ pub fn report_has_one_reading()
 {}
 
 /// A second command may follow on the same bench, whatever the first one was: where that ended with status 0, and the bench tells,
-/// all that [`nv_main`](crate::nv_main) asks of a bench follows from its clauses `back`, `counts` and `report`, but that it was armed
+/// all that [`nv_main`](crate::nv_main) asks of a bench follows from `back`, `counts` and `report` of its outcome, but that it was armed
 /// less than 2^63 times so far. A run behind a run begins with the region that the first one left, at the number behind the last
 /// that its calls drew; one behind a run that was stopped, or a schedule, with the sizes of that, at the number behind the log that power left; and one
 /// behind a recovery with the region's sizes, at the next number that the recovery shows.
@@ -50,7 +51,13 @@ pub fn a_refused_region_shows_nothing()
     a_header_has_one_answer();
 }
 
-/// A plain command is one that [`nv_main`](crate::nv_main) follows to its end, by its clause `complete`, unless memory is wanting: a
+/// Each status that a command ends with is of one kind of outcome, but for those of want of memory, which may have been wanting for a line,
+/// and of the sink's fault: so a status has the cause that [`nv_main`](crate::nv_main) says of that outcome.
+pub fn statuses_tell_what_came()
+    ensures { StatusesTellWhatCame }
+{}
+
+/// A plain command is one that [`nv_main`](crate::nv_main) follows to its end, by `complete` of its outcome, unless memory is wanting: a
 /// run of any trace of a few files over a blank region, by which no count of faults rose. The empty input is such a trace.
 pub fn a_plain_command_is_unhindered()
     ensures plain { PlainIsUnhindered }

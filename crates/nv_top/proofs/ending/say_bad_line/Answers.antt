@@ -1,15 +1,16 @@
-use Rattle.std.proofs.Common.{◌≡◌, ℕ, List, subst, rules}
-use Rattle.nv_top.specs.Endings.{AppendsFront, bad_line, memory_line}
-use Rattle.nv_top.proofs.EndingLemmas.{bad_is_error, memory_is_error}
+use Rattle.std.proofs.Common.{◌≡◌, Err, inl, inr, refl, rules}
+use Rattle.nv_top.specs.Endings.{bad_line, memory_line}
+use Rattle.nv_top.specs.declared.ending.Stop.TheVariants.{BadLine}
+use Rattle.nv_top.specs.declared.ending.TheConstants.{BAD_INPUT, NO_MEMORY}
+use Rattle.nv_top.proofs.SaidLemmas.{said_by}
 use Rattle.nv_top.proofs.ending.say_bad_line.Goals as goal
 
-pub returns-in-Ok-clause-front : goal.returns-in-Ok-clause-front
-returns-in-Ok-clause-front g c failed =
-    let said : c.as_bytes.result.now ≡ bad_line c.args.bad = search rules in (
-      bad_line c.args.bad,
-      bad_is_error c.args.bad,
-      subst (λ (text : List ℕ). AppendsFront (g.O.Sink.written c.args.out.now) (g.O.Sink.written c.say.new.out) text) said (c.say.ensures.front failed),
-    )
+pub returns-in-Ok : goal.returns-in-Ok
+returns-in-Ok g c =
+    let line : c.as_bytes.result.now ≡ bad_line c.args.bad = search rules in
+    said_by (Err (BadLine c.args.bad)) _ _ _ _ c.say.result BAD_INPUT c.as_bytes.result.now (inl (refl, line)) c.say.ensures.front c.say.ensures.said c.say.ensures.fault c.say.ensures.sound
 
-pub returns-in-Err-clause-front : goal.returns-in-Err-clause-front
-returns-in-Err-clause-front g c failed = (memory_line, memory_is_error, c.say-in-Err.ensures.front failed)
+pub returns-in-Err : goal.returns-in-Err
+returns-in-Err g c =
+    said_by (Err (BadLine c.args.bad)) _ _ _ _ c.say-in-Err.result NO_MEMORY memory_line (inr (tt, refl, refl))
+    c.say-in-Err.ensures.front c.say-in-Err.ensures.said c.say-in-Err.ensures.fault c.say-in-Err.ensures.sound
