@@ -66,8 +66,8 @@ fn left_by(
     Ok((stored, words))
 }
 
-// Word 0 of line 1 has had the contents 0 and 1 since it was last durable, that of line 2 the contents 0, 1 and 2, and
-// line 0 has one content. A seed draws a word for line 1, modulo 2, and then one for line 2, modulo 3:
+// Word 0 of line 1 has had the values 0 and 1 since it was last durable, that of line 2 the values 0, 1 and 2, and each
+// other word has one value. A seed draws a word for line 1, modulo 2, and then one for line 2, modulo 3:
 //
 // | Seed | The words | modulo 2, 3 |
 // |---|---|---|
@@ -92,6 +92,34 @@ fn a_part_that_loses_power_is_left_as_it_is_picked(rt: HostRuntime) -> Result<()
         assert_eq!(rt;
             left_by(rt.alloc(), pick)?,
             ([Ok(()); 3], left),
+            "at {pick:?}"
+        );
+    }
+    Ok(())
+}
+
+// Of a line of zeros word 0 was stored and then word 1: each has two values, whatever the other is left with. Of the words that a
+// seed draws, as above, the first is for word 0 and the second for word 1, each modulo 2.
+const WORDS_LEFT: [(Pick, [u64; 2]); 7] = [
+    (Pick::Old, [0, 0]),
+    (Pick::New, [1, 2]),
+    (Pick::Torn, [0, 0]),
+    (Pick::Mixed, [0, 2]),
+    (Pick::Seed(0), [1, 0]),
+    (Pick::Seed(1), [1, 2]),
+    (Pick::Seed(2), [0, 0]),
+];
+
+#[test]
+fn each_word_of_a_line_is_left_by_itself(rt: HostRuntime) -> Result<(), NoMemory> {
+    for (pick, [first, second]) in WORDS_LEFT {
+        let mut part = MemPart::new(rt.alloc(), 1)?;
+        let stored = [part.store(0, 0, 1), part.store(0, 1, 2)];
+        part.image(&mut Picker::new(pick));
+        let left = [part.load(0, 0), part.load(0, 1)];
+        assert_eq!(rt;
+            (stored, left),
+            ([Ok(()); 2], [Ok(first), Ok(second)]),
             "at {pick:?}"
         );
     }
