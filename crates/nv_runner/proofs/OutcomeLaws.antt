@@ -55,6 +55,7 @@ use Rattle.nv_runner.specs.RunRefusals.{DrawsHaveRoom, HeadsCountCalls, IsRefuse
 use Rattle.nv_runner.specs.Runs.{CleansNothing, OnlyMakesPasses}
 use Rattle.nv_runner.specs.Shifts.{HasRun, IsShift, Shift}
 use Rattle.nv_runner.specs.Sorted.{AreSortedOut, HaveOwnLines}
+use Rattle.nv_runner.specs.Tries.{HasRunBatches}
 use Rattle.nv_runner.specs.Workers.{IsZeroStill}
 use Rattle.nv_runner.proofs.HistoryMembers.{of_one, one_mapped, one_moved, one_of_joined, one_of_mapped}
 use Rattle.nv_runner.proofs.NewcomerLaws.{unmade_own}
@@ -311,13 +312,14 @@ module _ (fds : List Fd) (plan : Plan) (calls : List TracedCall) (made : List Ma
 
     pub outcome_is : {T : Type 0} → RunsAreSound → HistoriesGoOn → RefusalsInRunsHaveCauses → HeadsCountCalls → DrawsHaveRoom → RunsDrawInARow → OpenInRun → AreCallsOf calls made → HaveOwnLines (calls_made made) → RoundsRise (calls_made made) → AreDistinctNumbers (numbers zero.view.ended)
         → IsRunOf now.view.opened now.view.run → (result : Result T RunError) → OnOk result (IsPermutation (calls_made made) calls) → (is_none plan.stop ≡ true → OnOk result (HasEmptiedLog now.view))
-        → (result ≡ Err Fault → (is_none plan.stop ≡ true) × SawStop now.view) → (is_some plan.stop ≡ true → now ≡ zero) → (outcome : Result SortedCalls RunError) → IsOutcomeOf result made outcome → HasOutcome fds plan calls start outcome now
-    outcome_is sound goes_on causes heads has_room draw are_open within own rise distinct is_run_now result all emptied fault stays outcome is = record {
+        → (result ≡ Err Fault → (is_none plan.stop ≡ true) × SawStop now.view) → (is_some plan.stop ≡ true → now ≡ zero) → (is_none plan.stop ≡ true → HasRunBatches (Some plan.batch) zero now) → (outcome : Result SortedCalls RunError) → IsOutcomeOf result made outcome → HasOutcome fds plan calls start outcome now
+    outcome_is sound goes_on causes heads has_room draw are_open within own rise distinct is_run_now result all emptied fault stays batches outcome is = record {
       made = made;
       run_out = run_out;
       sorted = sorted_in result outcome all is;
       emptied = λ going. emptied_in result outcome (emptied going) is;
       uncleaned = λ stop. subst (OnlyMakesPasses start) (sym (stays stop)) still.makes;
+      cleaned = λ going. (zero, still.makes, batches going);
       fault = fault_in result outcome fault is;
       causes = λ call refusal one. refused_so goes_on is_run_now call refusal (causes fds worker made zero run mount (whole sound) undrawn rise call refusal one);
       not_barred = not_barred;

@@ -20,6 +20,7 @@ use Rattle.nv_runner.specs.Shifts.{calls_of_thread}
 use Rattle.nv_runner.specs.Workers.{HasCleaned, HasDonePart, HasMadeAll, HasServed, HasWorked, IsNewWorker, WorkerState, crew_of, threads_of}
 use Rattle.nv_runner.proofs.HistoryMembers.{of_each, of_one, one_either, one_left, one_mapped, one_moved, one_of_joined}
 use Rattle.nv_runner.proofs.ShiftRuns.{on_none}
+use Rattle.nv_runner.proofs.TryLaws.{no_batch}
 use Rattle.nv_runner.proofs.RoundLists.{all_calls, calls_of, few_calls, in_crew}
 
 -- ---- one worker
@@ -45,6 +46,7 @@ module _ {L B : Type 0} (mount : MountState) (batch : Option ℕ) (ended : List 
     last = worker.pass;
     each = made_none mount.fds batch worker.made worker.pass new.none;
     behind = inl new.none;
+    batches = no_batch batch worker.pass;
     quiet = unplaced_still worker.pass.view;
     on = on_none batch worker.pass worker.pass refl;
     keeps = keeps_still worker.pass;
@@ -61,6 +63,7 @@ module _ {L B : Type 0} (mount : MountState) (batch : Option ℕ) (ended : List 
     last = new.pass;
     each = worked.some.each;
     behind = inr refl;
+    batches = no_batch batch new.pass;
     quiet = unplaced_still new.pass.view;
     on = on_none batch new.pass new.pass refl;
     keeps = keeps_still new.pass;
@@ -77,6 +80,7 @@ module _ {L B : Type 0} (mount : MountState) (batch : Option ℕ) (ended : List 
     last = old.pass;
     each = made_none mount.fds batch new.made old.pass (cleaned.made ∙ is.none);
     behind = inl (cleaned.made ∙ is.none);
+    batches = cleaned.batches;
     quiet = cleaned.unplaced;
     on = cleaned.on;
     keeps = cleaned.keeps;
@@ -96,6 +100,7 @@ module _ {L B : Type 0} (mount : MountState) (batch : Option ℕ) (ended : List 
         last = served.last;
         each = served.each;
         behind = served.behind;
+        batches = served.batches;
         quiet = served.quiet;
         on = served.on;
         keeps = served.keeps;
@@ -160,6 +165,7 @@ cleaned_done mount batch old new done cleaned =
       ready = record { board = ready.board; other = ready.other; idle = ready.idle; workspace = ready.workspace; bare = ready.bare };
       later = cleaned.later;
       unplaced = cleaned.unplaced;
+      batches = cleaned.batches;
       on = cleaned.on;
       keeps = cleaned.keeps;
       made = cleaned.made;

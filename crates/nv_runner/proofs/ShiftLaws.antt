@@ -80,6 +80,7 @@ module _ {L B : Type 0} (mount : MountState) (batch : Option ℕ) (ended : List 
     last = served.last;
     made = served.each;
     behind = served.behind;
+    batches = served.batches;
     quiet = served.quiet;
     on = served.on;
     keeps = served.keeps;

@@ -1,5 +1,5 @@
 -- Tries: how the run goes on by all tries of a call.
-use Rattle.std.proofs.Common.{◌≡◌, ℕ, ◌+◌, ◌*◌, ◌&&◌, Bool, true, false, if◌then◌else◌, nat_lt, List, [], ◌∷◌, ◌++◌, length, refl, sym, ap, subst, ◌∙◌, arith}
+use Rattle.std.proofs.Common.{◌≡◌, ℕ, zero, suc, ◌+◌, ◌*◌, ◌&&◌, Bool, true, false, if◌then◌else◌, nat_lt, List, [], ◌∷◌, ◌++◌, length, refl, sym, ap, subst, ◌∙◌, arith}
 use Rattle.std.specs.Prelude.{Option, Some, None, Result, Ok, Err, IfOk, OnErr, min}
 use Rattle.std.specs.List.{slice_get}
 use Rattle.std.proofs.lemmas.Bool.{true≢false}
@@ -43,7 +43,8 @@ use Rattle.nv_trace.specs.declared.trace_call.TraceCall.TheVariants.{Pwrite}
 use Rattle.nv_runner.specs.Calls.{Tells, wants_room}
 use Rattle.nv_runner.specs.OpenWrites.{without_place}
 use Rattle.nv_runner.specs.Runs.{CleansNothing, GoesOn, entries_drawn, entries_if, has_drawn, is_cleaning}
-use Rattle.nv_runner.specs.TryLaws.{BatchesGoOn, SyncsGoOn, WritesGoOn, write_drawn}
+use Rattle.nv_runner.specs.Tries.{HasRunBatches, RanBatches}
+use Rattle.nv_runner.specs.TryLaws.{BatchesFollow, BatchesGoOn, NoBatchIsRun, OneBatchIsRun, SyncsGoOn, WritesGoOn, write_drawn}
 use Rattle.nv_runner.proofs.RefusalSteps.{Stands, own_any, stands}
 use Rattle.nv_runner.proofs.RefusalWords.{WordLaws}
 use Rattle.nv_runner.proofs.RunLaws.{Went, batch_went, plain_went, went_as, went_both, went_nowhere}
@@ -229,6 +230,22 @@ syncs_go_on fds fd start now result mount before after told kept over =
 pub batches_go_on : BatchesGoOn
 batches_go_on worker batch start now result before after kept over =
     goes (Some worker) false 0 0 start now before after (λ none. absurd (cc)) (batch_went over.steps start now over.made over.own) (unplaced_mine start.view.opened.sizes start now kept)
+
+pub no_batch : NoBatchIsRun
+no_batch worker pass = record { count = zero; ran = refl }
+
+pub one_batch : OneBatchIsRun
+one_batch batch start now result over = record { count = suc zero; ran = (start, refl, record { most = batch; may = refl; came = result; over = over }) }
+
+-- so many, behind others
+ran_behind : (worker : Option ℕ) (count : ℕ) (start middle now : PassState) → HasRunBatches worker start middle → RanBatches worker count middle now → HasRunBatches worker start now
+ran_behind worker zero start middle now first same = subst (λ (p : PassState). HasRunBatches worker start p) (sym same) first
+ran_behind worker (suc count) start middle now first last =
+    let before = ran_behind worker count start middle last.0 first last.1 in
+    record { count = suc before.count; ran = (last.0, before.ran, last.2) }
+
+pub batches_follow : BatchesFollow
+batches_follow worker start middle now first last = ran_behind worker last.count start middle now first last.ran
 
 -- ---- one behind another
 

@@ -7,6 +7,7 @@ use Rattle.nv_table.specs.state.States.{BoardState, IsOf, PassState}
 use Rattle.nv_mirror.specs.Answers.{IsUnplaced}
 use Rattle.nv_runner.specs.OpenWrites.{KeepsFaults}
 use Rattle.nv_runner.specs.Runs.{GoesOn}
+use Rattle.nv_runner.specs.Tries.{HasRunBatches}
 
 -- It is between calls, and knows what it has taken, which is all.
 pub record IsLeftAlone (board : BoardState) (pass : PassState) : Type 0 where
@@ -15,7 +16,7 @@ pub record IsLeftAlone (board : BoardState) (pass : PassState) : Type 0 where
   pub taken : KnowsTaken pass.view
   pub alone : IsAlone pass.view
 
--- It is so still, behind batches of so many entries at most: nothing was placed or drawn, and the writes that faults had ended are left.
+-- It is so still, behind batches of so many entries at most, and nothing else: nothing was placed or drawn, and the writes that faults had ended are left.
 pub record HasCleaned (board : BoardState) (batch : ℕ) (old new : PassState) : Type 0 where
   pub left : IsLeftAlone board new
   pub later : IsLater old new
@@ -23,3 +24,4 @@ pub record HasCleaned (board : BoardState) (batch : ℕ) (old new : PassState) :
   pub kept : IsUnplaced old.view new.view
   pub keeps : KeepsFaults old new
   pub on : GoesOn (Some batch) 0 old new
+  pub batches : HasRunBatches (Some batch) old new

@@ -40,6 +40,7 @@ use Rattle.nv_runner.specs.Runs.{OnlyMakesPasses}
 use Rattle.nv_runner.specs.Shifts.{HasRun}
 use Rattle.nv_runner.specs.Rounds.{AreCallsOf}
 use Rattle.nv_runner.specs.Sorted.{AreSortedOut, HaveOwnLines, OpenedCall, opened_calls}
+use Rattle.nv_runner.specs.Tries.{HasRunBatches}
 
 -- the entries of a batch, where a worker runs any
 abbrev pub batch_of : Plan → Option ℕ
@@ -72,7 +73,7 @@ abbrev pub IsRefusedSo : List Fd → (worker : Option ℕ) → List MadeCall →
 IsRefusedSo fds worker made zero call refusal = IsRefusedWhile (Unit {0}) fds worker made zero call refusal
 
 -- What became of the calls of a trace: passes made them, and pass 0 came to this. All of them were made, and are sorted out, where the run was brought to its end; then the log is empty, unless the
--- run is one that is stopped, whose log pass 0 leaves as the calls left it. Each is a call of the trace, and no two are of one line. A fault is answered only of a run that isn't, and where a pass has seen STOP set. Each refusal has its cause; the writes that faults ended are the calls that were left open, each of some bytes, which came only where
+-- run is one that is stopped, whose log pass 0 leaves as the calls left it. Else pass 0 runs batches of the plan's bound behind the last round, and does nothing else there. Each is a call of the trace, and no two are of one line. A fault is answered only of a run that isn't, and where a pass has seen STOP set. Each refusal has its cause; the writes that faults ended are the calls that were left open, each of some bytes, which came only where
 -- a pass has seen STOP set; and without a worker the calls drew no more numbers than the log has entries. They drew them in a row, from the number that came next at opening, and HEAD counts their entries, no further than the last number.
 pub record HasOutcome (fds : List Fd) (plan : Plan) (calls : List TracedCall) (start : PassState) (outcome : Result SortedCalls RunError) (zero : PassState) : Type 0 where
   pub made : List MadeCall
@@ -80,6 +81,7 @@ pub record HasOutcome (fds : List Fd) (plan : Plan) (calls : List TracedCall) (s
   pub sorted : IfOk outcome (λ sorted. AreSortedOut made sorted × IsPermutation calls (calls_made made))
   pub emptied : is_none plan.stop ≡ true → OnOk outcome (HasEmptiedLog zero.view)
   pub uncleaned : is_some plan.stop ≡ true → OnlyMakesPasses start zero
+  pub cleaned : is_none plan.stop ≡ true → (before : PassState) × OnlyMakesPasses start before × HasRunBatches (Some plan.batch) before zero
   pub fault : outcome ≡ Err Fault → (is_none plan.stop ≡ true) × SawStop zero.view
   pub causes : (call : TracedCall) (refusal : Refusal) → IsOneOf made (record { call = call; answer = Refused refusal }) → IsRefusedSo fds (batch_of plan) made zero call refusal
   pub not_barred : (call : TracedCall) (place : ℕ) (reply : Reply) → IsOneOf made (record { call = call; answer = Placed place reply }) → early_of_call zero.view.opened.sizes fds call.call ≡ None

@@ -17,6 +17,7 @@ use Rattle.nv_trace.specs.declared.trace_call.TracedCall.{TracedCall}
 use Rattle.nv_runner.specs.Lists.{AreMade, MadeCall}
 use Rattle.nv_runner.specs.OpenWrites.{KeepsFaults}
 use Rattle.nv_runner.specs.Runs.{GoesOn}
+use Rattle.nv_runner.specs.Tries.{HasRunBatches}
 
 -- the calls of a thread among some
 abbrev pub calls_of_thread : (thread : ℕ) → List TracedCall → List TracedCall
@@ -32,8 +33,8 @@ pub record Shift : Type 0 where
   pub start : PassState
   pub now : PassState
 
--- It was fresh, and no event of its pass came before it; it made these calls one behind the other, and is idle. It did nothing behind the last of them; one that made none, as the cleaner, may have run batches, which placed nothing and drew nothing,
--- and left the writes that faults had ended.
+-- It was fresh, and no event of its pass came before it; it made these calls one behind the other, and is idle. It did nothing behind the last of them; one that made none, as the cleaner, may have run batches, and did
+-- nothing else: these placed nothing and drew nothing, and left the writes that faults had ended.
 pub record IsShift (fds : List Fd) (worker : Option ℕ) (opened : Opened) (shift : Shift) : Type 0 where
   pub mount : shift.start.view.opened ≡ opened
   pub fresh : (pass_of shift.start.view).mine ≡ []
@@ -42,6 +43,7 @@ pub record IsShift (fds : List Fd) (worker : Option ℕ) (opened : Opened) (shif
   pub last : PassState
   pub made : AreMade fds worker shift.made shift.start last
   pub behind : (shift.made ≡ []) ⊎ (shift.now ≡ last)
+  pub batches : HasRunBatches worker last shift.now
   pub quiet : IsUnplaced last.view shift.now.view
   pub on : GoesOn worker 0 last shift.now
   pub keeps : KeepsFaults last shift.now

@@ -1,5 +1,5 @@
 -- Tries: how often a call was made, and what each try before the last was answered.
-use Rattle.std.specs.Prelude.{◌≡◌, ℕ, true, List, [], ◌∷◌, length, Option, Some, Result, Ok, Err}
+use Rattle.std.specs.Prelude.{◌≡◌, ℕ, zero, suc, true, List, [], ◌∷◌, length, Option, Some, Result, Ok, Err}
 use Rattle.nv_table.specs.state.States.{PassState}
 use Rattle.nv_mount.specs.declared.fds.Fd.{Fd}
 use Rattle.nv_mirror.specs.declared.answers.Done.{Done}
@@ -31,6 +31,16 @@ pub record HasRunBatch (worker : Option ℕ) (start now : PassState) : Type 0 wh
   pub may : worker ≡ Some most
   pub came : Result Cleaned CleanRefusal
   pub over : IsCleanOver most start now came
+
+-- So many came one after another.
+abbrev pub RanBatches : (worker : Option ℕ) → (count : ℕ) → (start now : PassState) → Type 0
+RanBatches worker zero start now = now ≡ start
+RanBatches worker (suc count) start now = (middle : PassState) × RanBatches worker count start middle × HasRunBatch worker middle now
+
+-- A pass ran batches, as many as it came to, and did nothing else; none where none may be run.
+pub record HasRunBatches (worker : Option ℕ) (start now : PassState) : Type 0 where
+  pub count : ℕ
+  pub ran : RanBatches worker count start now
 
 -- Writes of these bytes came one after another, the last of them first. Each was answered that the log has no room, maybe behind others that found a lock held or another write draw its numbers; and behind each its pass ran a batch.
 abbrev pub FoundNoRoom : List Fd → (worker : Option ℕ) → (fd at : ℕ) → List ℕ → List FullTry → (start now : PassState) → Type 0

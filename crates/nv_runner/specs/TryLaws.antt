@@ -1,5 +1,5 @@
 -- Try laws: how runs go on by the calls of a pass that are over, with all their tries, and by the batches of a cleaner.
-use Rattle.std.specs.Prelude.{◌≡◌, ℕ, List, length, Some, None, Result, Ok, Err, IfOk, OnErr}
+use Rattle.std.specs.Prelude.{◌≡◌, ℕ, List, length, Option, Some, None, Result, Ok, Err, IfOk, OnErr}
 use Rattle.nv_plain.specs.Pieces.{pages_touched}
 use Rattle.nv_core.specs.state.Words.{Sizes}
 use Rattle.nv_core.specs.steps.Opening.{IsMount}
@@ -18,6 +18,7 @@ use Rattle.nv_clean.specs.Answers.{IsCleanOver}
 use Rattle.nv_clean.specs.declared.batch.CleanRefusal.{CleanRefusal}
 use Rattle.nv_clean.specs.declared.clean.Cleaned.{Cleaned}
 use Rattle.nv_runner.specs.Runs.{GoesOn, entries_if}
+use Rattle.nv_runner.specs.Tries.{HasRunBatches}
 
 -- a read draws nothing
 abbrev pub ReadsGoOn : Type 0
@@ -52,3 +53,14 @@ abbrev pub BatchesGoOn : Type 0
 BatchesGoOn =
     (worker batch : ℕ) (start now : PassState) (result : Result Cleaned CleanRefusal)
     → IsIdle start → IsIdle now → IsUnplaced start.view now.view → IsCleanOver batch start now result → GoesOn (Some worker) 0 start now
+
+-- ---- what batches a pass ran: none where it is as it was, one by a whole batch, and those of two parts
+
+abbrev pub NoBatchIsRun : Type 0
+NoBatchIsRun = (worker : Option ℕ) (pass : PassState) → HasRunBatches worker pass pass
+
+abbrev pub OneBatchIsRun : Type 0
+OneBatchIsRun = (batch : ℕ) (start now : PassState) (result : Result Cleaned CleanRefusal) → IsCleanOver batch start now result → HasRunBatches (Some batch) start now
+
+abbrev pub BatchesFollow : Type 0
+BatchesFollow = (worker : Option ℕ) (start middle now : PassState) → HasRunBatches worker start middle → HasRunBatches worker middle now → HasRunBatches worker start now

@@ -17,6 +17,7 @@ use Rattle.nv_runner.specs.Lists.{AreMade, FirstWereMade, MadeCall, calls_made}
 use Rattle.nv_runner.specs.OpenWrites.{KeepsFaults}
 use Rattle.nv_runner.specs.Runs.{GoesOn, OnlyMakesPasses}
 use Rattle.nv_runner.specs.Shifts.{calls_of_thread}
+use Rattle.nv_runner.specs.Tries.{HasRunBatches}
 
 -- whose it is, its pass, what its calls work in, the calls that it made, and whether it has done its part
 pub record WorkerState (L B : Type 0) : Type 0 where
@@ -45,12 +46,13 @@ pub record HasWorked {L B : Type 0} (mount : MountState) (batch : Option ℕ) (c
 abbrev pub HasMadeAll : {L B : Type 0} → List TracedCall → WorkerState L B → Type 0
 HasMadeAll calls worker = calls_made worker.made ≡ calls_of_thread worker.thread calls
 
--- It placed no call and drew nothing, and is between two calls again: the cleaner's batches do that.
+-- It ran batches of the cleaner, where any may be run, and did nothing else: it placed no call and drew nothing, and is between two calls again.
 pub record HasCleaned {L B : Type 0} (mount : MountState) (batch : Option ℕ) (old new : WorkerState L B) : Type 0 where
   pub thread : new.thread ≡ old.thread
   pub ready : IsReady mount new
   pub later : IsLater old.pass new.pass
   pub unplaced : IsUnplaced old.pass.view new.pass.view
+  pub batches : HasRunBatches batch old.pass new.pass
   pub on : GoesOn batch 0 old.pass new.pass
   pub keeps : KeepsFaults old.pass new.pass
   pub made : new.made ≡ old.made
@@ -86,7 +88,7 @@ pub record IsNewWorker {L B : Type 0} (mount : MountState) (ended : List Past) (
   pub newcomer : IsNewcomer mount.board.opened ended worker.pass
   pub none : worker.made ≡ []
 
--- What a worker did since pass 0 made its pass: it made some first ones of its thread's calls among these, and nothing behind them. One that made none, as the cleaner, may have run batches.
+-- What a worker did since pass 0 made its pass: it made some first ones of its thread's calls among these, and nothing behind them. One that made none, as the cleaner, may have run batches, and did nothing else.
 pub record HasServed {L B : Type 0} (mount : MountState) (batch : Option ℕ) (ended : List Past) (calls : List TracedCall) (worker : WorkerState L B) : Type 0 where
   pub ready : IsReady mount worker
   pub start : PassState
@@ -96,6 +98,7 @@ pub record HasServed {L B : Type 0} (mount : MountState) (batch : Option ℕ) (e
   pub last : PassState
   pub each : AreMade mount.fds batch worker.made start last
   pub behind : (worker.made ≡ []) ⊎ (worker.pass ≡ last)
+  pub batches : HasRunBatches batch last worker.pass
   pub quiet : IsUnplaced last.view worker.pass.view
   pub on : GoesOn batch 0 last worker.pass
   pub keeps : KeepsFaults last worker.pass

@@ -5,9 +5,10 @@ ghost use Rattle.nv_table.specs.state.States.{IsOf};
 ghost use Rattle.nv_mirror.specs.Answers.{IsUnplaced};
 ghost use Rattle.nv_runner.specs.OpenWrites.{KeepsFaults};
 ghost use Rattle.nv_runner.specs.Runs.{GoesOn};
+ghost use Rattle.nv_runner.specs.Tries.{HasRunBatches};
 ghost use Rattle.nv_runner.specs.Workers.{HasCleaned, IsReady};
 
-use crate::laws::tries_go_on;
+use crate::laws::{batches_come_one_by_one, tries_go_on};
 use crate::worker::Worker;
 use crate::{Gate, Point};
 use nv_clean::{CleanRefusal, try_clean};
@@ -44,9 +45,11 @@ fn clean_until_alone<R: Wait, G: Gate, L: Lines + Drop, B: Backing + Drop>(
     ensures later { IsLater pass.old pass.new }
     ensures unplaced { IsUnplaced pass.old.view pass.new.view }
     ensures on { GoesOn (Some batch) 0 pass.old pass.new }
+    ensures batches { HasRunBatches (Some batch) pass.old pass.new }
     ensures keeps { KeepsFaults pass.old pass.new }
 {
     tries_go_on();
+    batches_come_one_by_one();
     for _ in rt.forever() {
         if working.load(Ordering::SeqCst) <= 1 {
             break;
@@ -72,6 +75,7 @@ impl<'a, L: Lines + Drop, B: Backing + Drop> Worker<'a, L, B> {
         requires ready { IsReady mount.now self.old }
         ensures cleaned { HasCleaned mount.now batch self.old self.new }
     {
+        batches_come_one_by_one();
         let Some(most) = batch else {
             return;
         };

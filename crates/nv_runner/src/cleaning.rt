@@ -7,7 +7,7 @@ ghost use Rattle.nv_runner.specs.Cleaned.{HasCleaned, IsLeftAlone};
 ghost use Rattle.nv_runner.specs.declared.run_error.RunError.TheVariants as errors;
 
 use crate::RunError;
-use crate::laws::tries_go_on;
+use crate::laws::{batches_come_one_by_one, tries_go_on};
 use nv_clean::{CleanRefusal, try_clean};
 use nv_mount::Mount;
 use nv_pmem::Lines;
@@ -27,6 +27,7 @@ fn clean_one<L: Lines + Drop, B: Backing + Drop>(
     ensures fault { result ≡ Err errors.Fault → word_then pass.new.view STOP ≡ 1 }
 {
     tries_go_on();
+    batches_come_one_by_one();
     match try_clean(mount, pass, batch) {
         Ok(_) => Ok(true),
         Err(CleanRefusal::Idle { .. }) => Ok(false),

@@ -14,7 +14,7 @@ ghost use Rattle.nv_runner.specs.RunNumbers.{RunsDrawInARow};
 ghost use Rattle.nv_runner.specs.RunRefusals.{DrawsHaveRoom, HeadsCountCalls, RefusalsInRunsHaveCauses};
 ghost use Rattle.nv_runner.specs.Sorted.{LinesTellRounds, OpenInLines, RefusedInLines};
 ghost use Rattle.nv_runner.specs.Told.{DescriptorsSayFiles, RunsAreTold, ShiftsStand};
-ghost use Rattle.nv_runner.specs.TryLaws.{BatchesGoOn, ReadsGoOn, SyncsGoOn, WritesGoOn};
+ghost use Rattle.nv_runner.specs.TryLaws.{BatchesFollow, BatchesGoOn, NoBatchIsRun, OneBatchIsRun, ReadsGoOn, SyncsGoOn, WritesGoOn};
 
 use nv_calls::ended_calls_heed_stop;
 use nv_core::{heads_count_draws, histories_go_on, passes_are_left_alone, runs_are_sound};
@@ -74,6 +74,13 @@ pub fn tries_go_on()
     passes_are_left_alone();
     histories_go_on();
 }
+
+/// What batches a pass ran: none where it is as it was, one by a whole batch, and those of both parts of its way.
+pub(crate) fn batches_come_one_by_one()
+    ensures none { NoBatchIsRun }
+    ensures one { OneBatchIsRun }
+    ensures follow { BatchesFollow }
+{}
 
 /// The sorted calls of a run of a trace that was brought to its end are told: those that have a place are the one history of the mount, entry for entry, in an order that keeps each thread's lines and the
 /// rounds; each call is one of these or of the refused ones, once; and these stand in the order of their lines.

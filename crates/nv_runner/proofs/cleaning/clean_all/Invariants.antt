@@ -8,6 +8,7 @@ use Rattle.nv_table.specs.state.States.{IsOf}
 use Rattle.nv_mirror.specs.Answers.{IsUnplaced}
 use Rattle.nv_runner.specs.OpenWrites.{KeepsFaults}
 use Rattle.nv_runner.specs.Runs.{GoesOn}
+use Rattle.nv_runner.specs.Tries.{HasRunBatches}
 use Rattle.nv_runner.proofs.cleaning.clean_all.Given as goal
 
 abbrev pub invariant-loop : goal.invariant-loop
@@ -19,6 +20,7 @@ invariant-loop g l = record {
   unplaced : IsUnplaced l.initial.pass.view l.pass.view;
   keeps : KeepsFaults l.initial.pass l.pass;
   on : GoesOn (Some l.batch) 0 l.initial.pass l.pass;
+  batches : HasRunBatches (Some l.batch) l.initial.pass l.pass;
   taken : KnowsTaken l.pass.view;
   alone : IsAlone l.pass.view;
   next : (goal.iterator-loop g).can_next l.iterator';

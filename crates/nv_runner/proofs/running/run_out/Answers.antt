@@ -13,6 +13,7 @@ use Rattle.nv_runner.proofs.OutcomeLaws.{IsCleaned, memory_is_no_fault, not_both
 use Rattle.nv_runner.specs.EndedRuns.{batch_of}
 use Rattle.nv_runner.proofs.ShiftLines.{run_lines}
 use Rattle.nv_runner.proofs.TraceLaws.{threads_below}
+use Rattle.nv_runner.proofs.TryLaws.{no_batch}
 use Rattle.nv_runner.proofs.running.run_out.Goals as goal
 
 pub run_rounds-rounds-requires-clause-below : goal.run_rounds-rounds-requires-clause-below
@@ -41,7 +42,7 @@ returns-then-is_err-clause-outcome g c =
     outcome_is c.args.mount.now.fds c.args.plan calls made start zero c.args.mount.now.board.opened c.requires.new (ran.zero.board.same_mount ∙ sym c.requires.board.same_mount) ran.still
     (subst (λ w. HasRun c.args.mount.now.fds w made zero) c.worker_batch.ensures ran.run) c.sees_a_run.ensures.mount c.sees_a_run.ensures.run knows ran.zero.number ran.all_in zero (not_cleaned zero ran.zero.idle knows alone)
     c.runs_are_sound.ensures.runs c.histories_go_on.ensures c.refusals_in_runs_have_causes.ensures.causes c.refusals_in_runs_have_causes.ensures.heads c.refusals_in_runs_have_causes.ensures.room c.runs_draw_in_a_row.ensures.draws c.open_calls_are_the_faults.ensures.faults within own rise ran.distinct
-    c.sees_a_run.ensures.run (Err errors.NoMemory) tt (λ going. tt) (λ is. absurd (memory_is_no_fault {T = Unit {0}} is)) (λ stop. refl)
+    c.sees_a_run.ensures.run (Err errors.NoMemory) tt (λ going. tt) (λ is. absurd (memory_is_no_fault {T = Unit {0}} is)) (λ stop. refl) (λ going. no_batch (Some c.args.plan.batch) zero)
 
 pub returns-then-is_some-clause-outcome : goal.returns-then-is_some-clause-outcome
 returns-then-is_some-clause-outcome g c =
@@ -58,7 +59,7 @@ returns-then-is_some-clause-outcome g c =
     outcome_is c.args.mount.now.fds c.args.plan calls made start zero c.args.mount.now.board.opened c.requires.new (ran.zero.board.same_mount ∙ sym c.requires.board.same_mount) ran.still
     (subst (λ w. HasRun c.args.mount.now.fds w made zero) c.worker_batch.ensures ran.run) c.sees_a_run.ensures.mount c.sees_a_run.ensures.run knows ran.zero.number ran.all_in zero (not_cleaned zero ran.zero.idle knows alone)
     c.runs_are_sound.ensures.runs c.histories_go_on.ensures c.refusals_in_runs_have_causes.ensures.causes c.refusals_in_runs_have_causes.ensures.heads c.refusals_in_runs_have_causes.ensures.room c.runs_draw_in_a_row.ensures.draws c.open_calls_are_the_faults.ensures.faults within own rise ran.distinct
-    c.sees_a_run.ensures.run (Ok tt) (subst (λ l. IsPermutation (calls_made made) l) c.calls.ensures.calls (went_well c.run_rounds-rounds.result ran.all (sym c.is_err.ensures.value ∙ c.if-is_err.false))) (λ going. absurd (not_both c.args.plan.stop (sym c.is_some.ensures ∙ c.if-is_some.true) going)) (λ is. absurd (ok_is_no_fault {T = Unit {0}} tt is)) (λ stop. refl)
+    c.sees_a_run.ensures.run (Ok tt) (subst (λ l. IsPermutation (calls_made made) l) c.calls.ensures.calls (went_well c.run_rounds-rounds.result ran.all (sym c.is_err.ensures.value ∙ c.if-is_err.false))) (λ going. absurd (not_both c.args.plan.stop (sym c.is_some.ensures ∙ c.if-is_some.true) going)) (λ is. absurd (ok_is_no_fault {T = Unit {0}} tt is)) (λ stop. refl) (λ going. no_batch (Some c.args.plan.batch) zero)
 
 not_some : {T : Type 0} (stop : Option T) → is_some stop ≡ false → is_none stop ≡ true
 not_some (Some call) none = absurd (cc)
@@ -99,4 +100,4 @@ returns-clause-outcome g c =
     outcome_is c.args.mount.now.fds c.args.plan calls made start zero c.args.mount.now.board.opened c.requires.new (ran.zero.board.same_mount ∙ sym c.requires.board.same_mount) ran.still
     (subst (λ w. HasRun c.args.mount.now.fds w made zero) c.worker_batch.ensures ran.run) c.sees_a_run.ensures.mount c.sees_a_run.ensures.run knows ran.zero.number ran.all_in now cleaned
     c.runs_are_sound.ensures.runs c.histories_go_on.ensures c.refusals_in_runs_have_causes.ensures.causes c.refusals_in_runs_have_causes.ensures.heads c.refusals_in_runs_have_causes.ensures.room c.runs_draw_in_a_row.ensures.draws c.open_calls_are_the_faults.ensures.faults within own rise ran.distinct
-    c.sees_a_run-2.ensures.run c.clean_all-cleaned.result (ok_any c.clean_all-cleaned.result (subst (λ l. IsPermutation (calls_made made) l) c.calls.ensures.calls (went_well c.run_rounds-rounds.result ran.all (sym c.is_err.ensures.value ∙ c.if-is_err.false)))) (λ going. cleaning.emptied) (λ is. (not_some c.args.plan.stop (sym c.is_some.ensures ∙ c.if-is_some.false), stop_was_seen c.runs_are_sound.ensures.runs c.passes_are_left_alone.ensures.own now.view c.sees_a_run-2.ensures.mount c.sees_a_run-2.ensures.run clean.left.alone.zero clean.left.taken clean.left.alone.all (cleaning.fault is))) (λ stop. absurd (not_both c.args.plan.stop stop (not_some c.args.plan.stop (sym c.is_some.ensures ∙ c.if-is_some.false))))
+    c.sees_a_run-2.ensures.run c.clean_all-cleaned.result (ok_any c.clean_all-cleaned.result (subst (λ l. IsPermutation (calls_made made) l) c.calls.ensures.calls (went_well c.run_rounds-rounds.result ran.all (sym c.is_err.ensures.value ∙ c.if-is_err.false)))) (λ going. cleaning.emptied) (λ is. (not_some c.args.plan.stop (sym c.is_some.ensures ∙ c.if-is_some.false), stop_was_seen c.runs_are_sound.ensures.runs c.passes_are_left_alone.ensures.own now.view c.sees_a_run-2.ensures.mount c.sees_a_run-2.ensures.run clean.left.alone.zero clean.left.taken clean.left.alone.all (cleaning.fault is))) (λ stop. absurd (not_both c.args.plan.stop stop (not_some c.args.plan.stop (sym c.is_some.ensures ∙ c.if-is_some.false)))) (λ going. clean.batches)
