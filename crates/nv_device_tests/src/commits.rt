@@ -9,7 +9,7 @@ ghost use Rattle.nv_pmem.specs.Part.{part_word};
 ghost use Rattle.nv_entry.specs.Group.{IsReady, IsUncommitted};
 
 use nv_entry::{
-    EntryWords, PieceHead, Span, commit_group, committed, cut, entry_words, piece_count, read_piece,
+    EntryWords, PieceHead, Span, commit_group, cut, entry_words, piece_count, read_piece,
 };
 use nv_plain::NoMemory;
 use nv_pmem::{Fuse, MemPart};
@@ -65,11 +65,9 @@ fn a_group_of_one_is_written_and_read(rt: HostRuntime) -> Result<(), NoMemory> {
     let mut part = committed_part(rt.alloc(), 1, 130, b"abc", 0)?.expect(&rt, "committed");
     let mut into = [b'.'; 64];
     let read = read_piece(&mut part, &mut into);
-    let is_committed = (committed(&mut part, 5), committed(&mut part, 21));
     let words = entry_words(&mut part);
     let head = HEAD;
     assert_eq!(rt; (read, &into[..8]), (Ok(HEAD), b"abc.....".as_slice()));
-    assert_eq!(rt; is_committed, (Ok(true), Ok(false)));
     assert_eq!(rt; words, Ok(EntryWords { commit: 6, head }));
     Ok(())
 }

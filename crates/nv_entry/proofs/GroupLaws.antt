@@ -12,12 +12,13 @@ use Rattle.nv_pmem.proofs.CallLaws.{failed_front}
 use Rattle.nv_pmem.proofs.RowLaws.{row_tells_more, row_tells_both, row_tells_itself, row_tells_did, each_row_moment, row_image_of_now}
 use Rattle.nv_pmem.proofs.StepLaws.{Always, always_by_fronts}
 use Rattle.nv_entry.specs.Group.{pieces_steps, group_steps, IsReady, IsUncommitted, IsWholeGroup, IsUncommittedOrWhole, StoresOnly}
+use Rattle.nv_entry.specs.Uncommitted.{AreUncommitted}
 use Rattle.nv_entry.proofs.Data.{AreBytes}
 use Rattle.nv_entry.proofs.GroupSteps.{all_pieces, HaveLines, group_always, group_whole, group_stores, group_quiet}
 use Rattle.nv_entry.proofs.PartRows.{row_tells_lines}
 
--- Parts that are ready for the entries of a group, none of which is committed.
-pub record AreBegun {X : Type 0} (history : X → PartHistory) (room : X → Room) (page first at : ℕ) (bytes : List ℕ) (parts : List X) (count : ℕ) : Type 0 where
+-- Parts that are ready for the entries of a group.
+pub record AreBegun {X : Type 0} (history : X → PartHistory) (room : X → Room) (page at : ℕ) (bytes : List ℕ) (parts : List X) (count : ℕ) : Type 0 where
   pub told : (x : X) (now : Part) (past : PartHistory) → history x ≡ now ∷ past → length now ≡ (room x).lines
   pub is_page : IsPageSize page
   pub are : AreBytes bytes
@@ -25,29 +26,28 @@ pub record AreBegun {X : Type 0} (history : X → PartHistory) (room : X → Roo
   pub pieces : pages_touched at (length bytes) page ≡ count
   pub long : length parts ≡ count
   pub ready : All (λ x. IsReady page (room x)) parts
-  pub uncommitted : RowTells (map history parts) (InEachRowImage (IsUncommitted first count))
 
-module _ {X : Type 0} (history : X → PartHistory) (room : X → Room) (page first file at : ℕ) (bytes : List ℕ) (parts : List X) {count : ℕ} (begun : AreBegun history room page first at bytes parts count) where
+module _ {X : Type 0} (history : X → PartHistory) (room : X → Room) (page first file at : ℕ) (bytes : List ℕ) (parts : List X) {count : ℕ} (begun : AreBegun history room page at bytes parts count) where
   tells_lines : RowTells (map history parts) (HaveLines page (pages_touched at (length bytes) page))
   tells_lines =
       row_tells_lines history (λ x. (room x).lines) (entry_lines page) (pages_touched at (length bytes) page) begun.told parts (begun.long ∙ sym begun.pieces)
       (All-weaker (λ x. IsReady page (room x)) (λ x. entry_lines page ≤ (room x).lines) (λ x is. is.lines) parts begun.ready)
 
-  tells_both : RowTells (map history parts) (λ now. HaveLines page (pages_touched at (length bytes) page) now × InEachRowImage (IsUncommitted first (pages_touched at (length bytes) page)) now)
-  tells_both =
+  tells_both : AreUncommitted first count (map history parts) → RowTells (map history parts) (λ now. HaveLines page (pages_touched at (length bytes) page) now × InEachRowImage (IsUncommitted first (pages_touched at (length bytes) page)) now)
+  tells_both uncommitted =
       let Open : ℕ → Type 0 = λ n. RowTells (map history parts) (InEachRowImage (IsUncommitted first n)) in
       row_tells_both (map history parts) (HaveLines page (pages_touched at (length bytes) page)) (InEachRowImage (IsUncommitted first (pages_touched at (length bytes) page)))
-      tells_lines (subst Open (sym begun.pieces) begun.uncommitted)
+      tells_lines (subst Open (sym begun.pieces) uncommitted)
 
-  -- At each moment the group is there as a whole or not at all.
-  pub parts_moments : {new : List PartHistory} → DidSomeRow (group_steps page first file at bytes) (map history parts) new
+  -- At each moment the group is there as a whole or not at all, where none of its entries was committed.
+  pub parts_moments : AreUncommitted first count (map history parts) → {new : List PartHistory} → DidSomeRow (group_steps page first file at bytes) (map history parts) new
       → EachRowMoment (InEachRowImage (IsUncommittedOrWhole page first file at bytes)) (map history parts) new
-  parts_moments did =
+  parts_moments uncommitted did =
       let P : List Part → Type 0 = InEachRowImage (IsUncommittedOrWhole page first file at bytes) in
       each_row_moment P
       (row_tells_more (map history parts) _ (Always row_after P (group_steps page first file at bytes))
       (λ now both. group_always page first file at bytes begun.is_page now begun.are both.0 both.1)
-      tells_both)
+      (tells_both uncommitted))
       did
 
   -- At each moment nothing else is stored.
@@ -70,18 +70,18 @@ module _ {X : Type 0} (history : X → PartHistory) (room : X → Room) (page fi
       (row_tells_itself (map history parts))
 
   -- At the end the group is there.
-  pub parts_whole : {new : List PartHistory} → DidRow (group_steps page first file at bytes) (map history parts) new → RowTells new (InEachRowImage (IsWholeGroup page first file at bytes))
-  parts_whole did =
-      row_tells_did _ (InEachRowImage (IsWholeGroup page first file at bytes)) tells_both
+  pub parts_whole : AreUncommitted first count (map history parts) → {new : List PartHistory} → DidRow (group_steps page first file at bytes) (map history parts) new → RowTells new (InEachRowImage (IsWholeGroup page first file at bytes))
+  parts_whole uncommitted did =
+      row_tells_did _ (InEachRowImage (IsWholeGroup page first file at bytes)) (tells_both uncommitted)
       (λ now both. group_whole page first file at bytes begun.is_page now begun.are (omega (arith, begun.some, begun.pieces)) both.0 both.1)
       did
 
   -- And it is what the parts read as.
-  pub parts_hold : {new : List PartHistory} → DidRow (group_steps page first file at bytes) (map history parts) new → RowTells new (λ now. IsWholeGroup page first file at bytes (row_words now))
-  parts_hold {new} did =
+  pub parts_hold : AreUncommitted first count (map history parts) → {new : List PartHistory} → DidRow (group_steps page first file at bytes) (map history parts) new → RowTells new (λ now. IsWholeGroup page first file at bytes (row_words now))
+  parts_hold uncommitted {new} did =
       row_tells_more new (InEachRowImage (IsWholeGroup page first file at bytes)) (λ now. IsWholeGroup page first file at bytes (row_words now))
       (λ now whole. whole (row_words now) (row_image_of_now now))
-      (parts_whole did)
+      (parts_whole uncommitted did)
 
   -- Quiet parts are quiet again.
   pub parts_quiet : {new : List PartHistory} → DidRow (group_steps page first file at bytes) (map history parts) new → RowTells (map history parts) AreQuiet → RowTells new AreQuiet

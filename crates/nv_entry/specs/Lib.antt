@@ -4,3 +4,4 @@ pub mod Ready
 pub mod Checks
 pub mod OneAnswer
 pub mod Commits
+pub mod Uncommitted

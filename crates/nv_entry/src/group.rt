@@ -1,5 +1,5 @@
 //! The commit of a group of entries.
-ghost use Rattle.std.specs.Prelude.{◌≡◌, ℕ, ◌+◌, ◌^◌, ◌<◌, ◌≤◌, ◌↔◌, [], ◌∷◌, ◌++◌, length, map, sum_by, vec_len, IfOk, OnOk, IsTrue, All};
+ghost use Rattle.std.specs.Prelude.{◌≡◌, ℕ, ◌+◌, ◌^◌, ◌<◌, ◌≤◌, [], ◌∷◌, ◌++◌, length, map, sum_by, vec_capacity, vec_len, IfOk, OnOk, All};
 ghost use Rattle.nv_plain.specs.Faults.{HasCause};
 ghost use Rattle.nv_plain.specs.Files.{padded};
 ghost use Rattle.nv_plain.specs.Images.{lines_for};
@@ -11,16 +11,17 @@ ghost use Rattle.nv_pmem.specs.Room.{Keeps, Takes};
 ghost use Rattle.nv_pmem.specs.Moments.{Tells};
 ghost use Rattle.nv_pmem.specs.Rows.{DidRow, DidSomeRow, RowTells, EachRowMoment, InEachRowImage, on_part, row_words, AreQuiet};
 ghost use Rattle.nv_pmem.specs.Steps.{DidLineStep, DidSome, Flush, line_stores, durable_store};
-ghost use Rattle.nv_entry.specs.Group.{group_steps, piece_steps, pieces_steps, count_at, data_steps, entry_field_steps, IsUncommitted, IsUncommittedOrWhole, IsWholeGroup, StoresOnly, IsReady};
+ghost use Rattle.nv_entry.specs.Group.{group_steps, piece_steps, pieces_steps, count_at, data_steps, entry_field_steps, IsUncommittedOrWhole, IsWholeGroup, StoresOnly, IsReady};
 ghost use Rattle.nv_entry.specs.Ready.{WritesLines, FencesHead, StaysReady};
+ghost use Rattle.nv_entry.specs.Uncommitted.{AreUncommitted};
 
 use crate::{PieceHead, cut, piece_count};
 use nv_pmem::{Lines, RegionFault, store_durably};
 
 /// Writes the pieces of a write as the entries from number `first` on, and commits them as a group. `parts` are the
 /// parts of these entries, one for each piece: the bytes go to `at` of `file`, cut at the boundaries of pages of `page`
-/// bytes. At each moment the group is there as a whole or not at all, and at `Ok` it is there. After a fault only the
-/// first so many of its stores, flushes and fences were made. Takes no memory.
+/// bytes. Where none of these entries is committed yet, at each moment the group is there as a whole or not at all, and at
+/// `Ok` it is there. After a fault only the first so many of its stores, flushes and fences were made. Takes no memory.
 pub fn commit_group<L: Lines>(
     parts: &mut Vec<L>,
     page: u64,
@@ -35,7 +36,6 @@ pub fn commit_group<L: Lines>(
     requires range { at + length bytes.now ≤ 2 ^ 60 }
     requires numbers { first + vec_len parts.old ≤ 2 ^ 60 }
     requires ready { All (λ part. IsReady page (L.room part)) parts.old.items }
-    requires uncommitted { RowTells (map L.history parts.old.items) (InEachRowImage (IsUncommitted first (vec_len parts.old))) }
 
     // The stores, flushes and fences are these, in this order. A load is in no history: a test counts all calls.
     ensures begun { DidSomeRow (group_steps page first file at bytes.now)
@@ -48,30 +48,32 @@ pub fn commit_group<L: Lines>(
         (map (seen_of L.history L.room L.fault_count) parts.old.items) (map (seen_of L.history L.room L.fault_count) parts.new.items) result }
 
     // What a power failure may leave: the group as a whole or not at all, and everything else as it was.
-    ensures moments { EachRowMoment (InEachRowImage (IsUncommittedOrWhole page first file at bytes.now))
+    ensures moments { AreUncommitted first (vec_len parts.old) (map L.history parts.old.items)
+        → EachRowMoment (InEachRowImage (IsUncommittedOrWhole page first file at bytes.now))
         (map L.history parts.old.items) (map L.history parts.new.items) }
     ensures others { RowTells (map L.history parts.old.items) (λ was.
         EachRowMoment (InEachRowImage (StoresOnly page first file at bytes.now was))
         (map L.history parts.old.items) (map L.history parts.new.items)) }
-    ensures whole { OnOk result (RowTells (map L.history parts.new.items) (InEachRowImage (IsWholeGroup page first file at bytes.now))) }
+    ensures whole { AreUncommitted first (vec_len parts.old) (map L.history parts.old.items)
+        → OnOk result (RowTells (map L.history parts.new.items) (InEachRowImage (IsWholeGroup page first file at bytes.now))) }
     ensures quiet { OnOk result
         (RowTells (map L.history parts.old.items) AreQuiet → RowTells (map L.history parts.new.items) AreQuiet) }
 
     // After them the parts read as the group, and have room for other entries.
-    ensures holds { OnOk result
-        (RowTells (map L.history parts.new.items) (λ now. IsWholeGroup page first file at bytes.now (row_words now))) }
+    ensures holds { AreUncommitted first (vec_len parts.old) (map L.history parts.old.items)
+        → OnOk result (RowTells (map L.history parts.new.items) (λ now. IsWholeGroup page first file at bytes.now (row_words now))) }
     ensures ready { OnOk result (All (λ part. IsReady page (L.room part)) parts.new.items) }
 
     ensures lines { map (λ part. (L.room part).lines) parts.new.items ≡ map (λ part. (L.room part).lines) parts.old.items }
     ensures cause { HasCause (sum_by L.fault_count parts.old.items) (sum_by L.fault_count parts.new.items) result }
     ensures devices { map L.device parts.new.items ≡ map L.device parts.old.items }
+    ensures memory { vec_capacity parts.new ≡ vec_capacity parts.old }
 {
     write_group(parts, page, first, file, at, bytes)
 }
 
-/// As [`commit_group`], of parts of which nothing is known but that they are ready: what its stores, flushes and fences make
-/// of them is said by [`groups_follow_steps`](crate::groups_follow_steps). A slice can't grow, so this takes no memory.
-pub fn write_group<L: Lines>(
+// The same of parts that are lent as a slice: that can't grow, so this takes no memory.
+fn write_group<L: Lines>(
     parts: &mut [L],
     page: u64,
     first: u64,
@@ -264,20 +266,6 @@ fn commit<L: Lines>(parts: &mut [L], page: u64, first: u64) -> Result<(), Region
     ensures devices { map L.device parts.new ≡ map L.device parts.old }
 {
     Ok(store_durably(&mut parts[0], 0, 0, first + 1)?)
-}
-
-/// Whether the part holds the committed entry of this number: a leader, since only its commit word is stored. Takes
-/// no memory.
-pub fn committed<L: Lines>(part: &mut L, number: u64) -> Result<bool, RegionFault>
-    requires lines { 1 ≤ (L.room part.old).lines }
-    requires number { number < 2 ^ 61 }
-    ensures value { IfOk result (λ found. Tells (L.history part.old) (λ now. IsTrue found ↔ (part_word now 0 0 ≡ number + 1))) }
-    ensures history { L.history part.new ≡ L.history part.old }
-    ensures room { Keeps (L.room part.old) (L.room part.new) }
-    ensures cause { HasCause (L.fault_count part.old) (L.fault_count part.new) result }
-    ensures device { L.device part.new ≡ L.device part.old }
-{
-    Ok(load(part, 0, 0)? == number + 1)
 }
 
 // A word of a part.

@@ -34,7 +34,7 @@ mod span;
 
 pub use bounds::Bounds;
 pub use check::{EntryWords, GroupCheck, check_group, entry_words, read_entry};
-pub use group::{commit_group, committed, write_group, write_piece};
+pub use group::{commit_group, write_piece};
 pub use laws::{a_group_has_one_answer, groups_follow_steps};
 pub use nv_pmem::RegionFault;
 pub use piece::{PieceHead, read_piece};

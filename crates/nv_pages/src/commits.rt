@@ -16,7 +16,7 @@ ghost use Rattle.nv_pages.specs.PageWork.{entry_slot};
 use crate::laws::commits_are_due;
 use crate::slots::{put, slot_of_entry};
 use nv_core::runs_are_sound;
-use nv_entry::{RegionFault, piece_count, write_group};
+use nv_entry::{RegionFault, commit_group, piece_count};
 use nv_pmem::Lines;
 use nv_store::Backing;
 use nv_table::{Board, Pass, Slot, exchange};
@@ -109,7 +109,7 @@ pub fn commit_entries<L: Lines, B: Backing>(
     let layout = board.layout();
     let count = piece_count(at, bytes.len() as u64, layout.page);
     take_parts(board, pass, parts, first, count);
-    let written = write_group(parts, layout.page, first, file, at, bytes);
+    let written = commit_group(parts, layout.page, first, file, at, bytes);
     lay_parts(board, pass, parts, first);
     written
 }

@@ -13,7 +13,7 @@ returns-clause-size c =
     let inside : c.args.i < length parts.items = grind (arith, common_steps) in
     let below : c.args.i < pages_touched c.args.at (length bytes) 64 = omega (arith, c.requires.some, c.requires.pieces) in
     size_told 64 5 1 c.args.at bytes parts.items c.args.i c.remove.result c.remove.ensures.value inside below
-    (where_ok c.commit_group.result (sym c.is_err.ensures.value ∙ c.if-is_err.false) c.commit_group.ensures.holds)
+    (where_ok c.commit_group.result (sym c.is_err.ensures.value ∙ c.if-is_err.false) (c.commit_group.ensures.holds c.in_ok-parts.ensures.uncommitted))
 
 pub returns-clause-lines : goal.returns-clause-lines
 returns-clause-lines c =

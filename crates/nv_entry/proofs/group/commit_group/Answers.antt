@@ -1,5 +1,5 @@
 -- What the steps of a group say of the parts, which were lent as a slice.
-use Rattle.std.proofs.Common.{◌≡◌, map, arith}
+use Rattle.std.proofs.Common.{◌≡◌, map, refl, arith}
 use Rattle.std.specs.Prelude.{All, OnOk, sum_by}
 use Rattle.std.proofs.lemmas.Result.{on_ok_weaker}
 use Rattle.nv_plain.specs.Faults.{HasCause}
@@ -21,7 +21,7 @@ returns g c =
     let seen = seen_of g.L.Lines.history g.L.Lines.room g.L.Lines.fault_count in
     let back = lent parts.items c.deref_mut.result.now c.write_group.new.parts parts.len c.deref_mut.ensures.value (omega (arith, parts.ok.0)) c.write_group.auto.parts in
     let begun = back (λ old new. DidSomeRow (group_steps page first file at bytes) (map g.L.Lines.history old) (map g.L.Lines.history new)) c.write_group.ensures.begun in
-    let ready : AreBegun g.L.Lines.history g.L.Lines.room page first at bytes parts.items parts.len = record {
+    let ready : AreBegun g.L.Lines.history g.L.Lines.room page at bytes parts.items parts.len = record {
       told = g.met.L.Lines.told_lines;
       is_page = c.requires.page;
       are = λ i. omega (arith, c.type_inv.bytes i);
@@ -29,31 +29,31 @@ returns g c =
       pieces = c.requires.pieces;
       long = omega (arith, parts.ok.0);
       ready = c.requires.ready;
-      uncommitted = c.requires.uncommitted;
     } in
     let done = back (λ old new. OnOk c.write_group.result (DidRow (group_steps page first file at bytes) (map g.L.Lines.history old) (map g.L.Lines.history new))) c.write_group.ensures.done in
     record {
       begun = begun;
       done = done;
       calls = back (λ old new. RowCalls (group_steps page first file at bytes) (map seen old) (map seen new) c.write_group.result) c.write_group.ensures.calls;
-      moments =
-          parts_moments g.L.Lines.history g.L.Lines.room page first file at bytes parts.items ready begun;
+      moments = λ uncommitted.
+          parts_moments g.L.Lines.history g.L.Lines.room page first file at bytes parts.items ready uncommitted begun;
       others =
           parts_others g.L.Lines.history g.L.Lines.room page first file at bytes parts.items ready begun;
-      whole =
+      whole = λ uncommitted.
           on_ok_weaker c.write_group.result
-          (parts_whole g.L.Lines.history g.L.Lines.room page first file at bytes parts.items ready)
+          (parts_whole g.L.Lines.history g.L.Lines.room page first file at bytes parts.items ready uncommitted)
           done;
       quiet =
           on_ok_weaker c.write_group.result
           (parts_quiet g.L.Lines.history g.L.Lines.room page first file at bytes parts.items ready)
           done;
-      holds =
+      holds = λ uncommitted.
           on_ok_weaker c.write_group.result
-          (parts_hold g.L.Lines.history g.L.Lines.room page first file at bytes parts.items ready)
+          (parts_hold g.L.Lines.history g.L.Lines.room page first file at bytes parts.items ready uncommitted)
           done;
       ready = back (λ old new. OnOk c.write_group.result (All (λ part. IsReady page (g.L.Lines.room part)) new)) c.write_group.ensures.ready;
       lines = back (λ old new. map (λ part. (g.L.Lines.room part).lines) new ≡ map (λ part. (g.L.Lines.room part).lines) old) c.write_group.ensures.lines;
       cause = back (λ old new. HasCause (sum_by g.L.Lines.fault_count old) (sum_by g.L.Lines.fault_count new) c.write_group.result) c.write_group.ensures.cause;
       devices = back (λ old new. map g.L.Lines.device new ≡ map g.L.Lines.device old) c.write_group.ensures.devices;
+      memory = refl;
     }
