@@ -7,7 +7,7 @@ use Rattle.nv_plain.specs.Histories.{Answered}
 use Rattle.nv_core.specs.invariant.InvariantLaws.{RunsAreSound}
 use Rattle.nv_core.specs.invariant.Ownership.{is_among}
 use Rattle.nv_core.specs.state.Core.{values_given, values_stepped, with_value}
-use Rattle.nv_core.specs.state.Passes.{Control, Pass, Searching, end_page, end_read, first_page, times}
+use Rattle.nv_core.specs.state.Passes.{Pass, Searching, end_page, end_read, first_page, times}
 use Rattle.nv_core.specs.state.Passes as core
 use Rattle.nv_core.specs.state.Values.{lacks_buffer, received}
 use Rattle.nv_core.specs.state.Words.{Sizes, Word, HINT, PAGE, DIRTY, page_total}
@@ -249,7 +249,7 @@ module _ (m : SearchMachine) (start now before new : PassState) (found : ℕ) (f
     -- it names a page of the mount
     hint_low : RunsAreSound → IsMount (mount_of before.view.opened) → found < page_total sizes_now
     hint_low sound mount =
-        let at = found_in sound before new None (Load (HINT buffer)) found (HINT buffer) (λ n. n) mount (load_on before.view.opened.sizes (Load (HINT buffer)) (HINT buffer) (inl refl)) step in
+        let at = found_in sound before new None (Load (HINT buffer)) found (HINT buffer) (λ n. n) mount (load_on before.view.opened.sizes (HINT buffer)) step in
         subst (λ (v : PassView). found < page_total v.opened.sizes) between.view
         (subst (λ n. n < page_total before.view.opened.sizes) at.word_is (at.sound.searches.hints buffer (subst (λ (v : PassView). buffer < v.opened.sizes.buffers) (sym between.view) low)))
 

@@ -3,5 +3,4 @@ pub mod SeatSteps
 pub mod Moving
 pub mod StepContracts
 pub mod CallSteps
-pub mod Found
 pub mod Exchanges

@@ -46,6 +46,15 @@ impl StepSpec for Brand {
     ghost said = { λ works. Unit {0} };
 }
 
+/// What is so of the device calls before a step, for contracts alone.
+pub trait Says {
+    ghost said: { List Work → Type 0 };
+}
+
+impl Says for Brand {
+    ghost said = { λ works. Unit {0} };
+}
+
 /// What a step of a kind tells its seat.
 pub struct Acting<E, S> {
     marker: PhantomData<(E, S)>,

@@ -7,8 +7,7 @@
 //! events. So a step is one event of the core, after the device calls that its pass has made since its last one, and nothing else changes the
 //! table. `docs/machine.md` has all of it in words.
 //!
-//! [`step`] makes a step of any kind; the crates above say what their kinds are by [`StepSpec`], and prove when they may come. The kinds that every
-//! call has are here: [`load_word`], [`take`], [`give`], [`place`] and [`stop`].
+//! [`step`] makes a step of any kind; the crates above say what their kinds are by [`StepSpec`], and prove when they may come.
 #![tactic(auto)]
 
 mod acting;
@@ -25,11 +24,10 @@ mod seating;
 mod seats;
 mod slot;
 mod stepping;
-mod turns;
 mod view;
 mod workspace;
 
-pub use acting::{Change, StepSpec};
+pub use acting::{Change, Says, StepSpec};
 pub use board::{Board, Refused};
 pub use closing::Closed;
 pub use exchanges::exchange;
@@ -42,9 +40,5 @@ pub use pass::Pass;
 pub use seats::{ExportedView, export_view, import_view, join_pass, look_at, split_pass};
 pub use slot::{PageBuffer, Shown, Slot};
 pub use stepping::{Marks, Moves, step};
-pub use turns::{
-    Busy, Calls, Says, begin_with_load, begin_with_take, give, give_after, load_word, place, stop,
-    take,
-};
 pub use view::View;
 pub use workspace::Workspace;

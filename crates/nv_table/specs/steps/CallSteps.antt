@@ -1,33 +1,21 @@
--- Call steps: the steps that every call makes: load, take, give, place, stop. A cleaner makes them too.
+-- Call steps: when a step of a pass is due, and what the place of a call tells.
 use Rattle.std.specs.Prelude.{◌≡◌, ◌⊎◌, ℕ, List, [], ◌∷◌, ◌++◌, length, Option}
 use Rattle.nv_plain.specs.Histories.{Answered}
 use Rattle.nv_plain.specs.declared.call.FileCall.{FileCall}
 use Rattle.nv_plain.specs.declared.call.Reply.{Reply}
 use Rattle.nv_plain.specs.declared.call.Reply.TheVariants.{Bytes}
 use Rattle.nv_core.specs.state.Words.{Sizes, Word, IsWord}
-use Rattle.nv_core.specs.state.Passes.{Control, Pass, TakePlace, Cleaning}
+use Rattle.nv_core.specs.state.Passes.{Control, Pass, TakePlace}
 use Rattle.nv_core.specs.state.Cleaner as cleaner
 use Rattle.nv_core.specs.invariant.ControlFacts.{ControlFacts}
-use Rattle.nv_core.specs.steps.Ops.{Op, word_of, Load, Take, Give, Place, Stop, ByCleaner}
+use Rattle.nv_core.specs.steps.Ops.{Op, word_of, Take, Place, ByCleaner}
 use Rattle.nv_core.specs.steps.Order.{Values, Work, Enabled, plain_reply, gathered}
 use Rattle.nv_table.specs.state.Views.{PassView, pass_of, values_of}
 use Rattle.nv_table.specs.steps.SeatSteps.{AreDue, MayOpen, pass_worked, pass_before, values_before}
 use Rattle.nv_table.specs.state.States.{PassState}
 use Rattle.nv_table.specs.steps.StepContracts.{ShowsWork}
 
--- ---- the operations, by what the pass is at: a cleaner's batch, or a call
-
-abbrev pub load_op : Control → Word → Op
-load_op (Cleaning batch inner) word = ByCleaner (cleaner.Load word)
-load_op control word = Load word
-
-abbrev pub take_op : Control → Word → Op
-take_op (Cleaning batch inner) cell = ByCleaner (cleaner.Take cell)
-take_op control cell = Take cell
-
-abbrev pub give_op : Control → Word → Op
-give_op (Cleaning batch inner) cell = ByCleaner (cleaner.Give cell)
-give_op control cell = Give cell
+-- ---- the place of a call
 
 -- the reply that a call takes its place with: that of a read of pages is what it has of them
 abbrev pub reply_at : Sizes → Values → Pass → Control → Reply
@@ -56,16 +44,10 @@ pub record Stands (pass : PassState) (opens : Option FileCall) (op : Op) (works 
 abbrev pub DueStepsStand : PassState → Type 0
 DueStepsStand pass = (opens : Option FileCall) (op : Op) (due : Precondition pass opens op) → Stands pass opens op due.works
 
--- ---- a step of one of these kinds, by a call or by a cleaner
-
-abbrev pub IsLoad : Op → Word → Type 0
-IsLoad op word = (op ≡ Load word) ⊎ (op ≡ ByCleaner (cleaner.Load word))
+-- ---- a take, by a call or by a cleaner
 
 abbrev pub IsTake : Op → Word → Type 0
 IsTake op cell = (op ≡ Take cell) ⊎ (op ≡ ByCleaner (cleaner.Take cell))
-
-abbrev pub IsStop : Op → Type 0
-IsStop op = (op ≡ Stop) ⊎ (op ≡ ByCleaner cleaner.Stop)
 
 -- ---- what the place of a call tells
 
