@@ -8,27 +8,15 @@ use Rattle.nv_core.specs.steps.Order.{miss, next_step, step_at}
 use Rattle.nv_mirror.specs.Controls.{MirroredControl}
 use Rattle.nv_core.specs.state.Values.{lacks_buffer}
 use Rattle.nv_core.specs.state.Words.{Sizes, PAGE, DIRTY}
-use Rattle.nv_table.specs.state.Opened.{Opened}
 use Rattle.nv_table.specs.state.States.{PassState}
 use Rattle.nv_table.specs.state.Views.{pass_of, values_of}
 use Rattle.nv_cache.specs.declared.search.SearchControl.{SearchControl}
 use Rattle.nv_cache.specs.declared.search.SearchControl.TheVariants.{Found, NotFound}
 use Rattle.nv_cache.specs.declared.search.SearchControl.TheVariants as searches
 use Rattle.nv_cache.specs.declared.search.SearchMachine.{SearchMachine}
-use Rattle.nv_cache.specs.Searches.{FitsAt, HasSearched, HasSearchedAt, HasStepped, IsInCall, IsOpen, IsOver, IsUnderWay, KnowsAt, again, search_after_at, locks, search_call_of, search_control_at, search_mirror_at}
+use Rattle.nv_cache.specs.Searches.{EndsWith, FitsAt, HasFound, HasSearched, HasSearchedAt, HasStepped, IsInCall, IsOver, IsUnderWay, KnowsAt, again, search_after_at, locks, search_call_of, search_control_at, search_mirror_at}
 use Rattle.nv_cache.specs.Tries.{AllFoundNothing, IsOutcome}
 use Rattle.nv_cache.proofs.KeepsLaws.{IsOfSearch}
-
--- it is over nowhere else
-pub open_else : (control : SearchControl) → ((buffer : ℕ) → control ≡ Found buffer → ⊥) → ((given : Option ℕ) → control ≡ NotFound given → ⊥) → IsOpen control
-open_else (Found buffer) found none = absurd (found buffer refl)
-open_else (NotFound given) found none = absurd (none given refl)
-open_else (searches.Begin from) found none = tt
-open_else (searches.TurnHand given) found none = tt
-open_else (searches.LoadHint buffer) found none = tt
-open_else (searches.TakeVictim buffer victim) found none = tt
-open_else (searches.GiveVictim buffer victim) found none = tt
-open_else (searches.SetHint buffer) found none = tt
 
 -- a step changes where the search stands, and how many tries have begun
 of_search : (sizes : Sizes) (m : SearchMachine) (control : SearchControl) (found : ℕ) (lacks : Bool) → IsOfSearch m (search_after_at sizes m control found lacks)
@@ -56,29 +44,34 @@ stepped_same first m next was now same one =
     subst (IsOfSearch m) (sym one.next) (of_search was.view.opened.sizes m m.control one.found (lacks_buffer (values_of now.view (PAGE m.page)))) in
     after ∙ ap (λ (s : SearchMachine). record s { tries = next.tries; control = next.control }) same
 
-module _ (first m : SearchMachine) (start began now : PassState) (same : IsOfSearch first m) (opened : now.view.opened ≡ began.view.opened) (way : IsUnderWay m start now) (searched : HasSearched m began now) where
-  pub found_outcome : (buffer : ℕ) → m.control ≡ Found buffer → IsOutcome began.view.opened.sizes (search_call_of first) first.page (Some record { hint = buffer }) began now
+module _ (m : SearchMachine) (start began now : PassState) (way : IsUnderWay m start now) (searched : HasSearched m began now) where
+  found_outcome : (buffer : ℕ) → m.control ≡ Found buffer → IsOutcome now.view.opened.sizes (search_call_of m) m.page (Some buffer) began now
   found_outcome buffer is =
       let so = subst (λ control. HasSearchedAt now.view.opened.sizes m control began now) is searched in
-      let few = way.fits.tries in
-      let one = so.1 in
-      subst (λ (o : Opened). IsOutcome o.sizes (search_call_of first) first.page (Some record { hint = buffer }) began now) opened
-      (subst (λ (s : SearchMachine). IsOutcome now.view.opened.sizes (search_call_of s) s.page (Some record { hint = buffer }) began now) same (so.0, omega (arith, few, one), so.2, so.3, so.4))
+      let few = way.fits.tries in let one = so.1 in
+      (so.0, omega (arith, few, one), so.2, so.3, so.4)
 
-  pub no_outcome : (given : Option ℕ) → m.control ≡ NotFound given → IsOutcome began.view.opened.sizes (search_call_of first) first.page None began now
+  no_outcome : (given : Option ℕ) → m.control ≡ NotFound given → IsOutcome now.view.opened.sizes (search_call_of m) m.page None began now
   no_outcome given is =
       let nothing = subst (λ control. HasSearchedAt now.view.opened.sizes m control began now) is searched in
       let all = subst (FitsAt now.view.opened.sizes m) is way.fits.stands in
-      subst (λ (o : Opened). IsOutcome o.sizes (search_call_of first) first.page None began now) opened
-      (subst (λ (s : SearchMachine). IsOutcome now.view.opened.sizes (search_call_of s) s.page None began now) same
-      (subst (λ n. AllFoundNothing now.view.opened.sizes (search_call_of m) m.page n began now) all nothing))
+      subst (λ n. AllFoundNothing now.view.opened.sizes (search_call_of m) m.page n began now) all nothing
 
   -- a page that has got a buffer isn't one for which all tries found nothing
-  pub not_all : (buffer tries : ℕ) → m.control ≡ Found buffer → 0 < tries → AllFoundNothing began.view.opened.sizes (search_call_of first) first.page tries began now → ⊥
+  not_all : (buffer tries : ℕ) → m.control ≡ Found buffer → 0 < tries → AllFoundNothing now.view.opened.sizes (search_call_of m) m.page tries began now → ⊥
   not_all buffer zero is some all = omega (arith, some)
   not_all buffer (suc tries) is some all =
       let has = subst (KnowsAt (values_of now.view) m) is way.knows in
-      true≢false (sym (subst (λ (s : SearchMachine). lacks_buffer (values_of now.view (PAGE s.page)) ≡ true) (sym same) all.3) ∙ ap lacks_buffer has.1)
+      true≢false (sym all.3 ∙ ap lacks_buffer has.1)
+
+  -- there are tries, since the buffer that it found is one of the mount
+  some_tries : (buffer : ℕ) → m.control ≡ Found buffer → 0 < 2 * now.view.opened.sizes.buffers
+  some_tries buffer is = let low = subst (FitsAt now.view.opened.sizes m) is way.fits.stands in omega (arith, low)
+
+  pub has_found : (found : Option ℕ) → EndsWith found m.control → HasFound found m began now
+  has_found (Some buffer) ends =
+      record { outcome = found_outcome buffer ends; none = λ all. absurd (not_all buffer (2 * now.view.opened.sizes.buffers) ends (some_tries buffer ends) all) }
+  has_found None ends = record { outcome = no_outcome ends.0 ends.1; none = λ all. refl }
 
 -- where it is over DIRTY of the page is loaded next
 pub looks_up : (m : SearchMachine) (start now : PassState) (control : SearchControl) → IsOver control → FitsAt now.view.opened.sizes m control → KnowsAt (values_of now.view) m control → IsInCall m control start now

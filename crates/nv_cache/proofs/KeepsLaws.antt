@@ -62,3 +62,10 @@ keeps_on first m begun start was now is rest way keeps = record {
 
 pub keeps_self : (m : SearchMachine) (begun : PassState) → KeepsRest m begun begun
 keeps_self m begun = record { pass = refl; cells = λ cell some ne. refl }
+
+-- where the search stands changes nothing of it
+pub keeps_rest_same : (first m : SearchMachine) (was now : PassState) → IsOfSearch first m → KeepsRest first was now → KeepsRest m was now
+keeps_rest_same first m was now is keeps = record {
+  pass = keeps.pass;
+  cells = λ cell some ne. keeps.cells cell (subst (λ s. times cell (locks s) ≢ 0) is some) (subst (λ s. cell ≢ PAGE s.page) is ne);
+}

@@ -21,8 +21,7 @@ use Rattle.nv_op.specs.Ops.{core_op_of}
 use Rattle.nv_mirror.specs.Controls.{MirroredControl, control_mirror, InCall}
 use Rattle.nv_mirror.specs.OwnedCells.{pages_from, with_if}
 use Rattle.nv_mirror.specs.PassSteps.{HasTaken}
-use Rattle.nv_cache.specs.Tries.{AllFoundNothing, FoundBuffer, HasHinted, HasRobbed, HasTurned, HoldsVictim, plain_step}
-use Rattle.nv_cache.specs.declared.search.Buffer.{Buffer}
+use Rattle.nv_cache.specs.Tries.{AllFoundNothing, FoundBuffer, HasHinted, HasRobbed, HasTurned, HoldsVictim, IsOutcome, plain_step}
 use Rattle.nv_cache.specs.declared.search.SearchControl.{SearchControl}
 use Rattle.nv_cache.specs.declared.search.SearchControl.TheVariants.{Found, NotFound}
 use Rattle.nv_cache.specs.declared.search.SearchControl.TheVariants as searches
@@ -194,14 +193,15 @@ pub record KeepsRest (m : SearchMachine) (was now : PassState) : Type 0 where
   pub pass : IsSameBut (pass_of was.view) (pass_of now.view)
   pub cells : (cell : Word) → times cell (locks m) ≢ 0 → cell ≢ PAGE m.page → values_of now.view cell ≡ values_of was.view cell
 
--- it is over, and has found this
-abbrev pub EndsWith : Option Buffer → SearchControl → Type 0
-EndsWith (Some buffer) control = control ≡ Found buffer.hint
+-- it is over, and has found this: a buffer, by its number, or none
+abbrev pub EndsWith : Option ℕ → SearchControl → Type 0
+EndsWith (Some buffer) control = control ≡ Found buffer
 EndsWith None control = (given : Option ℕ) × (control ≡ NotFound given)
 
-pub record HasEnded (found : Option Buffer) (old new : SearchMachine) : Type 0 where
-  pub same : new ≡ record old { tries = new.tries; control = new.control }
-  pub ends : EndsWith found new.control
+-- What a search that is over has found is told by all of its tries since it began; and it has found none wherever each of these found nothing.
+pub record HasFound (found : Option ℕ) (m : SearchMachine) (began now : PassState) : Type 0 where
+  pub outcome : IsOutcome now.view.opened.sizes (search_call_of m) m.page found began now
+  pub none : AllFoundNothing now.view.opened.sizes (search_call_of m) m.page (2 * now.view.opened.sizes.buffers) began now → found ≡ None
 
 -- ---- the search so far
 

@@ -8,7 +8,6 @@ use Rattle.nv_core.specs.steps.Ops.{Op, Load, Take, Give, Turn, Hint}
 use Rattle.nv_table.specs.state.States.{PassState}
 use Rattle.nv_table.specs.state.Views.{values_of}
 use Rattle.nv_mirror.specs.PassSteps.{PassStep, HasMade, HasTaken}
-use Rattle.nv_cache.specs.declared.search.Buffer.{Buffer}
 
 -- a step that begins no call, and before which no device call lies
 abbrev pub plain_step : Op → (found : ℕ) → PassStep
@@ -81,8 +80,8 @@ pub record FoundBuffer (sizes : Sizes) (call : FileCall) (page buffer : ℕ) (wa
 
 -- ---- what a search found
 
--- None where each of its tries found nothing, two for each buffer of the mount; or the buffer of the try behind some, fewer, that found nothing.
-abbrev pub IsOutcome : Sizes → FileCall → (page : ℕ) → Option Buffer → (was now : PassState) → Type 0
+-- None where each of its tries found nothing, two for each buffer of the mount; or the buffer of the try behind some, fewer, that found nothing, by its number.
+abbrev pub IsOutcome : Sizes → FileCall → (page : ℕ) → Option ℕ → (was now : PassState) → Type 0
 IsOutcome sizes call page None was now = AllFoundNothing sizes call page (2 * sizes.buffers) was now
 IsOutcome sizes call page (Some buffer) was now =
-    (tries : ℕ) × (tries < 2 * sizes.buffers) × (middle : PassState) × AllFoundNothing sizes call page tries was middle × FoundBuffer sizes call page buffer.hint middle now
+    (tries : ℕ) × (tries < 2 * sizes.buffers) × (middle : PassState) × AllFoundNothing sizes call page tries was middle × FoundBuffer sizes call page buffer middle now

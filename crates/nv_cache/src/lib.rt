@@ -10,4 +10,4 @@ mod ways;
 
 pub use read::RunningRead;
 pub use read_run::MOST_PAGE;
-pub use search::{Buffer, SearchControl, SearchMachine, find_buffer};
+pub use search::{SearchControl, SearchMachine};

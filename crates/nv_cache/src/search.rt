@@ -1,15 +1,11 @@
 //! The search of a read for a buffer for a page that it misses: by the hand of the cache it takes that of another page, the victim.
-ghost use Rattle.std.specs.Prelude.{◌≡◌, ℕ, ◌+◌, ◌*◌, ◌<◌, Some, None};
+ghost use Rattle.std.specs.Prelude.{◌≡◌, ℕ, ◌+◌, ◌*◌, ◌<◌, Option};
 ghost use Rattle.nv_core.specs.invariant.Ownership.{is_among};
-ghost use Rattle.nv_core.specs.state.Words.{DIRTY};
 ghost use Rattle.nv_core.specs.steps.Ops.{Load};
-ghost use Rattle.nv_core.specs.steps.Order.{next_step};
-ghost use Rattle.nv_table.specs.state.Views.{pass_of, values_of};
 ghost use Rattle.nv_table.specs.state.Keys.{sizes_of};
 ghost use Rattle.nv_table.specs.state.States.{IsOf, PassState};
 ghost use Rattle.nv_cache.specs.declared.search.SearchControl.TheVariants as searches;
-ghost use Rattle.nv_cache.specs.Searches.{Fits, HasAdvanced, HasEnded, HasMoved, HasSearched, HasStepped, IsOpen, IsOver, IsUnderWay, Keeps, KeepsRest, again, search_after, search_call_of, search_measure, search_op, turned};
-ghost use Rattle.nv_cache.specs.Tries.{AllFoundNothing, IsOutcome};
+ghost use Rattle.nv_cache.specs.Searches.{EndsWith, Fits, HasAdvanced, HasFound, HasMoved, HasSearched, HasStepped, IsOpen, IsUnderWay, Keeps, KeepsRest, again, search_after, search_measure, search_op, turned};
 
 use nv_core::runs_are_sound;
 use nv_op::{Op, Word, perform};
@@ -17,12 +13,6 @@ use nv_pages::move_buffer;
 use nv_pmem::Lines;
 use nv_store::Backing;
 use nv_table::{Board, Layout, Pass};
-
-/// A buffer that a search has found: the number of its HINT, which is the page now.
-#[derive(Clone, Copy, Debug, PartialEq, Eq)]
-pub struct Buffer {
-    pub hint: u64,
-}
 
 /// Where a search stands: what its next step is, or what came of it.
 #[derive(Clone, Copy, Debug, PartialEq, Eq)]
@@ -174,7 +164,12 @@ impl SearchMachine {
         self.after(board.layout(), found, lacks)
     }
 
-    /// Makes the next step. The buffer of a victim moves before that is given back.
+    /// Makes the next step. The buffer of a victim moves before that is given back. Takes no memory, and waits for nobody.
+    ///
+    /// A search goes by tries of the hand of the cache, at most two for each buffer of the mount. Each names a page, the victim, by the HINT of the next buffer.
+    /// The first victim that has a buffer, and whose lock is free, loses that to the page that is missed, where it isn't valid until the page is loaded. It is
+    /// `NotFound` where each try found nothing: a page of the read's own, one whose lock was held, or one without a buffer; then the read goes on with the page,
+    /// and it is not cached.
     pub fn advance<L: Lines, B: Backing>(&mut self, board: &Board<L, B>, pass: &mut Pass<L, B>)
         requires board { IsOf board.now pass.old }
         requires open { IsOpen self.old.control }
@@ -185,50 +180,9 @@ impl SearchMachine {
         ensures falls { search_measure pass.old.view.opened.sizes self.new < search_measure pass.old.view.opened.sizes self.old }
         ensures way { (start : PassState) → IsUnderWay self.old start pass.old → IsUnderWay self.new start pass.new }
         ensures tries { (began : PassState) → HasSearched self.old began pass.old → HasSearched self.new began pass.new }
+        ensures found { (found : Option ℕ) → (began : PassState) → EndsWith found self.new.control → HasSearched self.old began pass.old → HasFound found self.new began pass.new }
+        ensures rest { (began : PassState) → KeepsRest self.old began pass.old → KeepsRest self.new began pass.new }
     {
         *self = self.step(board, pass);
-    }
-
-    /// A law: a step keeps what the cells of the read keep, but for the page that is missed.
-    pub fn keeps_the_rest(&self)
-        ensures { (start : PassState) → (was : PassState) → (now : PassState) → IsUnderWay self.now start was → Keeps self.now was now → KeepsRest self.now was now }
-    {
-        let _ = self.page;
-    }
-
-    /// A law: where it is over, the read loads DIRTY of the page next.
-    pub fn looks_up_next(&self)
-        ensures { IsOver self.now.control → (start : PassState) → (now : PassState) → IsUnderWay self.now start now
-            → next_step now.view.opened.sizes (values_of now.view) (pass_of now.view) ≡ Some (Load (DIRTY self.now.page)) }
-    {
-        let _ = self.page;
-    }
-}
-
-/// Searches a buffer for a page that a read misses, by tries of the hand of the cache, at most two for each buffer of the mount. Each try names a page, the
-/// victim, by the HINT of the next buffer. The first victim that has a buffer, and whose lock is free, loses that to the page, where it isn't valid until the page
-/// is loaded; the answer tells the number of its HINT. `None` where each try found nothing: a page of the read's own, one whose lock was held, or one
-/// without a buffer; then the read goes on with the page, and it is not cached. Takes no memory, and waits for nobody.
-pub fn find_buffer<L: Lines, B: Backing>(
-    board: &Board<L, B>,
-    pass: &mut Pass<L, B>,
-    search: &mut SearchMachine,
-) -> Option<Buffer>
-    requires board { IsOf board.now pass.old }
-    requires begins { (from : ℕ) × (search.old.control ≡ searches.Begin from) }
-    requires way { (start : PassState) × IsUnderWay search.old start pass.old }
-    ensures board { IsOf board.now pass.new }
-    ensures outcome { IsOutcome pass.old.view.opened.sizes (search_call_of search.old) search.old.page result pass.old pass.new }
-    ensures none { AllFoundNothing pass.old.view.opened.sizes (search_call_of search.old) search.old.page (2 * pass.old.view.opened.sizes.buffers) pass.old pass.new → result ≡ None }
-    ensures ended { HasEnded result search.old search.new }
-    ensures keeps { KeepsRest search.old pass.old pass.new }
-    ensures way { (start : PassState) → IsUnderWay search.old start pass.old → IsUnderWay search.new start pass.new }
-{
-    loop {
-        match search.control {
-            SearchControl::Found { buffer } => return Some(Buffer { hint: buffer }),
-            SearchControl::NotFound { .. } => return None,
-            _ => search.advance(board, pass),
-        }
     }
 }

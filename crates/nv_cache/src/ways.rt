@@ -1,10 +1,9 @@
 //! How a read goes on with a search where it lacks a buffer for a page, and with the load of the page where the search is over.
-ghost use Rattle.std.specs.Prelude.{◌≡◌, ◌≢◌, ℕ, List};
-ghost use Rattle.nv_core.specs.invariant.ControlFacts.{IsPage};
+ghost use Rattle.std.specs.Prelude.{◌≡◌, ℕ, List};
 ghost use Rattle.nv_core.specs.state.Passes.{VisitPage};
 ghost use Rattle.nv_table.specs.state.States.{PassState};
-ghost use Rattle.nv_mirror.specs.Loads.{Fits as FitsLoad, IsReading, IsUnderWay as IsLoadUnderWay, bytes_had};
-ghost use Rattle.nv_cache.specs.Searches.{IsOver, IsUnderWay, Keeps, search_call_of};
+ghost use Rattle.nv_mirror.specs.Loads.{Fits as FitsLoad, IsReading, IsUnderWay as IsLoadUnderWay};
+ghost use Rattle.nv_cache.specs.Searches.{HasSearched, IsOver, IsUnderWay, KeepsRest};
 ghost use Rattle.nv_cache.specs.Ways.{LacksBuffer, load_of, search_for};
 
 use crate::{SearchControl, SearchMachine};
@@ -14,6 +13,7 @@ impl SearchMachine {
     /// The search for a buffer for the page that `load` is to load, by a read that stands at page `from`. It has made no step yet.
     pub fn new(load: LoadMachine, from: u64) -> Self
         ensures machine { result ≡ search_for load from }
+        ensures begins { (now : PassState) → HasSearched result now now × KeepsRest result now now }
         ensures way { (start : PassState) → (now : PassState) → FitsLoad now.view.opened.sizes load → IsReading load (VisitPage from) start now → LacksBuffer load from now → IsUnderWay result start now }
     {
         SearchMachine {
@@ -50,13 +50,5 @@ impl SearchMachine {
         };
         load.begins();
         load
-    }
-
-    /// A law: a step keeps what the pass has of each page of its read but the one that is missed.
-    pub fn keeps_the_bytes(&self)
-        ensures { (start : PassState) → (was : PassState) → (now : PassState) → IsUnderWay self.now start was → Keeps self.now was now
-            → (page : ℕ) → IsPage was.view.opened.sizes (search_call_of self.now) page → page ≢ self.now.page → bytes_had now page ≡ bytes_had was page }
-    {
-        let _ = self.page;
     }
 }

@@ -15,6 +15,7 @@ pub mod LoadMeasures
 pub mod LoadSlots
 pub mod LoadWays
 pub mod LoadWorks
+pub mod LoadedLaws
 pub mod MeasureLaws
 pub mod OwnLaws
 pub mod OwnedLaws

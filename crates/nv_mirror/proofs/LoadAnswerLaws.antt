@@ -102,6 +102,17 @@ module _ (sizes : Sizes) (m : LoadMachine) (failed : Bool) (found : ℕ) where
 
 -- ---- all its steps
 
+-- it has made none yet
+pub run_begins : (m : LoadMachine) (now : PassState) → m.control ≡ loads.LoadDirty → HasRun m m now now
+run_begins m now at = record {
+  steps = [];
+  made = refl;
+  refused = sym (ap load_refusal_at at);
+  cause = subst (IsCaused now.view.opened.sizes m) (sym (ap load_refusal_at at)) tt;
+  same = refl;
+  others = λ page own other. refl;
+}
+
 made_opened : (steps : List PassStep) (was now : PassState) → HasMade steps was now → now.view.opened ≡ was.view.opened
 made_opened [] was now made = ap (λ (p : PassState). p.view.opened) made
 made_opened (step ∷ earlier) was now made = taken_opened step made.0 now made.2 ∙ made_opened earlier was made.0 made.1
@@ -132,9 +143,3 @@ run_on m one next was now new run runs is keeps =
           keeps page (subst (λ (o : Opened). IsPage o.sizes (load_call_of one) page) (sym opened) (subst (λ c. IsPage sizes c page) (sym same_call) own)) (λ e. other (e ∙ ap (λ (l : LoadMachine). l.page) run.same))
           ∙ run.others page own other;
     }
-
--- what has neither loaded its page nor been refused goes on
-pub goes_on : (control : LoadControl) → (control ≡ Loaded → ⊥) → ((refusal : Refusal) → control ≡ Refused refusal → ⊥) → IsOpen control
-goes_on Loaded more well = absurd (more refl)
-goes_on (Refused refusal) more well = absurd (well refusal refl)
-goes_on control more well = tt

@@ -2,7 +2,6 @@
 ghost use Rattle.std.specs.Prelude.{◌+◌, true, ◌≡◌, ℕ, ◌<◌};
 ghost use Rattle.nv_core.specs.state.Passes.{IsAllowed, len_of};
 ghost use Rattle.nv_op.specs.Ops.{call_asked, core_op_of, opened_by};
-ghost use Rattle.nv_table.specs.invariant.Idle.{IsIdle};
 ghost use Rattle.nv_table.specs.steps.StepContracts.{Postcondition};
 ghost use Rattle.nv_mirror.specs.declared.front.FrontControl.TheVariants as fronts;
 ghost use Rattle.nv_table.specs.state.Keys.{sizes_of};
@@ -70,13 +69,6 @@ impl<'a> FrontMachine<'a> {
             length: 0,
             control: FrontControl::Begin,
         }
-    }
-
-    /// A law: one that has made no step may begin on a pass that is between two calls.
-    pub fn begins(&self)
-        ensures { (start : PassState) → Fits start.view.opened.sizes self.now → self.now.control ≡ fronts.Begin → IsIdle start → IsUnderWay self.now start start }
-    {
-        let _ = self.held;
     }
 
     // The next step.

@@ -12,11 +12,12 @@ ghost use Rattle.nv_table.specs.state.States.{IsOf, PassState};
 ghost use Rattle.nv_table.specs.state.Views.{pass_of, values_of};
 ghost use Rattle.nv_table.specs.steps.CallSteps.{Precondition};
 ghost use Rattle.nv_table.specs.steps.StepContracts.{Postcondition};
+ghost use Rattle.nv_mirror.specs.LoadAnswers.{HasLoaded, HasRun};
 ghost use Rattle.nv_mirror.specs.Loads.{Fits, HasStepped, IsInCall, IsOpen, IsPlain, IsUnderWay, KeepsOthers, load_call_of, load_measure, values_fetched};
 ghost use Rattle.nv_mirror.specs.declared.load.LoadControl.TheVariants as loads;
 
 use crate::{LoadControl, LoadMachine};
-use nv_core::{cells_keep_their_shapes, held_pieces_fit, runs_are_sound};
+use nv_core::{cells_keep_their_shapes, held_pieces_fit, runs_are_sound, runs_keep_content};
 use nv_entry::RegionFault;
 use nv_op::{Op, Word, perform, perform_after};
 use nv_pages::{Piece, fill_page, patch, read_entry, read_store};
@@ -228,9 +229,9 @@ impl LoadMachine {
         self.control = LoadControl::Loaded;
     }
 
-    /// Makes the next step, behind the device call that lies before it, if one does. The bytes of the page lie in `room` from one advance to the next, as far
-    /// as the read has them; `piece` is room for the piece of an entry, and what it has then isn't said. Each has as many bytes as a page.
-    pub fn advance<L: Lines, B: Backing>(
+    // Makes the next step, behind the device call that lies before it, if one does.
+    #[inline(always)]
+    fn make_next<L: Lines, B: Backing>(
         &mut self,
         board: &Board<L, B>,
         pass: &mut Pass<L, B>,
@@ -254,5 +255,37 @@ impl LoadMachine {
             LoadControl::GiveCleanup => self.finish(board, pass, room),
             _ => self.step(board, pass),
         }
+    }
+
+    /// Makes the next step, behind the device call that lies before it, if one does. The bytes of the page lie in `room` from one advance to the next, as far
+    /// as the read has them; `piece` is room for the piece of an entry, and what it has then isn't said. Each has as many bytes as a page. Takes no memory, and
+    /// waits for nobody.
+    ///
+    /// Where the page is loaded its bytes, as its store has them with the pieces of its entries laid over them, lie in `room`: what the page is after the history.
+    /// It is refused as `Busy` where CLEANUP of the page or the lock of its store was found held, as `StoreFault` where the read of the store failed, and as
+    /// `RegionFault` where that of an entry did.
+    pub fn advance<L: Lines, B: Backing>(
+        &mut self,
+        board: &Board<L, B>,
+        pass: &mut Pass<L, B>,
+        room: &mut [u8],
+        piece: &mut [u8],
+    )
+        requires board { IsOf board.now pass.old }
+        requires open { IsOpen self.old.control }
+        requires room { length room.old ≡ pass.old.view.opened.sizes.page }
+        requires piece { length piece.old ≡ pass.old.view.opened.sizes.page }
+        requires way { (start : PassState) × IsUnderWay self.old room.old start pass.old }
+        ensures board { IsOf board.now pass.new }
+        ensures one { HasStepped self.old self.new pass.old pass.new }
+        ensures falls { load_measure self.new < load_measure self.old }
+        ensures others { KeepsOthers self.old pass.old pass.new }
+        ensures answer { (first : LoadMachine) (began : PassState) → HasRun first self.old began pass.old → HasRun first self.new began pass.new }
+        ensures loaded { self.new.control ≡ loads.Loaded → HasLoaded self.new.page room.new pass.new }
+        ensures way { (start : PassState) → IsUnderWay self.old room.old start pass.old → IsUnderWay self.new room.new start pass.new }
+    {
+        self.make_next(board, pass, room, piece);
+        runs_keep_content();
+        pass.sees_a_run();
     }
 }

@@ -5,7 +5,7 @@ ghost use Rattle.nv_core.specs.state.Passes.{is_read};
 ghost use Rattle.nv_table.specs.state.Keys.{sizes_of};
 ghost use Rattle.nv_table.specs.state.States.{PassState};
 ghost use Rattle.nv_mirror.specs.Fronts.{Fits as FitsFront, IsUnderWay as IsFrontUnderWay, front_call_of, size_in};
-ghost use Rattle.nv_mirror.specs.Loads.{IsUnderWay as IsLoadUnderWay, KeepsOthers};
+ghost use Rattle.nv_mirror.specs.Loads.{IsUnderWay as IsLoadUnderWay};
 ghost use Rattle.nv_mirror.specs.Visits.{Carries, Fits, IsLoadOf, IsUnderWay, load_of, page_piece, visit_asked, visit_call_of, visits_next};
 ghost use Rattle.nv_mirror.specs.declared.front.FrontControl.TheVariants as fronts;
 ghost use Rattle.nv_mirror.specs.declared.load.LoadControl.TheVariants as loads;
@@ -97,13 +97,6 @@ impl VisitMachine {
             head: 0,
             control: LoadControl::LoadDirty,
         }
-    }
-
-    /// A law: while its page is loaded, what is in front of its list stays right.
-    pub fn carries(&self)
-        ensures { (list : List ℕ) (load : LoadMachine) (old new : PassState) → IsLoadOf load self.now → KeepsOthers load old new → new.view.opened ≡ old.view.opened → Carries self.now list old → Carries self.now list new }
-    {
-        let _ = self.page;
     }
 
     /// Goes on at the next page, where its own is loaded: the page's bytes, which lie in a room for one, come to the list, as far as they belong to the reply.

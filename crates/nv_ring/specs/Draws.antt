@@ -14,8 +14,7 @@ use Rattle.nv_op.specs.declared.asked.Asked.{Asked}
 use Rattle.nv_mirror.specs.declared.answers.Refusal.{Refusal}
 use Rattle.nv_mirror.specs.declared.answers.Refusal.TheVariants.{Spent, Again, Raced}
 use Rattle.nv_mirror.specs.declared.front.FrontMachine.{FrontMachine}
-use Rattle.nv_mirror.specs.declared.front.FrontControl.TheVariants.{Passed}
-use Rattle.nv_mirror.specs.Fronts.{front_call_of as front_call, IsInCall as IsFront}
+use Rattle.nv_mirror.specs.Fronts.{front_call_of as front_call}
 use Rattle.nv_mirror.specs.PassSteps.{PassStep, head_in}
 use Rattle.nv_mirror.specs.Controls.{Drawing, drawings, InCall}
 use Rattle.nv_ring.specs.declared.append.AppendControl.{AppendControl}
@@ -155,16 +154,7 @@ pub record Behind (f : FrontMachine) (m : DrawMachine) : Type 0 where
   pub sized : m.sized ≡ f.sized
   pub length : m.length ≡ f.length
 
--- Such a draw goes on at HEAD where its front is over.
-abbrev pub GoesOnBehind : DrawMachine → Type 0
-GoesOnBehind m = (f : FrontMachine) (start now : PassState) → Behind f m → IsFront f Passed start now → IsInCall m draws.LoadHead start now
-
 -- ---- its answer
-
--- where its machine has come to
-abbrev pub HasEnded : DrawControl → Result ℕ Refusal → Type 0
-HasEnded control (Ok first) = control ≡ Drawn
-HasEnded control (Err refusal) = control ≡ Refused refusal
 
 -- a pass has made these steps one after another, the last of them first, each with what its word was found at
 abbrev pub HasFound : List (CoreOp × ℕ) → (was now : PassState) → Type 0
@@ -189,3 +179,15 @@ IsAnswer sizes pages (Err (Again head tail)) was now = HasNumbers pages head × 
 IsAnswer sizes pages (Err (Raced seen found)) was now =
     (tail : ℕ) × HasNumbers pages seen × HasRoom sizes pages seen tail × (seen < found) × HasFound ((DrawAtHead, found) ∷ (LoadWord TAIL, tail) ∷ (LoadWord HEAD, seen) ∷ []) was now
 IsAnswer sizes pages (Err refusal) was now = ⊥
+
+-- What a draw has found since it stood before its load of HEAD: as long as it goes on, HEAD that leaves enough numbers, and TAIL that leaves room; and at its end its answer.
+abbrev pub HasComeAt : Sizes → DrawMachine → DrawControl → (began now : PassState) → Type 0
+HasComeAt sizes m draws.LoadHead began now = now ≡ began
+HasComeAt sizes m draws.LoadTail began now = HasNumbers m.pages m.head × HasFound ((LoadWord HEAD, m.head) ∷ []) began now
+HasComeAt sizes m draws.DrawNumbers began now =
+    (tail : ℕ) × HasNumbers m.pages m.head × HasRoom sizes m.pages m.head tail × HasFound ((LoadWord TAIL, tail) ∷ (LoadWord HEAD, m.head) ∷ []) began now
+HasComeAt sizes m Drawn began now = IsAnswer sizes m.pages (Ok m.head) began now
+HasComeAt sizes m (Refused refusal) began now = IsAnswer sizes m.pages (Err refusal) began now
+
+abbrev pub HasCome : DrawMachine → (began now : PassState) → Type 0
+HasCome m began now = HasComeAt now.view.opened.sizes m m.control began now

@@ -9,5 +9,5 @@ mod ways;
 mod write;
 
 pub use append::{AppendControl, AppendMachine};
-pub use numbers::{DrawControl, DrawMachine, draw};
+pub use numbers::{DrawControl, DrawMachine};
 pub use write::RunningWrite;

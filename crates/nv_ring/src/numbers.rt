@@ -4,8 +4,7 @@ ghost use Rattle.nv_op.specs.Ops.{core_op_of};
 ghost use Rattle.nv_table.specs.state.Keys.{sizes_of};
 ghost use Rattle.nv_table.specs.state.States.{IsOf, PassState};
 ghost use Rattle.nv_table.specs.steps.StepContracts.{Postcondition};
-ghost use Rattle.nv_ring.specs.declared.numbers.DrawControl.TheVariants as draws;
-ghost use Rattle.nv_ring.specs.Draws.{Fits, GoesOnBehind, HasEnded, IsAnswer, IsOpen, IsUnderWay, control_then, draw_after, draw_measure, draw_op, noted};
+ghost use Rattle.nv_ring.specs.Draws.{Fits, HasCome, IsOpen, IsUnderWay, control_then, draw_after, draw_measure, draw_op, noted};
 
 use nv_core::{passes_are_left_alone, runs_are_sound};
 use nv_mirror::Refusal;
@@ -45,13 +44,6 @@ pub struct DrawMachine<'a> {
 }
 
 impl<'a> DrawMachine<'a> {
-    /// A law: it goes on where its front is over.
-    pub fn goes_on(&self)
-        ensures { GoesOnBehind self.now }
-    {
-        let _ = self.page;
-    }
-
     // The next step.
     fn next(self) -> Op
         ensures { result ≡ draw_op self.entry }
@@ -115,7 +107,10 @@ impl<'a> DrawMachine<'a> {
         }
     }
 
-    /// Makes the next step.
+    /// Makes the next step. Takes no memory, and waits for nobody.
+    ///
+    /// It draws its numbers by at most three steps, and is refused as `Spent` where HEAD leaves too few numbers, as `Again` where TAIL leaves no room for the
+    /// entries, and as `Raced` where another write moved HEAD between its load and the exchange. Nothing is drawn then.
     pub fn advance<L: Lines, B: Backing>(&mut self, board: &Board<L, B>, pass: &mut Pass<L, B>)
         requires board { IsOf board.now pass.old }
         requires open { IsOpen self.old.control }
@@ -124,47 +119,14 @@ impl<'a> DrawMachine<'a> {
         ensures one { (found : ℕ) × Postcondition pass.old None (core_op_of pass.old.view (draw_op self.old)) found pass.new
             × (self.new ≡ draw_after pass.old.view.opened.sizes self.old found) }
         ensures falls { draw_measure self.new < draw_measure self.old }
+        ensures answer { (began : PassState) → HasCome self.old began pass.old → HasCome self.new began pass.new }
         ensures way { (start : PassState) → IsUnderWay self.old start pass.old → IsUnderWay self.new start pass.new }
     {
+        runs_are_sound();
+        passes_are_left_alone();
+        pass.sees_a_run();
         let layout = board.layout();
         let found = perform(board, pass, None, self.next());
         *self = self.after(layout, found);
     }
-}
-
-/// Draws the numbers of a write whose front is over, by at most three steps, and tells the first of them.
-///
-/// # Errors
-///
-/// `Spent` where HEAD leaves too few numbers, `Again` where TAIL leaves no room for the entries, and `Raced` where another write moved HEAD between its load and the
-/// exchange. Nothing is drawn then.
-pub fn draw<L: Lines, B: Backing>(
-    board: &Board<L, B>,
-    pass: &mut Pass<L, B>,
-    machine: &mut DrawMachine<'_>,
-) -> Result<u64, Refusal>
-    requires board { IsOf board.now pass.old }
-    requires begins { machine.old.control ≡ draws.LoadHead }
-    requires way { (start : PassState) × IsUnderWay machine.old start pass.old }
-    ensures board { IsOf board.now pass.new }
-    ensures ends { HasEnded machine.new.control result }
-    ensures answer { IsAnswer pass.old.view.opened.sizes machine.old.pages result pass.old pass.new }
-    ensures way { (start : PassState) → IsUnderWay machine.old start pass.old → IsUnderWay machine.new start pass.new }
-{
-    runs_are_sound();
-    passes_are_left_alone();
-    pass.sees_a_run();
-    machine.advance(board, pass);
-    if let DrawControl::Refused(refusal) = machine.control {
-        return Err(refusal);
-    }
-    machine.advance(board, pass);
-    if let DrawControl::Refused(refusal) = machine.control {
-        return Err(refusal);
-    }
-    machine.advance(board, pass);
-    if let DrawControl::Refused(refusal) = machine.control {
-        return Err(refusal);
-    }
-    Ok(machine.head)
 }

@@ -10,7 +10,7 @@ ghost use Rattle.nv_ring.specs.Appends.{Fits as FitsAppend, IsUnderWay as IsAppe
 ghost use Rattle.nv_mirror.specs.Fronts.{Fits as FitsFront, IsUnderWay as IsFrontUnderWay, front_call_of};
 ghost use Rattle.nv_mirror.specs.Releases.{Fits as FitsRelease, IsUnderWay as IsReleaseUnderWay};
 ghost use Rattle.nv_ring.specs.declared.numbers.DrawControl.TheVariants as draws;
-ghost use Rattle.nv_ring.specs.Draws.{Fits as FitsDraw, IsUnderWay as IsDrawUnderWay, append_of, draw_asked};
+ghost use Rattle.nv_ring.specs.Draws.{Fits as FitsDraw, HasCome, IsUnderWay as IsDrawUnderWay, append_of, draw_asked};
 ghost use Rattle.nv_ring.specs.Ways.{IsRefused, IsRefusedDraw, refused_of, released_of};
 ghost use Rattle.nv_mirror.specs.declared.answers.Refusal.{Refusal};
 
@@ -38,6 +38,7 @@ impl<'a> DrawMachine<'a> {
           head = 0;
           control = draws.LoadHead;
         } }
+        ensures begins { (now : PassState) → HasCome result now now }
         ensures way { (start now : PassState) → IsFrontUnderWay front.entry start now → IsDrawUnderWay result start now }
     {
         // Only the clause speaks of it.

@@ -10,7 +10,9 @@ use Rattle.nv_table.specs.steps.StepContracts.{Postcondition}
 use Rattle.nv_op.specs.declared.op.Op.{Op}
 use Rattle.nv_op.specs.Ops.{Fits as OpFits, core_op_of}
 use Rattle.nv_ring.specs.declared.numbers.DrawMachine.{DrawMachine}
-use Rattle.nv_ring.specs.Draws.{IsUnderWay, draw_after, draw_measure}
+use Rattle.nv_ring.specs.Draws.{HasCome, HasComeAt, IsUnderWay, draw_after, draw_measure, draw_op}
+use Rattle.nv_mirror.proofs.StepLaws.{opened_same}
+use Rattle.nv_ring.proofs.AnswerLaws.{comes_on}
 use Rattle.nv_ring.proofs.DrawLaws.{draw_due, draw_fits, draw_less, draw_on}
 use Rattle.nv_ring.proofs.numbers.DrawMachine.advance.Goals as goal
 
@@ -54,3 +56,19 @@ returns-clause-way g c start way =
     subst (λ (next : DrawMachine). IsUnderWay next start new) (sym (c.after.ensures ∙ ap (λ (s : Sizes). draw_after s m found) same))
     (draw_on m start pass new found way.0 m.control way.0.stands c.requires.open way.1
     (subst (λ (op : Op). Postcondition pass None (core_op_of pass.view op) found new) c.next.ensures c.perform-found.ensures.stepped))
+
+pub returns-clause-answer : goal.returns-clause-answer
+returns-clause-answer g c began so =
+    let m = c.args.self.now in
+    let pass = c.args.pass.now in
+    let new = c.perform-found.new.pass in
+    let found = c.perform-found.result in
+    let start = c.requires.way.0 in
+    let way = c.requires.way.1 in
+    let same = c.layout-layout.ensures ∙ sym (ap (λ (o : Opened). o.sizes) c.requires.board.same_mount) in
+    let step = subst (λ (op : Op). Postcondition pass None (core_op_of pass.view op) found new) c.next.ensures c.perform-found.ensures.stepped in
+    let later = draw_on m start pass new found way.0 m.control way.0.stands c.requires.open way.1 step in
+    let comes = comes_on m began pass new found c.runs_are_sound.ensures.runs c.passes_are_left_alone.ensures.own c.sees_a_run.ensures.mount start m.control c.requires.open way.1 step later.1 so in
+    subst (λ (next : DrawMachine). HasCome next began new) (sym (c.after.ensures ∙ ap (λ (s : Sizes). draw_after s m found) same))
+    (subst (λ (o : Opened). HasComeAt o.sizes (draw_after pass.view.opened.sizes m found) (draw_after pass.view.opened.sizes m found).control began new)
+    (sym (opened_same pass new None (core_op_of pass.view (draw_op m)) found step)) comes)
