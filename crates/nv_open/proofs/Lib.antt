@@ -20,3 +20,4 @@ pub mod Stands
 pub mod GivenBack
 pub mod Partly
 pub mod PartlyBack
+pub mod Layers

@@ -61,12 +61,16 @@ told_both names more None = refl
 told_both names more (Some holding) =
     ap (λ (left : List NamedStore). with_parts holding.parts left) (sym (fold-append (λ left one. without_store one left) holding.stores names more))
 
+pub lent_both : (names more : List (List ℕ)) (old mid new : BenchState) → mid ≡ with_faults mid.faults (stores_lent names old) → new ≡ with_faults new.faults (stores_lent more mid)
+    → new ≡ with_faults new.faults (stores_lent (names ++ more) old)
+lent_both names more old mid new lent then =
+    then ∙ ap (λ (state : BenchState). with_faults new.faults (stores_lent more state)) lent
+    ∙ (λ i. record old { told = told_both names more old.told i; lent = append_assoc old.lent names more i; faults = new.faults })
+
 pub lent_more : (count all : ℕ) (old mid new : BenchState) → HasLent count old mid → HasLentMore count all mid new → HasLent all old new
 lent_more count all old mid new lent more = record {
   names = lent.names ++ more.names;
-  lent =
-      more.lent ∙ ap (λ (state : BenchState). with_faults new.faults (stores_lent more.names state)) lent.lent
-      ∙ (λ i. record old { told = told_both lent.names more.names old.told i; lent = append_assoc old.lent lent.names more.names i; faults = new.faults });
+  lent = lent_both lent.names more.names old mid new lent.lent more.lent;
   one_each = omega (arith, more.one_each, lent.one_each, length-append lent.names more.names);
 }
 

@@ -6,3 +6,4 @@ pub mod Adding
 pub mod Begun
 pub mod Looking
 pub mod Unopened
+pub mod Layers

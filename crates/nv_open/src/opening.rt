@@ -3,22 +3,22 @@ ghost use Rattle.std.specs.Prelude.{◌≡◌, ℕ, List, ◌+◌, ◌<◌, ◌+
 ghost use Rattle.nv_plain.specs.Faults.{saturated};
 ghost use Rattle.nv_plain.specs.Layouts.{version_1};
 ghost use Rattle.nv_pmem.specs.Moments.{Tells};
-ghost use Rattle.nv_pmem.specs.Rows.{RowTells, AreQuiet};
+ghost use Rattle.nv_pmem.specs.Rows.{RowTells};
 ghost use Rattle.nv_bench.specs.Benches.{with_faults};
 ghost use Rattle.nv_bench.specs.Holding.{IsQuietHolding};
 ghost use Rattle.nv_bench.specs.Opening.{is_blank, opened as opened_parts};
 ghost use Rattle.nv_store.specs.Store.{IsQuietStore};
 ghost use Rattle.nv_header.specs.Changes.{parts_after_format};
-ghost use Rattle.nv_header.specs.Laws.{HasSpare};
 ghost use Rattle.nv_header.specs.Needs.{HasLines};
 ghost use Rattle.nv_recover.specs.Telling.{AllTell};
-ghost use Rattle.nv_open.specs.Adding.{AreWanted, new_names, all_names};
-ghost use Rattle.nv_open.specs.Begun.{IsOpeningBegun, IsRegionOpened, IsNotOpened, files_behind};
+ghost use Rattle.nv_open.specs.Adding.{AreWanted, all_names};
+ghost use Rattle.nv_open.specs.Begun.{IsRegionOpened, IsNotOpened};
 ghost use Rattle.nv_open.specs.Causes.{ErrorHasCause, RegionHasCause};
-ghost use Rattle.nv_open.specs.Held.{HoldFiles, files_named, AreUnwritten, told_after};
-ghost use Rattle.nv_open.specs.Lending.{HasLent, HasLentMore, all_lent, stores_lent};
-ghost use Rattle.nv_open.specs.Refusals.{IsRefusedFor, rooms_of};
-ghost use Rattle.nv_open.specs.Unopened.{GivesBack, HasSome, InEachImage, IsAtRestWith, RestsUnopened, StandForFiles, StandsWithSome, TellsOf};
+ghost use Rattle.nv_open.specs.Held.{told_after};
+ghost use Rattle.nv_open.specs.Layers.{AreLentParts, HasAdded, HasNotAdded, IsBegunOpen, IsNotBegun, IsOpenedOpen, IsUnopened};
+ghost use Rattle.nv_open.specs.Lending.{HasLent, HasLentMore, all_lent};
+ghost use Rattle.nv_open.specs.Refusals.{rooms_of};
+ghost use Rattle.nv_open.specs.Unopened.{InEachImage, RestsUnopened, StandForFiles, StandsWithSome, TellsOf};
 ghost use Rattle.nv_open.specs.declared.error.OpenError.TheVariants as error;
 ghost use Rattle.nv_open.specs.declared.error.Refusal.TheVariants as refusal;
 
@@ -95,13 +95,8 @@ fn open_parts<T: Bench>(
     parts: Vec<T::Part>,
     stores: &mut Vec<T::Store>,
 ) -> Result<Region<T::Part>, (Vec<T::Part>, OpenError)>
-    requires open { (T.state bench.old).is_open ≡ true }
-    requires home { (T.state bench.old).lent ≡ [] }
+    requires given { AreLentParts T.Part.history T.Part.room (T.state bench.old) parts.items }
     requires none { stores.old.items ≡ [] }
-    requires spare { All HasSpare (map T.Part.room parts.items) }
-    requires quiet { RowTells (map T.Part.history parts.items) AreQuiet }
-    requires synced { IfSome (T.state bench.old).told (λ holding. All (λ named. IsQuietStore named.store) holding.stores) }
-    requires tell { IfSome (T.state bench.old).told (λ holding. AllTell (map T.Part.history parts.items)) }
     requires long { IfSome (T.state bench.old).told (λ holding. RowTells (map T.Part.history parts.items) (λ told.
         is_blank told ≡ true → HasLines version_1 geometry.page geometry.entries (rooms_of told))) }
     requires wanted { AreWanted version_1 wanted.now }
@@ -109,24 +104,10 @@ fn open_parts<T: Bench>(
     ensures cause { RegionHasCause (saturated ((T.state bench.old).faults + sum_by T.Part.fault_count parts.items))
         (saturated ((T.state bench.new).faults + (sum_by T.Part.fault_count (parts_after_format result) + sum_by T.Store.fault_count stores.new.items)))
         result }
-    ensures names { IfOk result (λ region. T.state bench.new
-        ≡ with_faults (T.state bench.new).faults (stores_lent region.names (T.state bench.old))) }
-    ensures one_each { IfOk result (λ region. length stores.new.items ≡ length region.names) }
-    ensures known { IfOk result (λ region. (known : List (List ℕ)) × (region.names ≡ all_names known wanted.now)) }
-    ensures opened { IfOk result (λ region. IfSome (T.state bench.old).told (λ holding. RowTells (map T.Part.history parts.items) (λ told.
-        IsRegionOpened (record { parts = told; stores = holding.stores }) geometry wanted.now region.geometry.page region.geometry.entries region.names region.next (map T.Store.history stores.new.items)))) }
-    ensures quiet { IfOk result (λ region. All (λ store. Tells (T.Store.history store) IsQuietStore) stores.new.items) }
-    ensures told { IfOk result (λ region. IfSome (T.state bench.old).told (λ holding. AllTell (map T.Part.history region.parts.items))) }
-    ensures many { IfOk result (λ region. length region.parts.items ≡ length parts.items) }
-    ensures refused { (why : _) → IfErr result (λ failed. failed.1 ≡ error.Refused why
-        → IfSome (T.state bench.old).told (λ holding. RowTells (map T.Part.history parts.items) (λ told. IsNotOpened told geometry wanted.now why))) }
-    ensures unwritten { (why : _) → IfErr result (λ failed. failed.1 ≡ error.Refused why → ¬ (why ≡ refusal.TooManyFiles)
-        → AreUnwritten T.Part.history T.Store.history why (T.state bench.old) (T.state bench.new) parts.items failed.0.items stores.new.items) }
-    ensures rests { IfErr result (λ failed. failed.1 ≡ error.Refused refusal.TooManyFiles
-        → IfSome (T.state bench.old).told (λ holding. RowTells (map T.Part.history parts.items) (λ told.
-        GivesBack T.Part.history T.Store.history (RestsUnopened (record { parts = told; stores = holding.stores }) geometry wanted.now) (T.state bench.new) failed.0.items stores.new.items))) }
-    ensures standing { IfErr result (λ failed. IfSome (T.state bench.old).told (λ holding. RowTells (map T.Part.history parts.items) (λ told. StandForFiles told
-        → GivesBack T.Part.history T.Store.history (InEachImage (StandsWithSome (record { parts = told; stores = holding.stores }) wanted.now)) (T.state bench.new) failed.0.items stores.new.items))) }
+    ensures opened { IfOk result (λ region. IsOpenedOpen T.Part.history T.Store.history (T.state bench.old) (T.state bench.new) parts.items stores.new.items
+        geometry wanted.now region.geometry.page region.geometry.entries region.names region.next region.parts.items) }
+    ensures given_up { IfErr result (λ failed. IsUnopened T.Part.history T.Store.history (T.state bench.old) (T.state bench.new) parts.items failed.0.items stores.new.items
+        geometry wanted.now failed.1) }
 {
     match begin(alloc, bench, geometry, parts, stores) {
         Ok(region) => add_wanted(alloc, bench, wanted, region, stores),
@@ -142,35 +123,17 @@ fn begin<T: Bench>(
     parts: Vec<T::Part>,
     stores: &mut Vec<T::Store>,
 ) -> Result<Region<T::Part>, (Vec<T::Part>, OpenError)>
-    requires open { (T.state bench.old).is_open ≡ true }
-    requires home { (T.state bench.old).lent ≡ [] }
+    requires given { AreLentParts T.Part.history T.Part.room (T.state bench.old) parts.items }
     requires none { stores.old.items ≡ [] }
-    requires spare { All HasSpare (map T.Part.room parts.items) }
-    requires quiet { RowTells (map T.Part.history parts.items) AreQuiet }
-    requires synced { IfSome (T.state bench.old).told (λ holding. All (λ named. IsQuietStore named.store) holding.stores) }
-    requires tell { IfSome (T.state bench.old).told (λ holding. AllTell (map T.Part.history parts.items)) }
     requires long { IfSome (T.state bench.old).told (λ holding. RowTells (map T.Part.history parts.items) (λ told.
         is_blank told ≡ true → HasLines version_1 geometry.page geometry.entries (rooms_of told))) }
     ensures lent { HasLent (length stores.new.items) (T.state bench.old) (T.state bench.new) }
     ensures cause { RegionHasCause (saturated ((T.state bench.old).faults + sum_by T.Part.fault_count parts.items))
         (saturated ((T.state bench.new).faults + (sum_by T.Part.fault_count (parts_after_format result) + sum_by T.Store.fault_count stores.new.items)))
         result }
-    ensures names { IfOk result (λ region. T.state bench.new
-        ≡ with_faults (T.state bench.new).faults (stores_lent region.names (T.state bench.old))) }
-    ensures one_each { IfOk result (λ region. length stores.new.items ≡ length region.names) }
-    ensures begun { IfOk result (λ region. RowTells (map T.Part.history parts.items) (λ told.
-        IsOpeningBegun told geometry region.geometry.page region.geometry.entries region.names region.next)) }
-    ensures files { IfOk result (λ region. IfSome (T.state bench.old).told (λ holding. RowTells (map T.Part.history parts.items) (λ told.
-        HoldFiles (map T.Store.history stores.new.items) (files_named told region.names holding.stores)))) }
-    ensures quiet { IfOk result (λ region. All (λ store. Tells (T.Store.history store) IsQuietStore) stores.new.items) }
-    ensures told { IfOk result (λ region. IfSome (T.state bench.old).told (λ holding. AllTell (map T.Part.history region.parts.items))) }
-    ensures many { IfOk result (λ region. length region.parts.items ≡ length parts.items) }
-    ensures refused { (why : _) → IfErr result (λ failed. failed.1 ≡ error.Refused why
-        → IfSome (T.state bench.old).told (λ holding. RowTells (map T.Part.history parts.items) (λ told. (is_blank told ≡ false) × IsRefusedFor told why))) }
-    ensures unwritten { (why : _) → IfErr result (λ failed. failed.1 ≡ error.Refused why
-        → AreUnwritten T.Part.history T.Store.history why (T.state bench.old) (T.state bench.new) parts.items failed.0.items stores.new.items) }
-    ensures standing { (wanted : List (List ℕ)) → IfErr result (λ failed. IfSome (T.state bench.old).told (λ holding. RowTells (map T.Part.history parts.items) (λ told. StandForFiles told
-        → GivesBack T.Part.history T.Store.history (InEachImage (StandsWithSome (record { parts = told; stores = holding.stores }) wanted)) (T.state bench.new) failed.0.items stores.new.items))) }
+    ensures begun { IfOk result (λ region. IsBegunOpen T.Part.history T.Store.history (T.state bench.old) (T.state bench.new) parts.items stores.new.items
+        geometry region.geometry.page region.geometry.entries region.names region.next region.parts.items) }
+    ensures given_up { IfErr result (λ failed. IsNotBegun T.Part.history T.Store.history (T.state bench.old) (T.state bench.new) parts.items failed.0.items stores.new.items failed.1) }
 {
     let mut parts = parts;
     images_follow_calls();
@@ -201,27 +164,10 @@ fn add_wanted<T: Bench>(
     ensures cause { RegionHasCause (saturated ((T.state bench.old).faults + (sum_by T.Part.fault_count region.parts.items + sum_by T.Store.fault_count stores.old.items)))
         (saturated ((T.state bench.new).faults + (sum_by T.Part.fault_count (parts_after_format result) + sum_by T.Store.fault_count stores.new.items)))
         result }
-    ensures names { IfOk result (λ added. added.names ≡ all_names region.names wanted.now) }
-    ensures more { IfOk result (λ added. T.state bench.new
-        ≡ with_faults (T.state bench.new).faults (stores_lent (new_names region.names wanted.now) (T.state bench.old))) }
-    ensures files { (files : _) → HoldFiles (map T.Store.history stores.old.items) files
-        → IfOk result (λ added. IfSome (T.state bench.old).told (λ holding. HoldFiles (map T.Store.history stores.new.items)
-        (files_behind files (new_names region.names wanted.now) holding.stores))) }
-    ensures geometry { IfOk result (λ added. added.geometry ≡ region.geometry) }
-    ensures next { IfOk result (λ added. added.next ≡ region.next) }
-    ensures quiet { All (λ store. Tells (T.Store.history store) IsQuietStore) stores.old.items
-        → IfOk result (λ added. All (λ store. Tells (T.Store.history store) IsQuietStore) stores.new.items) }
-    ensures tell { AllTell (map T.Part.history region.parts.items) → IfOk result (λ added. AllTell (map T.Part.history added.parts.items)) }
-    ensures many { IfOk result (λ added. length added.parts.items ≡ length region.parts.items) }
-    ensures refused { (why : _) → IfErr result (λ failed. failed.1 ≡ error.Refused why
-        → (why ≡ refusal.TooManyFiles) × (version_1.file_limit < length (all_names region.names wanted.now))) }
-    ensures rests { (files : _) → HoldFiles (map T.Store.history stores.old.items) files → IfErr result (λ failed. failed.1 ≡ error.Refused refusal.TooManyFiles
-        → IfSome (T.state bench.old).told (λ holding. AllTell (map T.Part.history region.parts.items)
-        → GivesBack T.Part.history T.Store.history (IsAtRestWith region.geometry.page region.geometry.entries region.names region.next files holding.stores)
-        (T.state bench.new) failed.0.items stores.new.items)) }
-    ensures standing { (files : _) → HoldFiles (map T.Store.history stores.old.items) files → IfErr result (λ failed. IfSome (T.state bench.old).told (λ holding. AllTell (map T.Part.history region.parts.items)
-        → GivesBack T.Part.history T.Store.history (InEachImage (HasSome (length region.names) (all_names region.names wanted.now) (files_behind files (new_names region.names wanted.now) holding.stores)))
-        (T.state bench.new) failed.0.items stores.new.items)) }
+    ensures added { IfOk result (λ added. HasAdded T.Part.history T.Store.history (T.state bench.old) (T.state bench.new) region.geometry added.geometry
+        region.names wanted.now added.names region.next added.next region.parts.items added.parts.items stores.old.items stores.new.items) }
+    ensures given_up { IfErr result (λ failed. HasNotAdded T.Part.history T.Store.history (T.state bench.old) (T.state bench.new) region.geometry.page region.geometry.entries
+        region.names wanted.now region.next region.parts.items failed.0.items stores.old.items stores.new.items failed.1) }
 {
     rows_have_states();
     let Ok(missing) = missing_names(alloc, region.names(), wanted) else {

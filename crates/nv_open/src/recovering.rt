@@ -2,18 +2,17 @@
 ghost use Rattle.std.specs.Prelude.{◌≡◌, ◌+◌, ◌++◌, [], false, true, length, map, sum_by, All, None, Err, IfOk, IfErr, IfSome};
 ghost use Rattle.nv_plain.specs.Faults.{saturated};
 ghost use Rattle.nv_pmem.specs.Moments.{Tells};
-ghost use Rattle.nv_pmem.specs.Rows.{RowTells, AreQuiet};
 ghost use Rattle.nv_bench.specs.Benches.{with_faults};
 ghost use Rattle.nv_bench.specs.Holding.{IsQuietHolding};
 ghost use Rattle.nv_store.specs.Store.{IsQuietStore};
-ghost use Rattle.nv_header.specs.Laws.{HasSpare};
 ghost use Rattle.nv_recover.specs.Answers.{answer_of, parts_after};
 ghost use Rattle.nv_recover.specs.Telling.{AllTell};
 ghost use Rattle.nv_open.specs.Causes.{ErrorHasCause, OpenHasCause};
-ghost use Rattle.nv_open.specs.Held.{HoldFiles, IsRecovered, files_named, AreUnwritten, told_after};
-ghost use Rattle.nv_open.specs.Lending.{HasLent, all_lent, stores_lent};
+ghost use Rattle.nv_open.specs.Held.{HoldFiles, IsRecovered, files_named, told_after};
+ghost use Rattle.nv_open.specs.Layers.{AreLentParts, IsNotRecovered, IsRecoveredOpen};
+ghost use Rattle.nv_open.specs.Lending.{HasLent, all_lent};
 ghost use Rattle.nv_open.specs.Refusals.{IsRefusedFor};
-ghost use Rattle.nv_open.specs.Unopened.{GivesBack, HasHeader, StandsAsBefore, TellsOf};
+ghost use Rattle.nv_open.specs.Unopened.{HasHeader, StandsAsBefore, TellsOf};
 ghost use Rattle.nv_open.specs.declared.error.OpenError.TheVariants as error;
 
 use crate::header::read_header;
@@ -80,41 +79,15 @@ pub(crate) fn recover_parts<T: Bench>(
     parts: Vec<T::Part>,
     stores: &mut Vec<T::Store>,
 ) -> Result<(Region<T::Part>, Recovered), (Vec<T::Part>, OpenError)>
-    requires open { (T.state bench.old).is_open ≡ true }
-    requires home { (T.state bench.old).lent ≡ [] }
+    requires given { AreLentParts T.Part.history T.Part.room (T.state bench.old) parts.items }
     requires none { stores.old.items ≡ [] }
-    requires spare { All HasSpare (map T.Part.room parts.items) }
-    requires quiet { RowTells (map T.Part.history parts.items) AreQuiet }
-    requires synced { IfSome (T.state bench.old).told (λ holding. All (λ named. IsQuietStore named.store) holding.stores) }
-    requires tell { IfSome (T.state bench.old).told (λ holding. AllTell (map T.Part.history parts.items)) }
-
-    // Whichever answer came.
     ensures lent { HasLent (length stores.new.items) (T.state bench.old) (T.state bench.new) }
     ensures cause { OpenHasCause (saturated ((T.state bench.old).faults + sum_by T.Part.fault_count parts.items))
         (saturated ((T.state bench.new).faults + (sum_by T.Part.fault_count (parts_after result) + sum_by T.Store.fault_count stores.new.items)))
         (answer_of result) }
-
-    // At `Ok`.
-    ensures names { IfOk result (λ done. T.state bench.new
-        ≡ with_faults (T.state bench.new).faults (stores_lent done.0.names (T.state bench.old))) }
-    ensures one_each { IfOk result (λ done. length stores.new.items ≡ length done.0.names) }
-    ensures recovered { IfOk result (λ done. RowTells (map T.Part.history parts.items) (λ told. IsRecovered told
-        done.0.geometry.page done.0.geometry.entries done.0.names done.0.next done.1)) }
-    ensures files { IfOk result (λ done. IfSome (T.state bench.old).told (λ holding. RowTells (map T.Part.history parts.items) (λ told.
-        HoldFiles (map T.Store.history stores.new.items) (files_named told done.0.names holding.stores)))) }
-    ensures quiet { IfOk result (λ done. All (λ store. Tells (T.Store.history store) IsQuietStore) stores.new.items) }
-    ensures told { IfOk result (λ done. IfSome (T.state bench.old).told (λ holding. AllTell (map T.Part.history done.0.parts.items))) }
-    ensures many { IfOk result (λ done. length done.0.parts.items ≡ length parts.items) }
-
-    // Where the region is refused.
-    ensures refused { (why : _) → answer_of result ≡ Err (error.Refused why)
-        → RowTells (map T.Part.history parts.items) (λ told. IsRefusedFor told why) }
-    ensures unwritten { (why : _) → answer_of result ≡ Err (error.Refused why)
-        → AreUnwritten T.Part.history T.Store.history why (T.state bench.old) (T.state bench.new) parts.items (parts_after result) stores.new.items }
-
-    // At each error whatever power leaves of it can take the place of what it held.
-    ensures standing { IfErr result (λ failed. IfSome (T.state bench.old).told (λ holding. RowTells (map T.Part.history parts.items) (λ told. HasHeader told
-        → GivesBack T.Part.history T.Store.history (StandsAsBefore (record { parts = told; stores = holding.stores })) (T.state bench.new) failed.0.items stores.new.items))) }
+    ensures recovered { IfOk result (λ done. IsRecoveredOpen T.Part.history T.Store.history (T.state bench.old) (T.state bench.new) parts.items stores.new.items
+        done.0.geometry.page done.0.geometry.entries done.0.names done.0.next done.0.parts.items done.1) }
+    ensures given_up { IfErr result (λ failed. IsNotRecovered T.Part.history T.Store.history (T.state bench.old) (T.state bench.new) parts.items failed.0.items stores.new.items failed.1) }
 {
     let mut parts = parts;
     let head = match read_header(alloc, &mut parts) {

@@ -1,15 +1,12 @@
-use Rattle.std.proofs.Common.{◌≡◌, All, ◌<◌, ◌++◌, ◌≤◌, ℕ, List, length, map, sym, ap, ◌∙◌, subst, arith, length-append}
+use Rattle.std.proofs.Common.{◌≡◌, All, ◌++◌, ◌≤◌, ℕ, List, length, map, sym, ap, ◌∙◌, subst, arith, length-append}
 use Rattle.std.specs.Prelude.{IfSome}
 use Rattle.nv_plain.specs.Layouts.{version_1}
-use Rattle.nv_bench.specs.Benches.{with_faults}
 use Rattle.nv_header.specs.FileNames.{AreFileNames}
 use Rattle.nv_open.specs.Adding.{new_names, all_names}
 use Rattle.nv_open.specs.Begun.{files_behind}
-use Rattle.nv_open.specs.Held.{HoldFiles}
-use Rattle.nv_open.specs.Lending.{stores_lent}
 use Rattle.nv_open.specs.declared.error.OpenError.TheVariants as error
 use Rattle.nv_open.specs.declared.error.Refusal.TheVariants.{TooManyFiles}
-use Rattle.nv_open.proofs.Additions.{if_ok_any, if_err_never, held_more}
+use Rattle.nv_open.proofs.Additions.{held_more}
 use Rattle.nv_open.proofs.NewNames.{all_are_names}
 use Rattle.std.proofs.lemmas.List.Elements.{All-append}
 use Rattle.nv_pmem.specs.Moments.{Tells}
@@ -23,6 +20,8 @@ use Rattle.nv_open.specs.Unopened.{GivesBack, HasFirstNames, HasSome, InEachImag
 use Rattle.nv_open.proofs.GivenBack.{if_err_each, rest_back}
 use Rattle.nv_open.proofs.Openings.{opened_none}
 use Rattle.nv_open.proofs.PartlyBack.{added_back, alone_are, rest_left, some_are}
+use Rattle.std.proofs.Common.{◌+◌}
+use Rattle.nv_open.proofs.Layers.{is_added, never_by_bench, never_by_memory, not_added}
 use Rattle.nv_open.proofs.opening.add_wanted.Goals as goal
 
 pub open_stores-requires-clause-names : goal.open_stores-requires-clause-names
@@ -46,99 +45,60 @@ add_names-requires g c =
     omega (arith, length-append known (new_names known wanted), ap length is, c.if-len-gt-FILE_LIMIT.false, c.len.ensures, c.len-2.ensures, ap length c.names-2.ensures) in
     subst (λ (these : List (List ℕ)). AreFileNames version_1 (known ++ these)) (sym is) (all_are_names known wanted c.args.region.is_region.names_are c.requires.wanted few)
 
-pub returns-clause-more : goal.returns-clause-more
-returns-clause-more g c =
-    let new = g.T.Bench.state c.open_stores.new.bench in
-    if_ok_any c.add_names.result (λ added.
-    subst (λ (these : List (List ℕ)). new ≡ with_faults new.faults (stores_lent these (g.T.Bench.state c.args.bench.now)))
-    (c.in-Ok.ensures ∙ ap (λ (these : List (List ℕ)). new_names these c.args.wanted.now) c.names.ensures) c.in_default-open_stores.ensures.opened.lent)
+pub returns-in_default-clause-lent : goal.returns-in_default-clause-lent
+returns-in_default-clause-lent g c =
+    let none = opened_none g.T.Store.Backing.history g.T.Store.Backing.fault_count (g.T.Bench.state c.args.bench.now) c.args.stores.now.items c.args.stores.now.items refl in
+    record { names = []; lent = none.lent; one_each = omega arith }
 
-pub returns-clause-files : goal.returns-clause-files
-returns-clause-files g c files holds =
-    let history = g.T.Store.Backing.history in
-    let told = (g.T.Bench.state c.args.bench.now).told in
+pub returns-then-len-gt-FILE_LIMIT-clause-lent : goal.returns-then-len-gt-FILE_LIMIT-clause-lent
+returns-then-len-gt-FILE_LIMIT-clause-lent g c =
+    let none = opened_none g.T.Store.Backing.history g.T.Store.Backing.fault_count (g.T.Bench.state c.args.bench.now) c.args.stores.now.items c.args.stores.now.items refl in
+    record { names = []; lent = none.lent; one_each = omega arith }
+
+pub returns-in-Err-clause-lent : goal.returns-in-Err-clause-lent
+returns-in-Err-clause-lent g c =
+    let begun = c.in-Err.ensures.begun in
+    let opened = begun.opened in
+    let before = c.args.stores.now.items in
+    record {
+      names = take begun.number c.in-Ok.missing;
+      lent = opened.lent;
+      one_each = ap length opened.behind ∙ length-append before opened.stores ∙ ap (λ (count : ℕ). length before + count) opened.count;
+    }
+
+pub returns-clause-lent : goal.returns-clause-lent
+returns-clause-lent g c =
     let opened = c.in_default-open_stores.ensures.opened in
-    let all = held_more history told c.in-Ok.missing c.args.stores.now.items c.open_stores.new.stores.items opened.stores files opened.behind holds c.requires.synced opened.told in
-    if_ok_any c.add_names.result (λ added.
-    subst (λ (these : List (List ℕ)). IfSome told (λ holding. HoldFiles (map history c.open_stores.new.stores.items) (files_behind files these holding.stores)))
-    (c.in-Ok.ensures ∙ ap (λ (these : List (List ℕ)). new_names these c.args.wanted.now) c.names.ensures) all)
+    let before = c.args.stores.now.items in
+    record { names = c.in-Ok.missing; lent = opened.lent; one_each = ap length opened.behind ∙ length-append before opened.stores ∙ ap (λ (count : ℕ). length before + count) opened.count }
 
-pub returns-clause-refused : goal.returns-clause-refused
-returns-clause-refused g c why =
-    if_err_never (λ failed. failed.1 ≡ error.Refused why) (λ failed. (why ≡ TooManyFiles) × (16 < length (all_names c.args.region.names c.args.wanted.now))) c.add_names.result
-    (c.add_names.ensures.never why)
-
-pub returns-clause-quiet : goal.returns-clause-quiet
-returns-clause-quiet g c = λ quiet.
-    let history = g.T.Store.Backing.history in
-    let opened = c.in_default-open_stores.ensures.opened in
-    let Quiet : List _ → Type 0 = λ stores. All (λ store. Tells (history store) IsQuietStore) stores in
-    if_ok_any c.add_names.result
-    (λ added. subst Quiet (sym opened.behind)
-    (All-append (λ store. Tells (history store) IsQuietStore) c.args.stores.now.items opened.stores quiet
-    (opened_quiet history (g.T.Bench.state c.args.bench.now).told c.in-Ok.missing opened.stores c.requires.synced opened.told opened.untold)))
-
-pub returns-in_default-clause-standing : goal.returns-in_default-clause-standing
-returns-in_default-clause-standing g c files holds =
-    let history = g.T.Part.Lines.history in
-    let store_history = g.T.Store.Backing.history in
-    let state = g.T.Bench.state c.args.bench.now in
-    let region = c.args.region in
-    let stores = c.args.stores.now.items in
-    let known = region.names in
-    let new = new_names known c.args.wanted.now in
-    let none = opened_none store_history g.T.Store.Backing.fault_count state stores stores refl in
-    let back = c.into_parts.result.items in
-    let row : List lines.PartHistory = map history region.parts.items in
-    let same : map history back ≡ row = ap (λ parts. map history parts.items) c.into_parts.ensures.parts in
-    added_back history store_history state state row back stores stores none.stores known c.args.wanted.now [] region.geometry.page region.geometry.entries region.next files (g.met.T.Bench.named c.args.bench.now) c.requires.names
-    (alone_are known region.is_region.names_are) c.requires.one_each holds c.requires.synced none.behind none.lent none.told
-    (λ tell. rest_left (map history back) region.geometry.page region.geometry.entries known new region.next c.rows_have_states.ensures.some (subst AllTell (sym same) tell) c.into_parts.ensures.region.tells)
-
-pub returns-then-len-gt-FILE_LIMIT-clause-standing : goal.returns-then-len-gt-FILE_LIMIT-clause-standing
-returns-then-len-gt-FILE_LIMIT-clause-standing g c files holds =
-    let history = g.T.Part.Lines.history in
-    let store_history = g.T.Store.Backing.history in
-    let state = g.T.Bench.state c.args.bench.now in
-    let region = c.args.region in
-    let stores = c.args.stores.now.items in
-    let known = region.names in
-    let new = new_names known c.args.wanted.now in
-    let none = opened_none store_history g.T.Store.Backing.fault_count state stores stores refl in
-    let back = c.into_parts-then-len-gt-FILE_LIMIT.result.items in
-    let row : List lines.PartHistory = map history region.parts.items in
-    let same : map history back ≡ row = ap (λ parts. map history parts.items) c.into_parts-then-len-gt-FILE_LIMIT.ensures.parts in
-    added_back history store_history state state row back stores stores none.stores known c.args.wanted.now [] region.geometry.page region.geometry.entries region.next files (g.met.T.Bench.named c.args.bench.now) c.requires.names
-    (alone_are known region.is_region.names_are) c.requires.one_each holds c.requires.synced none.behind none.lent none.told
-    (λ tell. rest_left (map history back) region.geometry.page region.geometry.entries known new region.next c.rows_have_states.ensures.some (subst AllTell (sym same) tell) c.into_parts-then-len-gt-FILE_LIMIT.ensures.region.tells)
-
-pub returns-in-Err-clause-standing : goal.returns-in-Err-clause-standing
-returns-in-Err-clause-standing g c files holds =
+pub returns-clause-added : goal.returns-clause-added
+returns-clause-added g c =
     let history = g.T.Part.Lines.history in
     let store_history = g.T.Store.Backing.history in
     let state = g.T.Bench.state c.args.bench.now in
     let region = c.args.region in
     let known = region.names in
     let wanted = c.args.wanted.now in
-    let new = new_names known wanted in
     let missing = c.in-Ok.missing in
-    let begun = c.in-Err.ensures.begun in
-    let opened = begun.opened in
-    let more = take begun.number missing in
-    let is : missing ≡ new = c.in-Ok.ensures ∙ ap (λ (these : List (List ℕ)). new_names these wanted) c.names.ensures in
-    let few : length (all_names known wanted) ≤ 16 =
-    omega (arith, length-append known new, ap length is, c.if-len-gt-FILE_LIMIT.false, c.len.ensures, c.len-2.ensures, ap length c.names-2.ensures) in
-    let all = all_are_names known wanted region.is_region.names_are c.requires.wanted few in
-    let back = c.into_parts-in-Err.result.items in
-    let row : List lines.PartHistory = map history region.parts.items in
-    let same : map history back ≡ row = ap (λ parts. map history parts.items) c.into_parts-in-Err.ensures.parts in
-    added_back history store_history state (g.T.Bench.state c.open_stores.new.bench) row back c.args.stores.now.items c.open_stores.new.stores.items opened.stores known wanted more region.geometry.page region.geometry.entries region.next files
-    (g.met.T.Bench.named c.args.bench.now) c.requires.names (some_are begun.number known missing (subst (λ (these : List (List ℕ)). AreFileNames version_1 (known ++ these)) (sym is) all)) c.requires.one_each holds c.requires.synced
-    opened.behind opened.lent opened.told
-    (λ tell. rest_left (map history back) region.geometry.page region.geometry.entries known new region.next c.rows_have_states.ensures.some (subst AllTell (sym same) tell) c.into_parts-in-Err.ensures.region.tells)
+    let before = c.args.stores.now.items in
+    let stores = c.open_stores.new.stores.items in
+    let opened = c.in_default-open_stores.ensures.opened in
+    let Quiet : List _ → Type 0 = λ stores. All (λ store. Tells (store_history store) IsQuietStore) stores in
+    let is : missing ≡ new_names known wanted = c.in-Ok.ensures ∙ ap (λ (these : List (List ℕ)). new_names these wanted) c.names.ensures in
+    is_added history store_history state (g.T.Bench.state c.open_stores.new.bench) region.parts.items stores c.add_names.result region.geometry known wanted missing region.next before is opened.lent
+    (λ files holds. held_more store_history state.told missing before stores opened.stores files opened.behind holds c.requires.synced opened.told)
+    (ap length opened.behind ∙ length-append before opened.stores ∙ ap (λ (count : ℕ). length before + count) opened.count)
+    (λ quiet.
+    subst Quiet (sym opened.behind)
+    (All-append (λ store. Tells (store_history store) IsQuietStore) before opened.stores quiet (opened_quiet store_history state.told missing opened.stores c.requires.synced opened.told opened.untold)))
+    c.add_names.ensures.geometry c.add_names.ensures.names c.add_names.ensures.next c.add_names.ensures.tell c.add_names.ensures.many
 
-pub returns-clause-standing : goal.returns-clause-standing
-returns-clause-standing g c files holds =
+pub returns-clause-given_up : goal.returns-clause-given_up
+returns-clause-given_up g c =
+    not_added g.T.Part.Lines.history g.T.Store.Backing.history (g.T.Bench.state c.args.bench.now) (g.T.Bench.state c.open_stores.new.bench) c.args.region.parts.items c.open_stores.new.stores.items c.add_names.result
+    c.args.region.geometry.page c.args.region.geometry.entries c.args.region.names c.args.wanted.now c.args.region.next c.args.stores.now.items c.add_names.ensures.never
+    (λ files holds.
     let history = g.T.Part.Lines.history in
     let store_history = g.T.Store.Backing.history in
     let state = g.T.Bench.state c.args.bench.now in
@@ -164,27 +124,91 @@ returns-clause-standing g c files holds =
     (g.met.T.Bench.named c.args.bench.now) c.requires.names (subst (λ (these : List (List ℕ)). AreFileNames version_1 (known ++ these)) (sym is) all) c.requires.one_each holds c.requires.synced
     opened.behind opened.lent opened.told
     (λ tell. subst (λ names. TellRow (InEachRowImage (HasFirstNames region.geometry.page region.geometry.entries known names region.next)) (map history failed.0.items)) is (left tell)))
-    (λ tell. c.add_names.ensures.left tell)
+    (λ tell. c.add_names.ensures.left tell))
 
-pub returns-then-len-gt-FILE_LIMIT-clause-rests : goal.returns-then-len-gt-FILE_LIMIT-clause-rests
-returns-then-len-gt-FILE_LIMIT-clause-rests g c files holds refused =
-    let history = g.T.Part.Lines.history in
-    let store_history = g.T.Store.Backing.history in
-    let state = g.T.Bench.state c.args.bench.now in
-    let region = c.args.region in
-    let stores = c.args.stores.now.items in
-    let back = c.into_parts-then-len-gt-FILE_LIMIT.result.items in
-    let At : List lines.PartHistory → Type 0 = λ row. IfSome state.told (λ holding. AllTell row → GivesBack history store_history (IsAtRestWith region.geometry.page region.geometry.entries region.names region.next files holding.stores) state back stores) in
-    subst At (ap (λ parts. map history parts.items) c.into_parts-then-len-gt-FILE_LIMIT.ensures.parts)
-    (rest_back history store_history state back stores region.geometry.page region.geometry.entries region.names region.next files c.rows_have_states.ensures.some c.requires.names holds c.into_parts-then-len-gt-FILE_LIMIT.ensures.region.tells)
+pub returns-in_default-clause-given_up : goal.returns-in_default-clause-given_up
+returns-in_default-clause-given_up g c = record {
+  refused = λ why is. never_by_memory why is;
+  rests = λ files holds is. never_by_memory TooManyFiles is;
+  standing = λ files holds.
+      let history = g.T.Part.Lines.history in
+      let store_history = g.T.Store.Backing.history in
+      let state = g.T.Bench.state c.args.bench.now in
+      let region = c.args.region in
+      let stores = c.args.stores.now.items in
+      let known = region.names in
+      let new = new_names known c.args.wanted.now in
+      let none = opened_none store_history g.T.Store.Backing.fault_count state stores stores refl in
+      let back = c.into_parts.result.items in
+      let row : List lines.PartHistory = map history region.parts.items in
+      let same : map history back ≡ row = ap (λ parts. map history parts.items) c.into_parts.ensures.parts in
+      added_back history store_history state state row back stores stores none.stores known c.args.wanted.now [] region.geometry.page region.geometry.entries region.next files (g.met.T.Bench.named c.args.bench.now) c.requires.names
+      (alone_are known region.is_region.names_are) c.requires.one_each holds c.requires.synced none.behind none.lent none.told
+      (λ tell. rest_left (map history back) region.geometry.page region.geometry.entries known new region.next c.rows_have_states.ensures.some (subst AllTell (sym same) tell) c.into_parts.ensures.region.tells);
+}
 
-pub returns-clause-rests : goal.returns-clause-rests
-returns-clause-rests g c files holds =
-    let history = g.T.Part.Lines.history in
-    let store_history = g.T.Store.Backing.history in
-    let region = c.args.region in
-    let then = g.T.Bench.state c.open_stores.new.bench in
-    if_err_never (λ failed. failed.1 ≡ error.Refused TooManyFiles)
-    (λ failed. IfSome (g.T.Bench.state c.args.bench.now).told (λ holding. AllTell (map history region.parts.items)
-    → GivesBack history store_history (IsAtRestWith region.geometry.page region.geometry.entries region.names region.next files holding.stores) then failed.0.items c.open_stores.new.stores.items)) c.add_names.result
-    (c.add_names.ensures.never TooManyFiles)
+pub returns-then-len-gt-FILE_LIMIT-clause-given_up : goal.returns-then-len-gt-FILE_LIMIT-clause-given_up
+returns-then-len-gt-FILE_LIMIT-clause-given_up g c = record {
+  refused = λ why same.
+      let known = c.args.region.names in
+      let wanted = c.args.wanted.now in
+      let missing = c.in-Ok.missing in
+      let is : missing ≡ new_names known wanted = c.in-Ok.ensures ∙ ap (λ (these : List (List ℕ)). new_names these wanted) c.names.ensures in (
+        (let both : error.Refused TooManyFiles ≡ error.Refused why = same in cc),
+        omega (arith, length-append known (new_names known wanted), ap length is, c.if-len-gt-FILE_LIMIT.true, c.len.ensures, c.len-2.ensures, ap length c.names-2.ensures),
+      );
+  rests = λ files holds refused.
+      let history = g.T.Part.Lines.history in
+      let store_history = g.T.Store.Backing.history in
+      let state = g.T.Bench.state c.args.bench.now in
+      let region = c.args.region in
+      let stores = c.args.stores.now.items in
+      let back = c.into_parts-then-len-gt-FILE_LIMIT.result.items in
+      let At : List lines.PartHistory → Type 0 = λ row. IfSome state.told (λ holding. AllTell row → GivesBack history store_history (IsAtRestWith region.geometry.page region.geometry.entries region.names region.next files holding.stores) state back stores) in
+      subst At (ap (λ parts. map history parts.items) c.into_parts-then-len-gt-FILE_LIMIT.ensures.parts)
+      (rest_back history store_history state back stores region.geometry.page region.geometry.entries region.names region.next files c.rows_have_states.ensures.some c.requires.names holds c.into_parts-then-len-gt-FILE_LIMIT.ensures.region.tells);
+  standing = λ files holds.
+      let history = g.T.Part.Lines.history in
+      let store_history = g.T.Store.Backing.history in
+      let state = g.T.Bench.state c.args.bench.now in
+      let region = c.args.region in
+      let stores = c.args.stores.now.items in
+      let known = region.names in
+      let new = new_names known c.args.wanted.now in
+      let none = opened_none store_history g.T.Store.Backing.fault_count state stores stores refl in
+      let back = c.into_parts-then-len-gt-FILE_LIMIT.result.items in
+      let row : List lines.PartHistory = map history region.parts.items in
+      let same : map history back ≡ row = ap (λ parts. map history parts.items) c.into_parts-then-len-gt-FILE_LIMIT.ensures.parts in
+      added_back history store_history state state row back stores stores none.stores known c.args.wanted.now [] region.geometry.page region.geometry.entries region.next files (g.met.T.Bench.named c.args.bench.now) c.requires.names
+      (alone_are known region.is_region.names_are) c.requires.one_each holds c.requires.synced none.behind none.lent none.told
+      (λ tell. rest_left (map history back) region.geometry.page region.geometry.entries known new region.next c.rows_have_states.ensures.some (subst AllTell (sym same) tell) c.into_parts-then-len-gt-FILE_LIMIT.ensures.region.tells);
+}
+
+pub returns-in-Err-clause-given_up : goal.returns-in-Err-clause-given_up
+returns-in-Err-clause-given_up g c = record {
+  refused = λ why is. never_by_bench why c.in-Err.error c.into.result c.into.ensures is;
+  rests = λ files holds is. never_by_bench TooManyFiles c.in-Err.error c.into.result c.into.ensures is;
+  standing = λ files holds.
+      let history = g.T.Part.Lines.history in
+      let store_history = g.T.Store.Backing.history in
+      let state = g.T.Bench.state c.args.bench.now in
+      let region = c.args.region in
+      let known = region.names in
+      let wanted = c.args.wanted.now in
+      let new = new_names known wanted in
+      let missing = c.in-Ok.missing in
+      let begun = c.in-Err.ensures.begun in
+      let opened = begun.opened in
+      let more = take begun.number missing in
+      let is : missing ≡ new = c.in-Ok.ensures ∙ ap (λ (these : List (List ℕ)). new_names these wanted) c.names.ensures in
+      let few : length (all_names known wanted) ≤ 16 =
+      omega (arith, length-append known new, ap length is, c.if-len-gt-FILE_LIMIT.false, c.len.ensures, c.len-2.ensures, ap length c.names-2.ensures) in
+      let all = all_are_names known wanted region.is_region.names_are c.requires.wanted few in
+      let back = c.into_parts-in-Err.result.items in
+      let row : List lines.PartHistory = map history region.parts.items in
+      let same : map history back ≡ row = ap (λ parts. map history parts.items) c.into_parts-in-Err.ensures.parts in
+      added_back history store_history state (g.T.Bench.state c.open_stores.new.bench) row back c.args.stores.now.items c.open_stores.new.stores.items opened.stores known wanted more region.geometry.page region.geometry.entries region.next files
+      (g.met.T.Bench.named c.args.bench.now) c.requires.names (some_are begun.number known missing (subst (λ (these : List (List ℕ)). AreFileNames version_1 (known ++ these)) (sym is) all)) c.requires.one_each holds c.requires.synced
+      opened.behind opened.lent opened.told
+      (λ tell. rest_left (map history back) region.geometry.page region.geometry.entries known new region.next c.rows_have_states.ensures.some (subst AllTell (sym same) tell) c.into_parts-in-Err.ensures.region.tells);
+}

@@ -2,16 +2,18 @@ use Rattle.std.proofs.Common.{◌≡◌, ◌∙◌, List, Some, Err, length, map
 use Rattle.std.proofs.lemmas.List.{length-map}
 use Rattle.nv_pmem.specs.Part.{Part}
 use Rattle.nv_pmem.specs.RowStates.{AreNow}
-use Rattle.nv_bench.specs.Holding.{Holding}
+use Rattle.nv_store.specs.Store.{IsQuietStore}
+use Rattle.nv_bench.specs.Benches.{BenchState}
+use Rattle.nv_bench.specs.Holding.{Holding, IsQuietHolding, NamedStore}
 use Rattle.nv_bench.specs.Opening.{opened}
 use Rattle.nv_open.specs.Begun.{IsRegionOpened, IsNotOpened}
 use Rattle.nv_open.proofs.HeadLaws.{error_is}
 use Rattle.nv_open.proofs.AsHeld.{given_long, given_kept, some_map, opened_before, not_opened_before}
 use Rattle.nv_open.proofs.LogLaws.{states_many}
-use Rattle.nv_open.proofs.Regions.{given_quiet, given_spare, given_tell, lent_told, quiet_parts, some_stores, still_untold, returned_told}
+use Rattle.nv_open.proofs.Regions.{given_quiet, given_spare, given_tell, lent_told, quiet_parts, some_stores, stores_after, still_untold, returned_told}
 use Rattle.nv_open.proofs.Sized.{quiet_opened}
 use Rattle.std.proofs.Common.{Option, [], ap}
-use Rattle.std.specs.Prelude.{option_map}
+use Rattle.std.specs.Prelude.{All, option_map}
 use Rattle.nv_pmem.specs.Rows.{RowTells}
 use Rattle.nv_pmem.specs.RowStates.{row_tells_at}
 use Rattle.nv_open.specs.Unopened.{GivesBack, InEachImage, RestsUnopened, StandForFiles, StandsWithSome, TellsOf}
@@ -19,23 +21,25 @@ use Rattle.nv_open.proofs.GivenBack.{at_some, if_err_any, if_some, told_so}
 use Rattle.nv_open.proofs.PartlyBack.{before_made, gives_more, made_stand, rests_before, still_left}
 use Rattle.nv_open.proofs.opening.open.Goals as goal
 
-pub open_parts-requires-clause-spare : goal.open_parts-requires-clause-spare
-open_parts-requires-clause-spare g c κs lives =
-    let told = (g.T.Bench.state c.args.bench.now).told in
-    given_spare g.T.Part.Lines.history g.T.Part.Lines.room c.in_ok-parts.parts.items told (λ (holding : Holding). opened (Some c.args.geometry) holding.parts) c.in_ok-parts.ensures.untold c.in_ok-parts.ensures.told
-    (quiet_opened c.images_follow_calls.ensures.blank c.args.geometry told (quiet_parts told c.requires.quiet)) c.in_ok-parts.ensures.fresh
-
-pub open_parts-requires-clause-quiet : goal.open_parts-requires-clause-quiet
-open_parts-requires-clause-quiet g c κs lives =
-    let told = (g.T.Bench.state c.args.bench.now).told in
-    given_quiet c.images_follow_calls.ensures.blank g.T.Part.Lines.history c.in_ok-parts.parts.items told (λ (holding : Holding). opened (Some c.args.geometry) holding.parts) c.in_ok-parts.ensures.untold c.in_ok-parts.ensures.told
-    (quiet_opened c.images_follow_calls.ensures.blank c.args.geometry told (quiet_parts told c.requires.quiet))
-
-pub open_parts-requires-clause-tell : goal.open_parts-requires-clause-tell
-open_parts-requires-clause-tell g c κs lives =
+pub open_parts-requires-clause-given : goal.open_parts-requires-clause-given
+open_parts-requires-clause-given g c κs lives =
+    let history = g.T.Part.Lines.history in
+    let parts = c.in_ok-parts.parts.items in
     let old = g.T.Bench.state c.args.bench.now in
     let mid = g.T.Bench.state c.open_region.new.self in
-    given_tell old.told mid.told (λ (holding : Holding). opened (Some c.args.geometry) holding.parts) _ (lent_told old mid c.in_ok-parts.ensures.lent) c.in_ok-parts.ensures.told
+    let given : Holding → List Part = λ holding. opened (Some c.args.geometry) holding.parts in
+    let lent = lent_told old mid c.in_ok-parts.ensures.lent in
+    let quiet = quiet_opened c.images_follow_calls.ensures.blank c.args.geometry old.told (quiet_parts old.told c.requires.quiet) in
+    record {
+      is_open = ap (λ (state : BenchState). state.is_open) c.in_ok-parts.ensures.lent;
+      home = ap (λ (state : BenchState). state.lent) c.in_ok-parts.ensures.lent ∙ c.requires.home;
+      spare = given_spare history g.T.Part.Lines.room parts old.told given c.in_ok-parts.ensures.untold c.in_ok-parts.ensures.told quiet c.in_ok-parts.ensures.fresh;
+      quiet = given_quiet c.images_follow_calls.ensures.blank history parts old.told given c.in_ok-parts.ensures.untold c.in_ok-parts.ensures.told quiet;
+      synced =
+          stores_after old.told mid.told (All (λ (named : NamedStore). IsQuietStore named.store)) lent
+          (some_map old.told IsQuietHolding (λ holding. All (λ (named : NamedStore). IsQuietStore named.store) holding.stores) (λ holding quiet. quiet.stores) c.requires.quiet);
+      tell = given_tell old.told mid.told given (map history parts) lent c.in_ok-parts.ensures.told;
+    }
 
 pub open_parts-requires-clause-long : goal.open_parts-requires-clause-long
 open_parts-requires-clause-long g c κs lives =
@@ -56,7 +60,7 @@ returns-in-Ok-clause-opened g c =
     (λ holding is. opened_before geometry holding wanted region.geometry.page region.geometry.entries region.names region.next row is)
     (some_stores old.told mid.told (λ (holding : Holding). opened (Some geometry) holding.parts) (map g.T.Part.Lines.history c.in_ok-parts.parts.items)
     (λ parts held. IsRegionOpened (record { parts = parts; stores = held }) geometry wanted region.geometry.page region.geometry.entries region.names region.next row) (lent_told old mid c.in_ok-parts.ensures.lent)
-    c.in_ok-parts.ensures.told c.in-Ok.ensures.opened)
+    c.in_ok-parts.ensures.told c.in-Ok.ensures.opened.opened)
 
 pub returns-in-Err-clause-refused : goal.returns-in-Err-clause-refused
 returns-in-Err-clause-refused g c why is =
@@ -67,7 +71,7 @@ returns-in-Err-clause-refused g c why is =
     some_map old.told (λ holding. IsNotOpened (opened (Some geometry) holding.parts) geometry wanted why) (λ holding. IsNotOpened holding.parts geometry wanted why)
     (λ holding not. not_opened_before geometry holding.parts wanted why not)
     (some_stores old.told mid.told (λ (holding : Holding). opened (Some geometry) holding.parts) (map g.T.Part.Lines.history c.in_ok-parts.parts.items)
-    (λ parts held. IsNotOpened parts geometry wanted why) (lent_told old mid c.in_ok-parts.ensures.lent) c.in_ok-parts.ensures.told (c.in-Err.ensures.refused why (error_is (Err c.in-Err.error) _ _ refl is)))
+    (λ parts held. IsNotOpened parts geometry wanted why) (lent_told old mid c.in_ok-parts.ensures.lent) c.in_ok-parts.ensures.told (c.in-Err.ensures.given_up.refused why (error_is (Err c.in-Err.error) _ _ refl is)))
 
 pub returns-in-Err-clause-unwritten : goal.returns-in-Err-clause-unwritten
 returns-in-Err-clause-unwritten g c why is other =
@@ -80,11 +84,11 @@ returns-in-Err-clause-unwritten g c why is other =
     let not = some_map old.told (λ holding. IsNotOpened (opened (Some geometry) holding.parts) geometry wanted why) (λ holding. IsNotOpened holding.parts geometry wanted why)
     (λ holding no. not_opened_before geometry holding.parts wanted why no)
     (some_stores old.told mid.told (λ (holding : Holding). opened (Some geometry) holding.parts) row
-    (λ parts held. IsNotOpened parts geometry wanted why) (lent_told old mid c.in_ok-parts.ensures.lent) c.in_ok-parts.ensures.told (c.in-Err.ensures.refused why same)) in
+    (λ parts held. IsNotOpened parts geometry wanted why) (lent_told old mid c.in_ok-parts.ensures.lent) c.in_ok-parts.ensures.told (c.in-Err.ensures.given_up.refused why same)) in
     returned_told g.T.Part.Lines.history g.T.Store.Backing.history why old mid (g.T.Bench.state c.open_parts.new.bench) (g.T.Bench.state c.give_back.new.self).told old.told
     c.in_ok-parts.parts.items c.in-Err.parts.items c.open_parts.new.stores.items c.in_ok-parts.ensures.lent c.requires.home refl
     (given_kept geometry old.told row wanted why other c.in_ok-parts.ensures.told not)
-    (c.in-Err.ensures.unwritten why same other) c.give_back.ensures.told
+    (c.in-Err.ensures.given_up.unwritten why same other) c.give_back.ensures.told
     (λ none. c.give_back.ensures.untold (still_untold (length c.open_parts.new.stores.items) old mid (g.T.Bench.state c.open_parts.new.bench) c.in_ok-parts.ensures.lent c.in-Err.ensures.lent none))
 
 pub returns-in-Ok-clause-many : goal.returns-in-Ok-clause-many
@@ -93,7 +97,7 @@ returns-in-Ok-clause-many g c =
     let parts = c.in_ok-parts.parts.items in
     let given : Holding → List Part = λ holding. opened (Some c.args.geometry) holding.parts in
     some_map (g.T.Bench.state c.args.bench.now).told (λ holding. AreNow (map history parts) (given holding)) (λ holding. length c.in-Ok.region.parts.items ≡ length (given holding))
-    (λ holding are. c.in-Ok.ensures.many ∙ sym (states_many (map history parts) (given holding) are ∙ length-map parts history)) c.in_ok-parts.ensures.told
+    (λ holding are. c.in-Ok.ensures.opened.devices.many ∙ sym (states_many (map history parts) (given holding) are ∙ length-map parts history)) c.in_ok-parts.ensures.told
 
 pub returns-in_err-parts-clause-standing : goal.returns-in_err-parts-clause-standing
 returns-in_err-parts-clause-standing g c =
@@ -125,7 +129,7 @@ returns-in-Err-clause-standing g c =
     let gives = row_tells_at (map history parts) (λ told. StandForFiles told → GivesBack history store_history (InEachImage (StandsWithSome (Of told) wanted)) new back stores) made
     (at_some old.told (λ holding. AreNow (map history parts) (opened (Some geometry) holding.parts)) was told c.in_ok-parts.ensures.told)
     (at_some mid.told (λ holding. RowTells (map history parts) (λ told. StandForFiles told → GivesBack history store_history (InEachImage (StandsWithSome (record { parts = told; stores = holding.stores }) wanted)) new back stores)) left mid_told
-    c.in-Err.ensures.standing) (made_stand geometry was.parts stand) in
+    c.in-Err.ensures.given_up.standing) (made_stand geometry was.parts stand) in
     told_so history store_history (InEachImage (StandsWithSome was wanted)) new back stores then
     (gives_more history store_history (InEachImage (StandsWithSome (Of made) wanted)) (InEachImage (StandsWithSome was wanted)) new back stores
     (λ holding each image bytes is are. before_made geometry was wanted image bytes (each image bytes is are)) gives)
@@ -153,7 +157,7 @@ returns-in-Err-clause-rests g c is =
     let gives = row_tells_at (map history parts) (λ told. GivesBack history store_history (Rests (Of told)) new back stores) made
     (at_some old.told (λ holding. AreNow (map history parts) (opened (Some geometry) holding.parts)) was told c.in_ok-parts.ensures.told)
     (at_some mid.told (λ holding. RowTells (map history parts) (λ told. GivesBack history store_history (Rests (record { parts = told; stores = holding.stores })) new back stores)) left mid_told
-    (c.in-Err.ensures.rests (error_is (Err c.in-Err.error) _ _ refl is))) in
+    (c.in-Err.ensures.given_up.rests (error_is (Err c.in-Err.error) _ _ refl is))) in
     told_so history store_history (Rests was) new back stores then
     (gives_more history store_history (Rests (Of made)) (Rests was) new back stores (λ holding rests. rests_before geometry was wanted holding rests) gives)
     c.give_back.ensures.told)

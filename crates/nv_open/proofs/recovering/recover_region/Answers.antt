@@ -1,15 +1,17 @@
 use Rattle.std.proofs.Common.{◌≡◌, ◌∙◌, Err, length, map, refl, sym, ap}
 use Rattle.std.proofs.lemmas.List.{length-map}
 use Rattle.nv_pmem.specs.RowStates.{AreNow}
-use Rattle.nv_bench.specs.Holding.{Holding}
+use Rattle.nv_store.specs.Store.{IsQuietStore}
+use Rattle.nv_bench.specs.Holding.{Holding, IsQuietHolding, NamedStore}
+use Rattle.nv_pmem.specs.Part.{Part}
 use Rattle.nv_open.specs.Held.{HoldFiles, IsRecovered, files_named}
 use Rattle.nv_open.specs.Refusals.{IsRefusedFor}
 use Rattle.nv_open.proofs.HeadLaws.{error_is}
 use Rattle.nv_open.proofs.AsHeld.{some_map}
 use Rattle.nv_open.proofs.LogLaws.{states_many}
-use Rattle.nv_open.proofs.Regions.{given_quiet, given_spare, given_tell, lent_told, quiet_parts, some_told, some_stores, still_untold, returned_told}
+use Rattle.nv_open.proofs.Regions.{given_quiet, given_spare, given_tell, lent_told, quiet_parts, some_told, some_stores, stores_after, still_untold, returned_told}
 use Rattle.std.proofs.Common.{Some, Option, List, []}
-use Rattle.std.specs.Prelude.{option_map, IfSome}
+use Rattle.std.specs.Prelude.{All, option_map}
 use Rattle.nv_bench.specs.Benches.{BenchState}
 use Rattle.nv_pmem.specs.Rows.{RowTells}
 use Rattle.nv_pmem.specs.RowStates.{row_tells_at}
@@ -17,29 +19,31 @@ use Rattle.nv_open.specs.Unopened.{HasHeader, GivesBack, StandsAsBefore, TellsOf
 use Rattle.nv_open.proofs.GivenBack.{at_some, if_err_any, if_some, still_stands, told_so}
 use Rattle.nv_open.proofs.recovering.recover_region.Goals as goal
 
-pub recover_parts-requires-clause-spare : goal.recover_parts-requires-clause-spare
-recover_parts-requires-clause-spare g c κs lives =
-    let told = (g.T.Bench.state c.args.bench.now).told in
-    given_spare g.T.Part.Lines.history g.T.Part.Lines.room c.in_ok-parts.parts.items told (λ (holding : Holding). holding.parts) c.in_ok-parts.ensures.untold c.in_ok-parts.ensures.told
-    (quiet_parts told c.requires.quiet) c.in_ok-parts.ensures.fresh
-
-pub recover_parts-requires-clause-quiet : goal.recover_parts-requires-clause-quiet
-recover_parts-requires-clause-quiet g c κs lives =
-    let told = (g.T.Bench.state c.args.bench.now).told in
-    given_quiet c.images_follow_calls.ensures.blank g.T.Part.Lines.history c.in_ok-parts.parts.items told (λ (holding : Holding). holding.parts) c.in_ok-parts.ensures.untold c.in_ok-parts.ensures.told
-    (quiet_parts told c.requires.quiet)
-
-pub recover_parts-requires-clause-tell : goal.recover_parts-requires-clause-tell
-recover_parts-requires-clause-tell g c κs lives =
+pub recover_parts-requires-clause-given : goal.recover_parts-requires-clause-given
+recover_parts-requires-clause-given g c κs lives =
+    let history = g.T.Part.Lines.history in
+    let parts = c.in_ok-parts.parts.items in
     let old = g.T.Bench.state c.args.bench.now in
     let mid = g.T.Bench.state c.open_region.new.self in
-    given_tell old.told mid.told (λ (holding : Holding). holding.parts) _ (lent_told old mid c.in_ok-parts.ensures.lent) c.in_ok-parts.ensures.told
+    let given : Holding → List Part = λ holding. holding.parts in
+    let lent = lent_told old mid c.in_ok-parts.ensures.lent in
+    let quiet = quiet_parts old.told c.requires.quiet in
+    record {
+      is_open = ap (λ (state : BenchState). state.is_open) c.in_ok-parts.ensures.lent;
+      home = ap (λ (state : BenchState). state.lent) c.in_ok-parts.ensures.lent ∙ c.requires.home;
+      spare = given_spare history g.T.Part.Lines.room parts old.told given c.in_ok-parts.ensures.untold c.in_ok-parts.ensures.told quiet c.in_ok-parts.ensures.fresh;
+      quiet = given_quiet c.images_follow_calls.ensures.blank history parts old.told given c.in_ok-parts.ensures.untold c.in_ok-parts.ensures.told quiet;
+      synced =
+          stores_after old.told mid.told (All (λ (named : NamedStore). IsQuietStore named.store)) lent
+          (some_map old.told IsQuietHolding (λ holding. All (λ (named : NamedStore). IsQuietStore named.store) holding.stores) (λ holding quiet. quiet.stores) c.requires.quiet);
+      tell = given_tell old.told mid.told given (map history parts) lent c.in_ok-parts.ensures.told;
+    }
 
 pub returns-in-Ok-clause-recovered : goal.returns-in-Ok-clause-recovered
 returns-in-Ok-clause-recovered g c =
     let region = c.in-Ok.region in
     some_told (g.T.Bench.state c.args.bench.now).told (λ (holding : Holding). holding.parts) (map g.T.Part.Lines.history c.in_ok-parts.parts.items)
-    (λ told. IsRecovered told region.geometry.page region.geometry.entries region.names region.next c.in-Ok.found) c.in_ok-parts.ensures.told c.in-Ok.ensures.recovered
+    (λ told. IsRecovered told region.geometry.page region.geometry.entries region.names region.next c.in-Ok.found) c.in_ok-parts.ensures.told c.in-Ok.ensures.recovered.recovered
 
 pub returns-in-Ok-clause-files : goal.returns-in-Ok-clause-files
 returns-in-Ok-clause-files g c =
@@ -47,12 +51,12 @@ returns-in-Ok-clause-files g c =
     let mid = g.T.Bench.state c.open_region.new.self in
     some_stores old.told mid.told (λ (holding : Holding). holding.parts) (map g.T.Part.Lines.history c.in_ok-parts.parts.items)
     (λ told held. HoldFiles (map g.T.Store.Backing.history c.recover_parts.new.stores.items) (files_named told c.in-Ok.region.names held)) (lent_told old mid c.in_ok-parts.ensures.lent)
-    c.in_ok-parts.ensures.told c.in-Ok.ensures.files
+    c.in_ok-parts.ensures.told c.in-Ok.ensures.recovered.files
 
 pub returns-in-Err-clause-refused : goal.returns-in-Err-clause-refused
 returns-in-Err-clause-refused g c why is =
     some_told (g.T.Bench.state c.args.bench.now).told (λ (holding : Holding). holding.parts) (map g.T.Part.Lines.history c.in_ok-parts.parts.items) (λ told. IsRefusedFor told why)
-    c.in_ok-parts.ensures.told (c.in-Err.ensures.refused why (ap Err (error_is (Err c.in-Err.error) _ _ refl is)))
+    c.in_ok-parts.ensures.told (c.in-Err.ensures.given_up.refused why (error_is (Err c.in-Err.error) _ _ refl is))
 
 pub returns-in-Err-clause-unwritten : goal.returns-in-Err-clause-unwritten
 returns-in-Err-clause-unwritten g c why is =
@@ -60,7 +64,7 @@ returns-in-Err-clause-unwritten g c why is =
     let mid = g.T.Bench.state c.open_region.new.self in
     returned_told g.T.Part.Lines.history g.T.Store.Backing.history why old mid (g.T.Bench.state c.recover_parts.new.bench) (g.T.Bench.state c.give_back.new.self).told old.told
     c.in_ok-parts.parts.items c.in-Err.parts.items c.recover_parts.new.stores.items c.in_ok-parts.ensures.lent c.requires.home refl c.in_ok-parts.ensures.told
-    (c.in-Err.ensures.unwritten why (ap Err (error_is (Err c.in-Err.error) _ _ refl is))) c.give_back.ensures.told
+    (c.in-Err.ensures.given_up.unwritten why (error_is (Err c.in-Err.error) _ _ refl is)) c.give_back.ensures.told
     (λ none. c.give_back.ensures.untold (still_untold (length c.recover_parts.new.stores.items) old mid (g.T.Bench.state c.recover_parts.new.bench) c.in_ok-parts.ensures.lent c.in-Err.ensures.lent none))
 
 pub returns-in-Ok-clause-many : goal.returns-in-Ok-clause-many
@@ -68,7 +72,7 @@ returns-in-Ok-clause-many g c =
     let history = g.T.Part.Lines.history in
     let parts = c.in_ok-parts.parts.items in
     some_map (g.T.Bench.state c.args.bench.now).told (λ holding. AreNow (map history parts) holding.parts) (λ holding. length c.in-Ok.region.parts.items ≡ length holding.parts)
-    (λ holding are. c.in-Ok.ensures.many ∙ sym (states_many (map history parts) holding.parts are ∙ length-map parts history)) c.in_ok-parts.ensures.told
+    (λ holding are. c.in-Ok.ensures.recovered.devices.many ∙ sym (states_many (map history parts) holding.parts are ∙ length-map parts history)) c.in_ok-parts.ensures.told
 
 pub returns-in_err-parts-clause-standing : goal.returns-in_err-parts-clause-standing
 returns-in_err-parts-clause-standing g c =
@@ -92,5 +96,5 @@ returns-in-Err-clause-standing g c =
     let Gives : Holding → Type 0 = λ was. GivesBack history store_history (StandsAsBefore was) new c.in-Err.parts.items c.recover_parts.new.stores.items in
     told_so history store_history (StandsAsBefore was) new c.in-Err.parts.items c.recover_parts.new.stores.items then
     (row_tells_at (map history parts) (λ told. HasHeader told → Gives (record { parts = told; stores = was.stores })) was.parts (at_some old.told (λ holding. AreNow (map history parts) holding.parts) was told c.in_ok-parts.ensures.told)
-    (at_some mid.told (λ holding. RowTells (map history parts) (λ told. HasHeader told → Gives (record { parts = told; stores = holding.stores }))) left mid_told c.in-Err.ensures.standing) readable)
+    (at_some mid.told (λ holding. RowTells (map history parts) (λ told. HasHeader told → Gives (record { parts = told; stores = holding.stores }))) left mid_told c.in-Err.ensures.given_up.standing) readable)
     c.give_back.ensures.told)
