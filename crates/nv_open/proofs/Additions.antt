@@ -1,8 +1,8 @@
--- Stores that are opened behind others, and what an addition answers.
+-- Stores that are opened behind others.
 use Rattle.std.proofs.Common.{◌≡◌, ℕ, List, [], ◌∷◌, ◌++◌, map, sym, ap, ◌∙◌, subst}
 use Rattle.std.proofs.lemmas.List.{map-append}
 use Rattle.std.proofs.lemmas.List.Elements.{All-append}
-use Rattle.std.specs.Prelude.{All, Option, Some, None, IfSome, Result, Ok, Err, IfOk, IfErr}
+use Rattle.std.specs.Prelude.{All, Option, Some, None, IfSome}
 use Rattle.nv_plain.specs.Files.{Files}
 use Rattle.nv_pmem.specs.RowStates.{AreNow}
 use Rattle.nv_store.specs.Steps.{StoreHistory}
@@ -12,14 +12,6 @@ use Rattle.nv_open.specs.Begun.{files_behind}
 use Rattle.nv_open.specs.Held.{HoldFiles}
 use Rattle.nv_open.specs.Lending.{stores_named}
 use Rattle.nv_open.proofs.Returns.{named_quiet}
-
-pub if_ok_any : {T E : Type 0} {P : T → Type 0} (result : Result T E) → ((value : T) → P value) → IfOk result P
-if_ok_any (Ok value) each = each value
-if_ok_any (Err error) each = tt
-
-pub if_err_never : {T E : Type 0} (P Q : E → Type 0) (result : Result T E) → IfErr result (λ failed. ¬ (P failed)) → IfErr result (λ failed. P failed → Q failed)
-if_err_never P Q (Ok value) never = tt
-if_err_never P Q (Err error) never = λ is. absurd (never is)
 
 pub are_now_append : {S : Type 0} (row more : List (List S)) (states others : List S) → AreNow row states → AreNow more others → AreNow (row ++ more) (states ++ others)
 are_now_append [] more [] others are those = those

@@ -1,6 +1,6 @@
 -- How an opening begins: with a blank region, or with one that is recovered.
 use Rattle.std.proofs.Common.{◌≡◌, ℕ, Bool, true, false, cond, List, [], map, sym, ap, ◌∙◌, subst, arith}
-use Rattle.std.specs.Prelude.{Option, Some, None, IfSome, Result, Ok, Err, IfOk, IfErr}
+use Rattle.std.specs.Prelude.{Option, Some, None, IfSome, Result, Ok, Err, IfErr}
 use Rattle.nv_plain.specs.Layouts.{version_1}
 use Rattle.nv_plain.specs.Recovered.{recovered}
 use Rattle.nv_pmem.specs.Laws.{QuietPartHasOneImage}
@@ -24,10 +24,6 @@ use Rattle.nv_open.specs.Refusals.{rooms_of, IsRefusedFor, IsBadHeader}
 use Rattle.nv_open.specs.declared.error.Refusal.{Refusal}
 use Rattle.nv_open.proofs.BlankLaws.{blank_row}
 use Rattle.nv_open.proofs.Returns.{HasOpened, has_opened, names_of_header}
-
-pub if_ok_map : {T E : Type 0} (P Q : T → Type 0) (result : Result T E) → ((value : T) → P value → Q value) → IfOk result P → IfOk result Q
-if_ok_map P Q (Ok value) step has = step value has
-if_ok_map P Q (Err error) step has = tt
 
 pub if_some_map : {P Q : Type 0} (told : Option Holding) → IfSome told (λ holding. P) → (P → Q) → IfSome told (λ holding. Q)
 if_some_map None has step = tt
