@@ -12,7 +12,7 @@ use Rattle.nv_load.specs.Generated.{IsLoad, generated}
 use Rattle.nv_load.specs.Summaries.{FreshSummariesAreOfTheLoad, bytes_of, fresh_basis}
 use Rattle.nv_load.specs.declared.load.Load.{Load}
 use Rattle.nv_top.specs.Commands.{HasRunOn, IsBasis}
-use Rattle.nv_top.specs.Loads.{HasGenerated, IsFreshFor, load_options}
+use Rattle.nv_top.specs.Loads.{HasGenerated, IsFreshFor, NewBenchesAreFresh, load_options}
 use Rattle.nv_top.specs.Shows.{summary_text}
 use Rattle.nv_top.specs.declared.show.Show.TheVariants.{Summary}
 
@@ -36,6 +36,10 @@ file_at name (one ∷ names) (bytes ∷ contents) many =
 
 abbrev wanted : List (List ℕ)
 wanted = codes "g" ∷ []
+
+-- one that has no store is fresh over a blank region
+pub new_benches_fresh : NewBenchesAreFresh
+new_benches_fresh name parts blank = record { blank = blank; empty = refl }
 
 -- the files of a fresh bench are one, and empty
 fresh_files : (holding : Holding) (known : List (List ℕ)) → IsFreshFor (codes "g") holding → known ≡ [] → files_with holding.parts known wanted holding.stores ≡ record { contents = [] ∷ [] }

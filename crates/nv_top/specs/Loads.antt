@@ -1,6 +1,7 @@
 -- Loads: how generated calls are run, and what is shown of them.
 use Rattle.std.specs.Prelude.{◌≡◌, ℕ, true, List, [], Option, None, codes}
 use Rattle.nv_pmem.specs.declared.picker.Pick.TheVariants.{Old}
+use Rattle.nv_pmem.specs.Part.{Part}
 use Rattle.nv_bench.specs.Holding.{Holding, store_of}
 use Rattle.nv_bench.specs.Opening.{is_blank}
 use Rattle.nv_load.specs.Generated.{generated}
@@ -19,6 +20,10 @@ load_options = record { page = 64; entries = 16; cache = 8; batch = 4; pages = 9
 pub record IsFreshFor (name : List ℕ) (holding : Holding) : Type 0 where
   pub blank : is_blank holding.parts ≡ true
   pub empty : (store_of name holding.stores).seen ≡ []
+
+-- A bench that has no store yet is fresh for each name, where its region is blank.
+abbrev pub NewBenchesAreFresh : Type 0
+NewBenchesAreFresh = (name : List ℕ) (parts : List Part) → is_blank parts ≡ true → IsFreshFor name (record { parts = parts; stores = [] })
 
 -- The text is the summary of a faithful report of a run of the generated calls. Where the bench was fresh it is that of the load alone.
 pub record HasGenerated (load : Load) (holding : Holding) (told : Option Holding) (text : List ℕ) : Type 0 where

@@ -3,9 +3,10 @@ ghost use Rattle.std.specs.Prelude.{[]};
 ghost use Rattle.nv_trace.specs.declared.trace.Form.TheVariants as forms;
 ghost use Rattle.nv_top.specs.Endings.{IsTrace};
 ghost use Rattle.nv_top.specs.Headline.{PlainIsUnhindered, ShownIsNotRefused};
-ghost use Rattle.nv_top.specs.Said.{StatusesTellWhatCame};
+ghost use Rattle.nv_top.specs.Loads.{NewBenchesAreFresh};
 ghost use Rattle.nv_top.specs.NextCommands.{NextBeginsBehind, NextBeginsBehindRecovery, NextBeginsBehindSchedule, NextBeginsBehindStop, NextFindsLooked, NextFindsRecovered, NextFindsRun, NextFindsScheduled, NextFindsShown, NextFindsStopped, NextIsReady, RunsHaveOneHistory};
 ghost use Rattle.nv_top.specs.Readings.{OneNumber, OneReading, OneRecoveryReading};
+ghost use Rattle.nv_top.specs.Said.{StatusesTellWhatCame};
 
 use nv_header::a_header_has_one_answer;
 use nv_recover::images_stand_for_files;
@@ -58,8 +59,10 @@ pub fn statuses_tell_what_came()
 {}
 
 /// A plain command is one that [`nv_main`](crate::nv_main) follows to its end, by `complete` of its outcome, unless memory is wanting: a
-/// run of any trace of a few files over a blank region, by which no count of faults rose. The empty input is such a trace.
+/// run of any trace of a few files over a blank region, by which no count of faults rose. The empty input is such a trace. And a load of
+/// generated calls over a blank region with no store yet is told by its summary alone, since such a bench is fresh.
 pub fn a_plain_command_is_unhindered()
     ensures plain { PlainIsUnhindered }
     ensures empty { IsTrace forms.Run [] }
+    ensures fresh { NewBenchesAreFresh }
 {}
