@@ -297,7 +297,7 @@ def crash():
         24,
         430,
         (
-            "A line holds any one of the contents that it had since the last durable one, whichever the others hold. A follower's",
+            "Each word holds any one of the values that it had since the last durable one, whichever the others hold. A follower's",
             "commit word is never stored: the leader's alone makes the group count, so there is no moment with a part of it.",
         ),
         step=18,
