@@ -27,11 +27,11 @@ abbrev pub opened : Option Geometry → List Part → List Part
 opened None parts = parts
 opened (Some geometry) parts = if is_blank parts then sized version_1 geometry parts else parts
 
--- each line can take 15 contents
+-- each line can take 15 stores
 pub record IsFresh (room : Room) : Type 0 where
   pub spare : (line : ℕ) → line < room.lines → 15 ≤ room.spare line
 
--- A part as a bench opens it: where it is quiet, or doesn't tell, each line can take 15 contents.
+-- A part as a bench opens it: where it is quiet, or doesn't tell, each line can take 15 stores.
 abbrev pub IsFreshWhereQuiet : PartHistory → Room → Type 0
 IsFreshWhereQuiet [] room = IsFresh room
 IsFreshWhereQuiet (now ∷ past) room = IsQuietPart now → IsFresh room

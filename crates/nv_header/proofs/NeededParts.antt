@@ -9,7 +9,7 @@ use Rattle.nv_header.specs.Laws.{HasSpare, LinesMakeParts}
 use Rattle.nv_header.specs.Needs.{HasLines}
 use Rattle.nv_header.specs.Regions.{part_lines, IsRoomy}
 
--- a part with its lines, each of which can take 15 contents
+-- a part with its lines, each of which can take 15 stores
 roomy : (lines : ℕ) (room : Room) → lines ≤ room.lines → HasSpare room → IsRoomy lines room
 roomy lines room enough spare = record { there = enough; spare = λ line below. spare line (omega arith) }
 

@@ -31,7 +31,7 @@ EmptyLogRecoversNothing =
 
 -- ---- the parts that a region needs
 
--- each line of a part can take 15 contents
+-- each line of a part can take 15 stores
 abbrev pub HasSpare : Room → Type 0
 HasSpare room = (line : ℕ) → line < room.lines → 15 ≤ room.spare line
 

@@ -21,12 +21,12 @@ abbrev pub part_lines : Layout → (page i : ℕ) → ℕ
 part_lines layout page zero = layout.header_lines
 part_lines layout page (suc i) = entry_lines page
 
--- so many lines are there, and each of them can take 15 contents
+-- so many lines are there, and each of them can take 15 stores
 pub record IsRoomy (lines : ℕ) (room : Room) : Type 0 where
   pub there : lines ≤ room.lines
   pub spare : (line : ℕ) → line < lines → 15 ≤ room.spare line
 
--- a line that could take 15 contents still can, and there are as many lines
+-- a line that could take 15 stores still can, and there are as many lines
 pub record StaysRoomy (old new : Room) : Type 0 where
   pub lines_are : new.lines ≡ old.lines
   pub spare : (line : ℕ) → 15 ≤ old.spare line → 15 ≤ new.spare line

@@ -17,7 +17,7 @@ pub fn an_empty_region_stands_for_its_stores()
     ensures recovered { EmptyLogRecoversNothing }
 {}
 
-/// Parts that pass [`check_lines`](crate::check_lines), with room for 15 contents in each line, are those of a region.
+/// Parts that pass [`check_lines`](crate::check_lines), with room for 15 stores in each line, are those of a region.
 pub fn needed_lines_make_parts()
     ensures { LinesMakeParts }
 {}

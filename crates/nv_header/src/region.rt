@@ -8,7 +8,7 @@ use nv_pmem::{Geometry, Lines};
 
 /// The parts of a region whose log is empty: part 0 is the header, and part 1 + i the slot of each entry whose number
 /// is i modulo the number of entries. There may be further parts, which belong to no slot and stay as they are. Each
-/// part is quiet, and each line that the layout has can take 15 contents. The names are allowed and all different. The
+/// part is quiet, and each line that the layout has can take 15 stores. The names are allowed and all different. The
 /// header says the geometry, the names and the next entry number, and in no image is an entry from that number on
 /// committed, whatever tail the header comes to have.
 #[derive(Drop)]

@@ -1,5 +1,4 @@
--- Laws about contents and images, for what stands on parts. They hold too where each word of a line may by itself be left as
--- it was.
+-- Laws about words and images, for what stands on parts. Each word of a line may be left by itself as it was.
 use Rattle.std.specs.Prelude.{◌≡◌, ℕ, ◌<◌, List, [], ◌∷◌, ◌++◌, length}
 use Rattle.nv_plain.specs.Images.{PartImage}
 use Rattle.nv_pmem.specs.Images.{IsPartImage, IsQuietLine}

@@ -40,8 +40,9 @@ impl From<Refused> for LineFault {
 /// as it was or as if the call had gone well, and of `store_line` the first so many words may be stored.
 ///
 /// Over persistent memory of a processor of Intel's (Software Developer's Manual, volume 2) `store` is a store of 8
-/// aligned bytes, which isn't torn, while two of them may become durable in either order; `flush` is `CLWB` or `CLFLUSHOPT` of the line, which writes it back; and `fence` is
-/// `SFENCE`, behind which all lines are durable that were written back before it.
+/// aligned bytes, which isn't torn, while two of them may become durable in either order; `flush` is `CLWB` or
+/// `CLFLUSHOPT` of the line, which writes it back; and `fence` is `SFENCE`, behind which all lines are durable that were
+/// written back before it.
 pub trait Lines {
     /// Which device this is. No call changes it.
     ghost device: { Self → ℕ };
@@ -105,8 +106,9 @@ pub trait Lines {
         ensures cause { HasCause (fault_count self.old) (fault_count self.new) result }
         ensures device { device self.new ≡ device self.old };
 
-    /// Makes the flushed lines durable: of each of their words what the last flush noted, or something since. A line that wasn't
-    /// flushed since the last fence stays as it is. After a fault that may be done or not, so nothing counts as durable by it.
+    /// Makes the flushed lines durable: of each of their words what the last flush noted, or something since. A line that
+    /// wasn't flushed since the last fence stays as it is. After a fault that may be done or not, so nothing counts as
+    /// durable by it.
     fn fence(&mut self) -> Result<(), LineFault>
         ensures begun { DidSome (Fence ∷ []) (history self.old) (history self.new) }
         ensures done { OnOk result (DidLineStep (Fence ∷ []) (history self.old) (history self.new)) }

@@ -82,8 +82,8 @@ impl MemPart {
     }
 
     /// Loses power: each word of a line is left with one of the values that it may have, the one that the picker takes, and
-    /// the part is quiet. Words of several values are drawn for in their order, line by line. It isn't a call of `Lines`: no fuse counts
-    /// it, and it takes no memory.
+    /// the part is quiet. Words of several values are drawn for in their order, line by line. It isn't a call of `Lines`:
+    /// no fuse counts it, and it takes no memory.
     pub fn image(&mut self, picker: &mut Picker)
         ensures picked { part_history self.new ≡ (picked picker.old (part_now self.old)).0 ∷ part_history self.old }
         ensures draws { picker.new ≡ (picked picker.old (part_now self.old)).1 }

@@ -166,7 +166,7 @@ next_or_entry : (op : Op) (control : Control) (next : Option Op) → entered op 
 next_or_entry (ByCleaner (TakeCleaner most)) Idle next e = inr tt
 next_or_entry op control next e = inl e
 
--- a part of two lines that each can take 15 contents, now and after the step, may be left so
+-- a part of two lines that each can take 15 stores, now and after the step, may be left so
 leaves_so : (step : LineStep) (value : Value) (spares : Spares) → spares_in value ≡ walk_spares 2 → spares ≡ walk_spares 2 → has_line 2 step ≡ true → CallMayLeave value (PartStep step spares) Made
 leaves_so step (APart device before) spares now then there =
     subst (λ s. RoomAfter step (room_of_spares s) (room_of_spares spares)) (sym now) (subst (λ s. RoomAfter step (room_of_spares (walk_spares 2)) (room_of_spares s)) (sym then) (stays step there))

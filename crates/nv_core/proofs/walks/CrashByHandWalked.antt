@@ -95,7 +95,7 @@ five_left a b c d e = record { count = refl; each = each }
 
 -- ---- the region
 
--- the third write's commit word is the newest content of its line, and not the oldest
+-- the third write's commit word is the newest value of its word, and not the oldest
 newest_entries : map (λ slot. entry_of (region_of part_word hand_core.values (1 + slot))) (0 ∷ 1 ∷ 2 ∷ []) ≡ hand_entries 3
 unfolding group_steps pieces_steps piece_steps data_steps entry_field_steps line_stores durable_store newest stored flushed fenced word_at
 newest_entries = refl

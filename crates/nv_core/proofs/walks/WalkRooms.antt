@@ -1,4 +1,4 @@
--- The rooms of the walks: a line that can take 15 contents may be left so by each step; and what the walks write are bytes.
+-- The rooms of the walks: a line that can take 15 stores may be left so by each step; and what the walks write are bytes.
 use Rattle.std.proofs.Common.{ℕ, zero, suc, ◌<◌, ◌≤◌, Bool, true, ◌≡◌, refl, arith}
 use Rattle.std.specs.Prelude.{nat_lt, slice_index_or}
 use Rattle.std.proofs.lemmas.Bool.{ltb-true}
@@ -25,7 +25,7 @@ as_fenced zero line = omega arith
 as_fenced (suc lines) zero = omega arith
 as_fenced (suc lines) (suc line) = as_fenced lines line
 
--- and a line that is there can take 15 contents
+-- and a line that is there can take 15 stores
 pub takes_15 : (lines line : ℕ) → line < lines → (15 ≤ (slice_index_or (walk_spares lines) line (0, 0)).0) × (15 ≤ (slice_index_or (walk_spares lines) line (0, 0)).1)
 takes_15 zero line less = absurd (omega (arith, less))
 takes_15 (suc lines) zero less = (omega arith, omega arith)

@@ -18,7 +18,7 @@ use Rattle.nv_core.specs.state.Core.{Core}
 use Rattle.nv_core.specs.invariant.LogWindow.{Fills}
 
 -- A cell keeps a part that is ready for an entry after some steps, whatever room they leave: it has an entry's lines, and each of
--- them can take 15 contents.
+-- them can take 15 stores.
 abbrev pub EndsReady : Sizes → List LineStep → Value → Type 0
 EndsReady sizes steps (APart device spares) = EndWith (IsReady sizes.page) steps (room_of_spares spares)
 EndsReady sizes steps value = ⊥
@@ -35,7 +35,7 @@ FillsReady sizes pass SetStopAfterCommit number value = Unit {0}
 FillsReady sizes pass (BreakEntry next) number value = Unit {0}
 FillsReady sizes pass control number value = KeepsReady sizes value
 
--- a cell keeps a header's part, and each of its lines can take 15 contents after some steps, whatever room they leave
+-- a cell keeps a header's part, and each of its lines can take 15 stores after some steps, whatever room they leave
 abbrev pub EndsRoomy : List LineStep → Value → Type 0
 EndsRoomy steps (APart device spares) = EndWith (IsRoomy version_1.header_lines) steps (room_of_spares spares)
 EndsRoomy steps value = ⊥

@@ -1,4 +1,4 @@
--- Spares: how many more contents each line of a part can take, as plain data.
+-- Spares: how many more stores each line of a part can take, as plain data.
 use Rattle.std.specs.Prelude.{◌≡◌, ℕ, ◌<◌, List, length, map, slice_index_or}
 use Rattle.std.specs.List.{range_with_len}
 use Rattle.nv_pmem.specs.Room.{Room}
@@ -7,7 +7,7 @@ use Rattle.nv_pmem.specs.Steps.{LineStep}
 use Rattle.nv_entry.specs.Group.{IsReady}
 use Rattle.nv_header.specs.Regions.{IsRoomy}
 
--- of each line of a part, in order: how many more contents it can take now, and after the next fence
+-- of each line of a part, in order: how many more stores it can take now, and after the next fence
 abbrev pub Spares : Type 0
 Spares = List (ℕ × ℕ)
 

@@ -23,7 +23,7 @@ use Rattle.nv_core.specs.steps.Opening.{Mount, IsMount, opening}
 abbrev pub walk_sizes : Sizes
 walk_sizes = record { page = 64; files = 1; pages = 64; entries = 16; buffers = 4 }
 
--- what a part of so many lines can take: each line 15 contents
+-- what a part of so many lines can take: each line 15 stores
 abbrev pub walk_spares : (lines : ℕ) → Spares
 walk_spares lines = replicate lines (15, 15)
 
