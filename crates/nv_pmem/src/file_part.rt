@@ -25,8 +25,8 @@ pub enum PartError {
 
 /// A part over a file, of lines of 64 bytes; what stands behind the last whole line is not read. It holds its lines in memory,
 /// and a fence writes those that were flushed, as they are then, to the file and syncs it. The file is open inside a call alone, so
-/// a process may have more parts than files open. It tells nothing. It is trusted that the host leaves each line of a file old
-/// or new where power fails, and keeps what a sync that went well was given.
+/// a process may have more parts than files open. It tells nothing. It is trusted that the host leaves each word of a line of a
+/// file old or new where power fails, and keeps what a sync that went well was given.
 #[derive(Drop)]
 pub struct FilePart<R> {
     rt: R,
