@@ -377,7 +377,7 @@ over_answered laws fds (Fsync fd) start begun now list (Ok done) mount idle same
 over_answered laws fds (Fsync fd) start begun now list (Err refusal) mount idle same over good =
     sync_refused laws fds fd start now mount idle refusal (subst (λ (p : PassState). IsSyncEnded (file_of_fd fds fd) p now (Err refusal)) same over)
 
-call_answered : CallLaws → (fds : List Fd) (call : TraceCall) (start now : PassState) (answer : Answer) → IsMount (mount_of start.view.opened) → IsIdle start → IsAnsweredBy fds call start now answer
+pub call_answered : CallLaws → (fds : List Fd) (call : TraceCall) (start now : PassState) (answer : Answer) → IsMount (mount_of start.view.opened) → IsIdle start → IsAnsweredBy fds call start now answer
     → IsAnswered fds None call start now answer × IsIdle now
 call_answered laws fds call start now answer mount idle by = (
   subst (IsAnswered fds None call start now) (sym by.answer_is) (over_answered laws fds call start by.begun now by.list by.result mount idle by.tried by.over by.for_good),

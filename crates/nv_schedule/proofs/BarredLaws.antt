@@ -30,7 +30,7 @@ long (Pread fd at len) = refl
 long (Pwrite fd at bytes) = refl
 long (Fsync fd) = refl
 
-for_good : (sizes : Sizes) (fds : List Fd) (call : TraceCall) (refusal : Refusal) → early_of_call sizes fds call ≡ Some refusal → begins_anew_by call refusal ≡ false
+pub for_good : (sizes : Sizes) (fds : List Fd) (call : TraceCall) (refusal : Refusal) → early_of_call sizes fds call ≡ Some refusal → begins_anew_by call refusal ≡ false
 for_good sizes fds call refusal is =
     subst (λ (early : Option Refusal). MatchOption early ⊤ (λ r. begins_anew_by call r ≡ false)) is
     (early_such (λ r. begins_anew_by call r ≡ false) (bad call) (far call) (long call) sizes fds call)

@@ -29,7 +29,7 @@ ordered (x ∷ xs) a (y ∷ ys) b same few =
     let again = ordered xs a ys b (cc) (omega (arith, few)) in
     (again.0, ap (λ e. e ∷ ys) (sym first) ∙ ap (λ l. x ∷ l) again.1)
 
-begins_both : (xs ys zs : List Event) → IsPrefix xs ys → IsPrefix ys zs → IsPrefix xs zs
+pub begins_both : (xs ys zs : List Event) → IsPrefix xs ys → IsPrefix ys zs → IsPrefix xs zs
 begins_both xs ys zs a b = (a.0 ++ b.0, b.1 ∙ ap (λ l. l ++ b.0) a.1 ∙ append_assoc xs a.0 b.0)
 
 module _ (one other run : List Event) (a : IsPrefix one run) (b : IsPrefix other run) where

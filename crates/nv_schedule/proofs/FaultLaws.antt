@@ -115,7 +115,7 @@ sync_takes value leaves = leaves
 
 module _ (sizes : Sizes) where
   -- none comes where none is due
-  none_comes : (works : List Work) (values : Values) (pass : Pass) (control : Control) → pass.control ≡ control → ((kept : Values) (work : Work) → CallDue sizes kept pass work control → ⊥) → AreDue sizes values pass works → works ≡ []
+  pub none_comes : (works : List Work) (values : Values) (pass : Pass) (control : Control) → pass.control ≡ control → ((kept : Values) (work : Work) → CallDue sizes kept pass work control → ⊥) → AreDue sizes values pass works → works ≡ []
   none_comes [] values pass control at none due = refl
   none_comes (work ∷ later) values pass control at none due = absurd (none values work (subst (CallDue sizes values pass work) at due.0.due))
 
@@ -163,7 +163,7 @@ clean_fails sizes (work ∷ later) values pass due = by (clean_fails sizes later
 -- ---- a step
 
 -- what is due of the pass before it
-step_due : (step : PassStep) (old new : PassState) → HasTaken step old new → AreDue old.view.opened.sizes (values_of old.view) (pass_of old.view) step.works
+pub step_due : (step : PassStep) (old new : PassState) → HasTaken step old new → AreDue old.view.opened.sizes (values_of old.view) (pass_of old.view) step.works
 step_due step old new taken =
     subst (λ (v : PassView). AreDue v.opened.sizes (values_of v) (pass_of v) step.works) taken.between.view
     (subst (AreDue taken.before.view.opened.sizes (values_of taken.before.view) (pass_of taken.before.view)) taken.works_are taken.stepped.due)

@@ -122,7 +122,7 @@ step_grown old new opens op found is =
     let went = step_went false old new opens op found (λ only. absurd (cc)) is in
     record { more = went.more; run = went.run; opened = went.opened; stays = step_stays old new opens op found is }
 
-taken_grown : (step : PassStep) (old new : PassState) → HasTaken step old new → HasGrown old new
+pub taken_grown : (step : PassStep) (old new : PassState) → HasTaken step old new → HasGrown old new
 taken_grown step old new taken =
     let same = taken.between.view in
     let grown = step_grown taken.before new step.opens step.op step.found taken.stepped in

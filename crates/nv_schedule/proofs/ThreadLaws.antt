@@ -33,7 +33,7 @@ pub rest_whole : (calls : List TracedCall) → take (length calls - 1) (drop 1 c
 rest_whole calls = grind (arith, common_steps)
 
 -- a call that hasn't begun
-none_tried : (fds : List Fd) (call : TraceCall) (now : PassState) → WereTried fds call now now
+pub none_tried : (fds : List Fd) (call : TraceCall) (now : PassState) → WereTried fds call now now
 none_tried fds (Pread fd at len) now = ([], refl)
 none_tried fds (Pwrite fd at bytes) now = ([], refl)
 none_tried fds (Fsync fd) now = refl

@@ -1,6 +1,9 @@
+pub mod Acting
+pub mod Actors
 pub mod Barred
 pub mod Begun
 pub mod Callers
+pub mod CoreRuns
 pub mod Counted
 pub mod Cuts
 pub mod FaithfulSchedules
@@ -16,12 +19,14 @@ pub mod Listed
 pub mod Lives
 pub mod NextKinds
 pub mod Orders
+pub mod Played
 pub mod Ran
 pub mod Reaches
 pub mod RefusedCalls
 pub mod Scheduled
 pub mod Shares
 pub mod SortedOut
+pub mod StepsMade
 pub mod Told
 pub mod Tries
 pub mod Turns

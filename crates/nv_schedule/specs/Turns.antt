@@ -1,5 +1,5 @@
 -- Turns: one advance of a caller.
-use Rattle.std.specs.Prelude.{◌≡◌, ◌⊎◌, ℕ, Bool, true, false, List, [], Option, Some, Result}
+use Rattle.std.specs.Prelude.{◌≡◌, ◌⊎◌, ℕ, Bool, true, false, List, [], ◌∷◌, ◌++◌, Option, Some, Result}
 use Rattle.nv_core.specs.state.Words.{Sizes}
 use Rattle.nv_core.specs.steps.Events.{Event}
 use Rattle.nv_table.specs.state.States.{PassState}
@@ -13,7 +13,8 @@ use Rattle.nv_clean.specs.Cleaning.{CleanState}
 use Rattle.nv_clean.specs.declared.batch.CleanRefusal.{CleanRefusal}
 use Rattle.nv_clean.specs.declared.clean.Cleaned.{Cleaned}
 use Rattle.nv_schedule.specs.Barred.{IsFirstAnsweredEarly}
-use Rattle.nv_schedule.specs.Callers.{BatchEnds, CallEnds, CleanerHasCome, IsAtBatch, ThreadHasCome, kind_at_batch, next_of_calls}
+use Rattle.nv_runner.specs.Lists.{MadeCall}
+use Rattle.nv_schedule.specs.Callers.{BatchEnds, CallEnds, CleanerHasCome, IsAnsweredBy, IsAtBatch, IsAtCall, ThreadHasCome, ThreadState, kind_at_batch, next_of_calls}
 use Rattle.nv_schedule.specs.Faulted.{batch_faulted, hand_faulted}
 use Rattle.nv_schedule.specs.Faults.{some_fails}
 use Rattle.nv_schedule.specs.declared.caller.Work.{Work}
@@ -61,6 +62,15 @@ abbrev pub BatchTurns : (answered : Bool) → (old new : Work) → (pass now : P
 BatchTurns answered (Batches old) (Batches new) pass now = (begun : PassState) → IsAtBatch old.most old.machine begun pass → BatchCame answered new.most new.machine begun now
 BatchTurns answered old new pass now = Unit {0}
 
+-- What its pass is at since the last of a thread's calls was answered goes on; or its present call was answered.
+abbrev pub CallCame : List Fd → (answered : Bool) → (old new : ThreadState) → (last now : PassState) → Type 0
+CallCame fds false old new last now = IsAtCall fds new.left new.hand last now
+CallCame fds true old new last now = (m : MadeCall) × (old.left ≡ m.call ∷ new.left) × (new.made ≡ old.made ++ m ∷ []) × IsAnsweredBy fds m.call.call last now m.answer
+
+abbrev pub CallTurns : List Fd → (answered : Bool) → (old new : Work) → (pass now : PassState) → Type 0
+CallTurns fds answered (Calls old) (Calls new) pass now = (last : PassState) → IsAtCall fds old.left old.hand last pass → CallCame fds answered old new last now
+CallTurns fds answered old new pass now = Unit {0}
+
 -- What its present call asks for bars it, and it was answered. A batch is never barred.
 abbrev pub IsBarredWork : Sizes → List Fd → (answered : Bool) → Work → Type 0
 IsBarredWork sizes fds answered (Calls thread) = IsFirstAnsweredEarly sizes fds thread.left answered
@@ -73,6 +83,7 @@ IsBarred fds answered caller = IsBarredWork caller.pass.view.opened.sizes fds an
 pub record HasTurned (fds : List Fd) (answered : Bool) (events : List Event) (old new : CallerState) : Type 0 where
   pub moved : MovesBy (IsBarred fds answered old) events old.pass new.pass
   pub ends : WorkEnds answered old.work new.work
+  pub call : CallTurns fds answered old.work new.work old.pass new.pass
   pub batch : BatchTurns answered old.work new.work old.pass new.pass
   pub come : (start : PassState) → HasCome fds old.work start old.pass → HasCome fds new.work start new.pass
 

@@ -1,5 +1,6 @@
 //! Laws of schedules that were followed.
 ghost use Rattle.nv_schedule.specs.Begun.{SchedulesBegin};
+ghost use Rattle.nv_schedule.specs.CoreRuns.{SchedulesRunInCore};
 ghost use Rattle.nv_schedule.specs.Counted.{FaultsAreCounted};
 ghost use Rattle.nv_schedule.specs.FaithfulSchedules.{SchedulesAreFaithful};
 ghost use Rattle.nv_schedule.specs.Growing.{SchedulesGrow, TrailsAreDeeds};
@@ -26,6 +27,19 @@ pub fn schedules_are_the_deeds()
 pub fn next_steps_are_the_cores()
     ensures { NextStepsAreTheCores }
 {}
+
+/// A schedule over a mount is said by a run of the core alone: its deeds are those of the threads and of the cleaner, group after group as the tokens say, one step an advance, and each token ends where the core comes to its
+/// point. What its calls were answered, and which were left open and from which numbers on, is read off the core's history and passes.
+pub fn schedules_run_in_the_core()
+    ensures { SchedulesRunInCore }
+{
+    ended_calls_heed_stop();
+    refused_writes_leave_words();
+    faults_open_writes();
+    tries_go_on();
+    runs_are_sound();
+    passes_are_left_alone();
+}
 
 /// Of the events of a schedule that was followed, and has no cut, none is a device call that failed; and one is of a schedule that met a fault.
 pub fn uncut_schedules_meet_no_fault()

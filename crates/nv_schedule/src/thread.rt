@@ -13,6 +13,7 @@ ghost use Rattle.nv_schedule.specs.Callers.{CallEnds, CallGoes, IsAtCall, IsAtOw
 ghost use Rattle.nv_schedule.specs.Faulted.{fault_at_hand, hand_faulted};
 ghost use Rattle.nv_schedule.specs.Hands.{IsOneOrNoStep, kind_at_first, list_at_hand};
 ghost use Rattle.nv_schedule.specs.Tries.{answer_of, begins_anew, refused_answer, reply_to};
+ghost use Rattle.nv_schedule.specs.Turns.{CallCame};
 
 use crate::hand::Hand;
 use crate::turned::Turned;
@@ -175,6 +176,7 @@ impl<'a> Thread<'a> {
         ensures moved { IfOk result (λ turned. IsOneOrNoStep (IsFirstAnsweredEarly pass.old.view.opened.sizes mount.now.fds self.old.left turned.answered) (hand_faulted self.old.hand) turned.faulted pass.old pass.new) }
         ensures none { IfOk result (λ turned. turned.faulted ≡ false → hand_faulted self.new.hand ≡ false) }
         ensures ends { IfOk result (λ turned. CallEnds turned.answered self.old self.new) }
+        ensures call { IfOk result (λ turned. (last : PassState) → IsAtCall mount.now.fds self.old.left self.old.hand last pass.old → CallCame mount.now.fds turned.answered self.old self.new last pass.new) }
         ensures come { OnOk result ((start : PassState) → ThreadHasCome mount.now.fds self.old start pass.old → ThreadHasCome mount.now.fds self.new start pass.new) }
         ensures workspace { IsWorkspace mount.now.board.opened.sizes workspace.new }
         ensures bare { workspace.new.parts.items ≡ [] }

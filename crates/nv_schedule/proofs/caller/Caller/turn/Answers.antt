@@ -14,7 +14,7 @@ returns-in-Calls-clause-turned g c =
     let new : CallerState = record { pass = c.turn.new.pass; work = Calls c.turn.new.self } in
     subst (λ (old : CallerState). IfOk c.turn.result (λ turned. (events : List Event) × TurnTells fds turned events old new)) c.self.view_is
     (subst (λ (work : Work). IfOk c.turn.result (λ turned. (events : List Event) × TurnTells fds turned events (record { pass = c.self.inside.pass; work = work }) new)) (sym c.in-Calls.is)
-    (thread_turned fds c.turn.result c.in-Calls.thread c.turn.new.self c.self.inside.pass c.turn.new.pass c.turn.ensures.moved c.turn.ensures.none c.turn.ensures.ends c.turn.ensures.come))
+    (thread_turned fds c.turn.result c.in-Calls.thread c.turn.new.self c.self.inside.pass c.turn.new.pass c.turn.ensures.moved c.turn.ensures.none c.turn.ensures.ends c.turn.ensures.call c.turn.ensures.come))
 
 pub returns-in-Batches-clause-turned : goal.returns-in-Batches-clause-turned
 returns-in-Batches-clause-turned g c =

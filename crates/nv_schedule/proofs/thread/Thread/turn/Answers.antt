@@ -77,6 +77,42 @@ returns-in-Some-clause-come g c = λ start come.
     (subst (λ (hand : Option Hand). IsAtCall fds (call ∷ after) hand last c.args.pass.now) (ap (λ (t : ThreadState). t.hand) (sym c.self.view_is)) at)))
     come
 
+pub returns-in-None-clause-call : goal.returns-in-None-clause-call
+returns-in-None-clause-call g c = λ last at.
+    let fds = c.args.mount.now.fds in
+    let old = c.args.self.now in
+    let number = c.self.inside.number in
+    let calls = c.self.inside.left.now in
+    let call = c.call-item.result in
+    let later = calls_of_thread number (drop 1 calls) in
+    let is : calls ≡ call ∷ drop 1 calls = first_and_rest calls call c.in-len1-up.len_at_least c.call-item.is in
+    let own : calls_of_thread number calls ≡ call ∷ later = own_first number calls call (drop 1 calls) c.self.invariant is in
+    let present : old.left ≡ call ∷ later = ap (λ (t : ThreadState). t.left) (sym c.self.view_is) ∙ own in
+    let there = at_present fds old old call later c.args.pass.now c.args.pass.now c.args.pass.now present last at in
+    subst (λ (left : List TracedCall). IsAtCall fds left c.advance_call.new.hand last c.advance_call.new.pass) (sym own)
+    (subst (CallGoes fds call later c.advance_call.new.hand last c.advance_call.new.pass) c.in-None.is
+    (c.in_ok-answer.ensures.goes later last
+    (subst (λ (hand : Option Hand). IsAtCall fds (call ∷ later) hand last c.args.pass.now) (ap (λ (t : ThreadState). t.hand) (sym c.self.view_is)) there)))
+
+pub returns-in-Some-clause-call : goal.returns-in-Some-clause-call
+unfolding returns-in-Some-clause-ends
+returns-in-Some-clause-call g c = λ last at.
+    let fds = c.args.mount.now.fds in
+    let old = c.args.self.now in
+    let number = c.self.inside.number in
+    let calls = c.self.inside.left.now in
+    let call = c.call-item.result in
+    let later = calls_of_thread number (drop 1 calls) in
+    let is : calls ≡ call ∷ drop 1 calls = first_and_rest calls call c.in-len1-up.len_at_least c.call-item.is in
+    let present : old.left ≡ call ∷ later = ap (λ (t : ThreadState). t.left) (sym c.self.view_is) ∙ own_first number calls call (drop 1 calls) c.self.invariant is in
+    let there = at_present fds old old call later c.args.pass.now c.args.pass.now c.args.pass.now present last at in
+    let gone =
+    subst (CallGoes fds call later c.advance_call.new.hand last c.advance_call.new.pass) c.in-Some.is
+    (c.in_ok-answer.ensures.goes later last
+    (subst (λ (hand : Option Hand). IsAtCall fds (call ∷ later) hand last c.args.pass.now) (ap (λ (t : ThreadState). t.hand) (sym c.self.view_is)) there)) in
+    let ends = returns-in-Some-clause-ends g c in
+    (ends.0, ends.1, ends.2, gone.1)
+
 pub returns-in-None-clause-moved : goal.returns-in-None-clause-moved
 returns-in-None-clause-moved g c =
     let fds = c.args.mount.now.fds in
