@@ -1,5 +1,5 @@
 -- A schedule that was followed, after power went off and the region was recovered: what its report shows.
-use Rattle.std.proofs.Common.{◌≡◌, ℕ, ◌+◌, ◌-◌, ◌^◌, ◌<◌, ◌≤◌, Bool, true, false, arith, max, length, List, [], ◌∷◌, ◌++◌, Option, Some, Result, Ok, Err, map, refl, sym, ap, subst, ◌∙◌}
+use Rattle.std.proofs.Common.{◌≡◌, ℕ, ◌+◌, ◌-◌, ◌^◌, ◌<◌, ◌≤◌, Bool, true, false, arith, max, length, List, [], ◌∷◌, Option, Some, Result, Ok, Err, map, refl, sym, ap, subst, ◌∙◌}
 use Rattle.std.specs.Prelude.{IfSome, None, OnOk}
 use Rattle.std.specs.Result.{IsErrAnd}
 use Rattle.std.specs.List.Sorted.{IsStrictlyIncreasing}
@@ -19,13 +19,14 @@ use Rattle.nv_open.specs.Lending.{stores_named, without_stores}
 use Rattle.nv_open.specs.Refusals.{head_image}
 use Rattle.nv_recover.specs.Standing.{ReadableStandsForRecovered, files_of}
 use Rattle.nv_core.specs.state.Values.{Value}
-use Rattle.nv_table.specs.state.Opened.{mount_of}
+use Rattle.nv_table.specs.state.Opened.{mount_of, state_of}
 use Rattle.nv_table.specs.state.States.{PassState}
 use Rattle.nv_core.specs.steps.Opening.{IsMount}
 use Rattle.nv_header.specs.FileNames.{AreFileNames}
 use Rattle.nv_mount.specs.Mounts.{MountState}
 use Rattle.nv_mount.specs.RisenCounts.{SawStop}
 use Rattle.nv_mount.specs.WholeWrites.{LeavesWholeWrites}
+use Rattle.nv_mount.specs.declared.fds.Fd.{Fd}
 use Rattle.nv_trace.specs.Forms.{has_rounds}
 use Rattle.nv_trace.specs.Shape.{IsWellFormed}
 use Rattle.nv_trace.specs.Traced.{Traced, lines_in}
@@ -33,9 +34,12 @@ use Rattle.nv_trace.specs.declared.token.Token.{Token}
 use Rattle.nv_trace.specs.declared.token.Token.TheVariants.{Advance}
 use Rattle.nv_trace.specs.declared.trace_call.TracedCall.{TracedCall}
 use Rattle.nv_runner.specs.Faithful.{Basis}
+use Rattle.nv_runner.specs.FaithfulRuns.{IsMountOf}
+use Rattle.nv_runner.specs.Lists.{made_calls}
 use Rattle.nv_runner.specs.OpenRuns.{LeftOpenAreKept}
 use Rattle.nv_runner.specs.Told.{DescriptorsSayFiles}
 use Rattle.nv_schedule.specs.Begun.{SchedulesBegin}
+use Rattle.nv_schedule.specs.CoreRuns.{AreListed, HasRunInCore, IsRunBy, IsRunUpTo}
 use Rattle.nv_schedule.specs.FaithfulSchedules.{SchedulesAreFaithful}
 use Rattle.nv_schedule.specs.SortedOut.{SchedulesAreLegal, SchedulesAreTold}
 use Rattle.nv_schedule.specs.Cuts.{CutTells, armed_by, cuts_of}
@@ -43,11 +47,11 @@ use Rattle.nv_schedule.specs.Scheduled.{HasScheduled, HasTold}
 use Rattle.nv_schedule.specs.declared.schedule_error.ScheduleError.{ScheduleError}
 use Rattle.nv_schedule.specs.declared.schedule_error.ScheduleError.TheVariants.{Fault, NoMemory, TurnsUsed}
 use Rattle.nv_schedule.specs.declared.scheduled.ScheduledCalls.{ScheduledCalls}
-use Rattle.nv_top.specs.Runs.{HasCache}
+use Rattle.nv_top.specs.Runs.{BeginsMount, HasCache}
 use Rattle.nv_top.specs.Outcomes.{shown_report}
 use Rattle.nv_top.specs.Reports.{report_text}
 use Rattle.nv_top.specs.Commands.{HasRecovered, recovery_of}
-use Rattle.nv_top.specs.Scheduling.{HasLostPowerBehind, HasScheduledOn, HasUsedTurns, HoldsCells, IsArmedAt, IsArmedAtSome, ShowsOutcome}
+use Rattle.nv_top.specs.Scheduling.{HasLostPowerBehind, HasScheduledOn, HasUsedTurns, HoldsCells, IsArmedAt, IsArmedAtSome, IsOpenedFor, ShowsOutcome, fds_in}
 use Rattle.nv_top.specs.Stopping.{IsSettledStop, RestsWith, ShowsOpen, StopSettles}
 use Rattle.nv_top.specs.declared.ending.Stop.{Stop}
 use Rattle.nv_top.specs.declared.ending.Stop.TheVariants as stops
@@ -56,13 +60,22 @@ use Rattle.nv_top.proofs.FollowedLemmas.{files_are, is_faithful, schedule_more}
 use Rattle.nv_top.proofs.NameLemmas.{names_plain}
 use Rattle.nv_top.proofs.StoppingLemmas.{HasClosedOver, each_allowed, lost_power, names_read}
 
+-- the mount that a run began with
+opened_for : (basis : Basis) (trace : Traced) (mount : MountState) (pass : PassState) (cache : ℕ) → BeginsMount basis trace mount pass → HasCache cache mount → IsOpenedFor basis trace cache mount.board.opened
+opened_for basis trace mount pass cache begins cached = record {
+  is_mount = subst (IsMountOf basis trace mount.board.opened) begins.is_mount.fds_are begins.is_mount;
+  region = begins.region;
+  long = begins.long;
+  cached = cached;
+}
+
 module _ (basis : Basis) (trace : Traced) (mount : MountState) (pass zero : PassState) (part_values store_values : List Value)
     (parts : List lines.PartHistory) (held : List backing.StoreHistory) (faults placed tail : ℕ)
     (over : HasClosedOver basis trace mount pass zero part_values store_values parts held faults placed tail)
     (options : RunOptions) (lent armed : BenchState) (outcome : Result ScheduledCalls ScheduleError) (scheduled : HasScheduled mount trace.tokens trace.calls options.batch pass zero lent armed outcome)
     (cached : HasCache options.cache mount) (failed : Type 0) (saw : SawStop zero.view → failed) (allowed : AreFileNames version_1 basis.names)
     (formed : IsWellFormed trace) (few : length trace.calls < 2 ^ 60) (rise : IsStrictlyIncreasing (lines_in trace)) (no_rounds : has_rounds trace.form ≡ false) (is_mount : IsMount (mount_of mount.board.opened))
-    (begin_so : SchedulesBegin) (told_so : SchedulesAreTold) (legal_so : SchedulesAreLegal) (faithful_so : SchedulesAreFaithful) (files_so : DescriptorsSayFiles) (kept_so : LeftOpenAreKept)
+    (core : HasRunInCore mount.board.opened mount.fds trace.tokens trace.calls options.batch zero.view lent armed outcome) (begin_so : SchedulesBegin) (told_so : SchedulesAreTold) (legal_so : SchedulesAreLegal) (faithful_so : SchedulesAreFaithful) (files_so : DescriptorsSayFiles) (kept_so : LeftOpenAreKept)
     (stand_so : ReadableStandsForRecovered) (before : List Pick) (bench : BenchState) (text : List ℕ) (home after_power : Holding) (shows_so : ShowsOutcome after_power outcome bench.told text)
     (power_left : bench.left ≡ Some after_power) (picked : bench.picked ≡ options.image ∷ before) (cells : HoldsCells zero.view basis.names home) (power_is : after_power ≡ powered options.image home)
     (many : ℕ) (many_so : length after_power.parts ≡ many) (others : List NamedStore) (others_so : without_stores basis.names after_power.stores ≡ others)
@@ -79,17 +92,19 @@ module _ (basis : Basis) (trace : Traced) (mount : MountState) (pass zero : Pass
       let shown = shows_so.shown.shown in
       let followed : HasScheduled mount trace.tokens trace.calls options.batch pass zero lent armed (Ok shows_so.calls) =
       subst (λ outcome. HasScheduled mount trace.tokens trace.calls options.batch pass zero lent armed outcome) shows_so.is_ok scheduled in
+      let ran : HasRunInCore mount.board.opened mount.fds trace.tokens trace.calls options.batch zero.view lent armed (Ok shows_so.calls) =
+      subst (λ outcome. HasRunInCore mount.board.opened mount.fds trace.tokens trace.calls options.batch zero.view lent armed outcome) shows_so.is_ok core in
+      let fds_so : mount.fds ≡ fds_in basis trace = over.begins.is_mount.fds_are in
       let files : List (List ℕ) → Files = λ names. files_named after_power.parts names after_power.stores in
       record {
-        mount = mount;
-        start = pass;
-        begins = over.begins;
-        cached = cached;
-        last = zero;
-        lent = lent;
-        armed = armed;
-        calls = shows_so.calls;
-        followed = followed;
+        opened = mount.board.opened;
+        begins = opened_for basis trace mount pass options.cache over.begins cached;
+        then_ = ran.0;
+        last = zero.view;
+        run = subst (λ fds. IsRunBy mount.board.opened fds trace.tokens trace.calls options.batch ran.0 zero.view) fds_so ran.1;
+        listed = made_calls shows_so.calls.answered.items;
+        unanswered = begun;
+        told = subst (λ fds. AreListed mount.board.opened fds (state_of mount.board.opened zero.view.run).history ran.0 (made_calls shows_so.calls.answered.items) begun) fds_so ran.2;
         stopped = saw;
         sorted = shows_so.sorted;
         sorted_out = shows_so.sorted_out;
@@ -119,7 +134,7 @@ module _ (basis : Basis) (trace : Traced) (mount : MountState) (pass zero : Pass
 module _ (basis : Basis) (trace : Traced) (mount : MountState) (pass zero : PassState) (part_values store_values : List Value)
     (parts : List lines.PartHistory) (held : List backing.StoreHistory) (faults placed tail : ℕ)
     (over : HasClosedOver basis trace mount pass zero part_values store_values parts held faults placed tail)
-    (options : RunOptions) (lent armed : BenchState) (scheduled : HasScheduled mount trace.tokens trace.calls options.batch pass zero lent armed (Err TurnsUsed))
+    (options : RunOptions) (lent armed : BenchState) (core : HasRunInCore mount.board.opened mount.fds trace.tokens trace.calls options.batch zero.view lent armed (Err TurnsUsed))
     (cached : HasCache options.cache mount) (failed : Type 0) (saw : SawStop zero.view → failed) (stand_so : ReadableStandsForRecovered) (bench : BenchState) (text : List ℕ) (home power : Holding) (recovered_so : HasRecovered power bench.told text)
     (power_left : bench.left ≡ Some power) (picked : bench.picked ≡ options.image ∷ lent.picked) (cells : HoldsCells zero.view basis.names home) (power_is : power ≡ powered options.image home)
     (many : ℕ) (many_so : length power.parts ≡ many) (others : List NamedStore) (others_so : without_stores basis.names power.stores ≡ others)
@@ -142,18 +157,22 @@ module _ (basis : Basis) (trace : Traced) (mount : MountState) (pass zero : Pass
         many_are = now.left.many;
       })))
 
+  -- its run, and the cuts that were armed before its end
+  abbrev RunsArmed : List Fd → Type 0
+  RunsArmed fds = (run : IsRunUpTo mount.board.opened fds trace.tokens trace.calls options.batch core.0 zero.view) × IsArmedAt run.played.before lent bench
+
+  runs_armed : RunsArmed (fds_in basis trace)
+  runs_armed = subst RunsArmed over.begins.is_mount.fds_are (core.1, (arms ∙ ap (λ (s : BenchState). s.arms) core.2, armed_so ∙ ap (λ (s : BenchState). s.armed) core.2))
+
   pub has_used : HasUsedTurns failed options basis trace many others lent bench
   has_used = record {
-    mount = mount;
-    start = pass;
-    begins = over.begins;
-    cached = cached;
-    last = zero;
-    lent = lent;
-    armed = armed;
-    followed = scheduled;
+    opened = mount.board.opened;
+    begins = opened_for basis trace mount pass options.cache over.begins cached;
+    then_ = core.0;
+    last = zero.view;
+    run = runs_armed.0;
     stopped = saw;
-    armed_at = (arms ∙ ap (λ (s : BenchState). s.arms) scheduled.told.2, armed_so ∙ ap (λ (s : BenchState). s.armed) scheduled.told.2);
+    armed_at = runs_armed.1;
     left = record {
       lost = lost_power basis trace mount pass zero part_values store_values parts held faults placed tail over stand_so options.image lent.picked bench power (recovery_of power).next power_left picked many many_so others others_so left
           refl rests_recovered;
@@ -210,17 +229,14 @@ all_from_lent tokens old lent new arms armed is = (is.0 ∙ same_arms (cuts_of t
 pub used_from_lent : (failed : Type 0) (options : RunOptions) (basis : Basis) (trace : Traced) (many : ℕ) (others : List NamedStore) (old lent new : BenchState) → lent.arms ≡ old.arms → lent.armed ≡ old.armed → lent.picked ≡ old.picked
     → HasUsedTurns failed options basis trace many others lent new → HasUsedTurns failed options basis trace many others old new
 used_from_lent failed options basis trace many others old lent new arms armed picked used = record {
-  mount = used.mount;
-  start = used.start;
+  opened = used.opened;
   begins = used.begins;
-  cached = used.cached;
+  then_ = used.then_;
   last = used.last;
-  lent = used.lent;
-  armed = used.armed;
-  followed = used.followed;
+  run = used.run;
   stopped = used.stopped;
-  armed_at = all_from_lent used.followed.told.1.ran.before old lent new arms armed used.armed_at;
-  left = subst (λ before. HasLostPowerBehind used.last.view options.image before basis many others new) picked used.left;
+  armed_at = all_from_lent used.run.played.before old lent new arms armed used.armed_at;
+  left = subst (λ before. HasLostPowerBehind used.last options.image before basis many others new) picked used.left;
 }
 
 pub IfSome-weaker : {X : Type 0} (found : Option X) (P Q : X → Type 0) → ((x : X) → P x → Q x) → IfSome found P → IfSome found Q

@@ -1,5 +1,5 @@
 -- Scheduling: a schedule that is followed over a bench, and what it leaves.
-use Rattle.std.specs.Prelude.{◌≡◌, ℕ, ◌<◌, ◌≤◌, false, List, [], ◌∷◌, ◌++◌, map, slice_index_or, Option, Some, Result, Ok, Err}
+use Rattle.std.specs.Prelude.{◌≡◌, ℕ, ◌*◌, ◌<◌, ◌≤◌, min, false, List, [], ◌++◌, map, slice_index_or, Option, Some, Result, Ok}
 use Rattle.nv_pmem.specs.Rows.{row_words}
 use Rattle.nv_pmem.specs.declared.picker.Pick.{Pick}
 use Rattle.nv_bench.specs.Benches.{BenchState}
@@ -12,30 +12,33 @@ use Rattle.nv_recover.specs.Standing.{files_of}
 use Rattle.nv_recover.specs.Recovering.{HasFoundAll}
 use Rattle.nv_recover.specs.declared.recovering.Recovered as recover
 use Rattle.nv_core.specs.content.StorePages.{store_of_value}
+use Rattle.nv_core.specs.crash.CrashImages.{OpensRegion}
 use Rattle.nv_core.specs.log.Written.{IsPart}
 use Rattle.nv_core.specs.state.Words.{STORE}
 use Rattle.nv_table.specs.state.Layout.{cell_of}
-use Rattle.nv_table.specs.state.States.{PassState}
+use Rattle.nv_table.specs.state.Opened.{Opened, mount_of, state_of}
 use Rattle.nv_table.specs.state.Views.{PassView, values_of}
-use Rattle.nv_mount.specs.Mounts.{MountState}
 use Rattle.nv_mount.specs.RisenCounts.{SawStop}
+use Rattle.nv_mount.specs.Telling.{HasLongParts}
 use Rattle.nv_mount.specs.WholeWrites.{LeavesWholeWrites}
+use Rattle.nv_mount.specs.declared.fds.Fd.{Fd}
 use Rattle.nv_trace.specs.Traced.{Traced}
 use Rattle.nv_trace.specs.declared.token.Token.{Token}
-use Rattle.nv_runner.specs.Faithful.{Basis, files_shown}
-use Rattle.nv_runner.specs.Lists.{made_calls}
+use Rattle.nv_trace.specs.declared.trace_call.TracedCall.{TracedCall}
+use Rattle.nv_runner.specs.Faithful.{Basis, descriptors_in, files_shown}
+use Rattle.nv_runner.specs.FaithfulRuns.{IsMountOf, as_fd}
+use Rattle.nv_runner.specs.Lists.{MadeCall, made_calls}
 use Rattle.nv_runner.specs.Reports.{Report}
 use Rattle.nv_runner.specs.Sorted.{AreSortedOut}
 use Rattle.nv_runner.specs.declared.sorted.SortedCalls.{SortedCalls}
+use Rattle.nv_schedule.specs.Actors.{Actor}
+use Rattle.nv_schedule.specs.CoreRuns.{AreListed, IsRunBy, IsRunUpTo}
 use Rattle.nv_schedule.specs.Cuts.{armed_by, cuts_of}
 use Rattle.nv_schedule.specs.FaithfulSchedules.{IsFaithfulSchedule}
-use Rattle.nv_schedule.specs.Scheduled.{HasScheduled}
 use Rattle.nv_schedule.specs.declared.schedule_error.ScheduleError.{ScheduleError}
-use Rattle.nv_schedule.specs.declared.schedule_error.ScheduleError.TheVariants.{TurnsUsed}
 use Rattle.nv_schedule.specs.declared.scheduled.ScheduledCalls.{ScheduledCalls}
 use Rattle.nv_top.specs.Readings.{HavePlainNames}
 use Rattle.nv_top.specs.Reports.{report_text}
-use Rattle.nv_top.specs.Runs.{BeginsMount, HasCache}
 use Rattle.nv_top.specs.Stopping.{HasLostPower, ShowsOpen, ShowsRecovered}
 use Rattle.nv_top.specs.declared.words.RunOptions.{RunOptions}
 
@@ -84,42 +87,49 @@ pub record HasLostPowerBehind (view : PassView) (pick : Pick) (before : List Pic
   pub power_is : lost.power ≡ powered pick home
   pub whole : LeavesWholeWrites view basis.files basis.names (row_words lost.power.parts) (files_of (stores_named basis.names lost.power.stores))
 
--- The schedule of a trace was followed over a mount of this basis, with as many buffers as are asked for, on a bench that was lent meanwhile, up to a token that made 100,000 advances and didn't come to its point. It was armed at the cuts before that token, and power went off
--- behind that run. A pass saw STOP set only where this says so.
-pub record HasUsedTurns (failed : Type 0) (options : RunOptions) (basis : Basis) (trace : Traced) (many : ℕ) (others : List NamedStore) (old bench : BenchState) : Type 0 where
-  pub mount : MountState
-  pub start : PassState
-  pub begins : BeginsMount basis trace mount start
-  pub cached : HasCache options.cache mount
-  pub last : PassState
-  pub lent : BenchState
-  pub armed : BenchState
-  pub followed : HasScheduled mount trace.tokens trace.calls options.batch start last lent armed (Err TurnsUsed)
-  pub stopped : SawStop last.view → failed
-  pub armed_at : IsArmedAt followed.told.1.ran.before old bench
-  pub left : HasLostPowerBehind last.view options.image old.picked basis many others bench
+-- the descriptors of a trace, over the files of a basis
+abbrev pub fds_in : Basis → Traced → List Fd
+fds_in basis trace = map as_fd (descriptors_in basis.names trace)
 
--- The text is that of a report of a trace whose schedule was followed over a mount of this basis, with as many buffers as are asked for, on a bench that was lent meanwhile, and armed at its cuts. The calls that it lists are those that were
--- begun. Power went off behind it; what it left stood for the files that are shown, and the fates are by the log of that. The report is faithful to the trace; devices failed, and a pass saw STOP set, only where this says so.
+-- A mount was opened from this basis, whose names are those of the region, for a run of the trace, with a buffer for each page of its files, up to as many as are asked for. The parts of the header and of the entries have their lines.
+pub record IsOpenedFor (basis : Basis) (trace : Traced) (cache : ℕ) (opened : Opened) : Type 0 where
+  pub is_mount : IsMountOf basis trace opened (fds_in basis trace)
+  pub region : OpensRegion (mount_of opened) basis.names
+  pub long : HasLongParts (mount_of opened)
+  pub cached : opened.sizes.buffers ≡ min cache (opened.sizes.files * opened.sizes.pages)
+
+-- The schedule of a trace was played over a mount of this basis up to a token that made 100,000 advances and didn't come to its point: that was a run of the core. The bench was armed at the cuts before that token, and power went off behind that
+-- run. A pass saw STOP set only where this says so.
+pub record HasUsedTurns (failed : Type 0) (options : RunOptions) (basis : Basis) (trace : Traced) (many : ℕ) (others : List NamedStore) (old bench : BenchState) : Type 0 where
+  pub opened : Opened
+  pub begins : IsOpenedFor basis trace options.cache opened
+  pub then_ : List Actor
+  pub last : PassView
+  pub run : IsRunUpTo opened (fds_in basis trace) trace.tokens trace.calls options.batch then_ last
+  pub stopped : SawStop last → failed
+  pub armed_at : IsArmedAt run.played.before old bench
+  pub left : HasLostPowerBehind last options.image old.picked basis many others bench
+
+-- The text is that of a report of a trace whose schedule was played over a mount of this basis: that was a run of the core. The calls that it lists are those that were begun, with what the core's history and passes tell of them. Power went off
+-- behind it; what it left stood for the files that are shown, and the fates are by the log of that. The report is faithful to the trace; devices failed, and a pass saw STOP set, only where this says so.
 pub record HasScheduledOn (failed : Type 0) (options : RunOptions) (before : List Pick) (basis : Basis) (trace : Traced) (many : ℕ) (others : List NamedStore) (bench : BenchState) (text : List ℕ) : Type 0 where
-  pub mount : MountState
-  pub start : PassState
-  pub begins : BeginsMount basis trace mount start
-  pub cached : HasCache options.cache mount
-  pub last : PassState
-  pub lent : BenchState
-  pub armed : BenchState
-  pub calls : ScheduledCalls
-  pub followed : HasScheduled mount trace.tokens trace.calls options.batch start last lent armed (Ok calls)
-  pub stopped : SawStop last.view → failed
+  pub opened : Opened
+  pub begins : IsOpenedFor basis trace options.cache opened
+  pub then_ : List Actor
+  pub last : PassView
+  pub run : IsRunBy opened (fds_in basis trace) trace.tokens trace.calls options.batch then_ last
+  pub listed : List MadeCall
+  pub unanswered : List TracedCall
+  pub told : AreListed opened (fds_in basis trace) (state_of opened last.run).history then_ listed unanswered
+  pub stopped : SawStop last → failed
   pub sorted : SortedCalls
-  pub sorted_out : AreSortedOut (made_calls calls.answered.items) sorted
+  pub sorted_out : AreSortedOut listed sorted
   pub report : Report
   pub faithful : IsFaithfulSchedule failed basis trace report
   pub plain : HavePlainNames report.files
   pub text_is : text ≡ report_text report
-  pub left : HasLostPowerBehind last.view options.image before basis many others bench
+  pub left : HasLostPowerBehind last options.image before basis many others bench
   pub shows : files_named left.lost.power.parts basis.names left.lost.power.stores ≡ files_shown basis trace report
   pub found : recover.Recovered
   pub log : HasFoundAll (row_words left.lost.power.parts) found
-  pub shown : ShowsOpen sorted (map (λ call. call.now) calls.unanswered.items) found basis.names (files_named left.lost.power.parts basis.names left.lost.power.stores) text
+  pub shown : ShowsOpen sorted unanswered found basis.names (files_named left.lost.power.parts basis.names left.lost.power.stores) text

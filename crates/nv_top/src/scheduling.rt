@@ -44,7 +44,7 @@ use nv_recover::images_stand_for_files;
 use nv_runner::{history_of_threads_is_legal, open_calls_are_the_faults, sort_out};
 use nv_schedule::{
     ScheduleError, Scheduled, ScheduledCalls, run_schedule, schedules_are_faithful,
-    schedules_are_told, schedules_begin_in_order, schedules_leave_lives,
+    schedules_are_told, schedules_begin_in_order, schedules_leave_lives, schedules_run_in_the_core,
 };
 use nv_table::Pass;
 use nv_trace::Trace;
@@ -209,6 +209,7 @@ fn schedule_mount<T: Bench>(
     schedules_are_told();
     schedules_are_faithful();
     schedules_leave_lives();
+    schedules_run_in_the_core();
     images_follow_calls();
     pass.sees_a_run();
     let Scheduled {

@@ -1,4 +1,4 @@
-use Rattle.std.proofs.Common.{◌≡◌, ◌∷◌, ◌+◌, ℕ, List, ◌-◌, ◌^◌, ◌≤◌, true, false, Ok, Some, IfSome, length, map, max, option_map, sum_by, sym, ap, subst, ◌∙◌, arith}
+use Rattle.std.proofs.Common.{◌≡◌, ◌∷◌, ◌+◌, ℕ, List, ◌-◌, ◌^◌, ◌≤◌, Ok, Some, IfSome, length, map, max, option_map, sum_by, sym, ap, subst, ◌∙◌, arith}
 use Rattle.std.proofs.lemmas.List.{length-map}
 use Rattle.std.proofs.lemmas.Result.{IfOk-weaker, on_ok_weaker}
 use Rattle.nv_plain.specs.Faults.{Rose, saturated}
@@ -13,7 +13,7 @@ use Rattle.nv_mount.specs.RisenCounts.{SawStop, failed_before}
 use Rattle.nv_runner.specs.Faithful.{Basis}
 use Rattle.nv_top.specs.Runs.{BeginsMount}
 use Rattle.nv_schedule.specs.Cuts.{CutTells}
-use Rattle.nv_schedule.specs.Scheduled.{HasScheduled}
+use Rattle.nv_schedule.specs.CoreRuns.{HasRunInCore}
 use Rattle.nv_schedule.specs.declared.scheduled.ScheduledCalls.{ScheduledCalls}
 use Rattle.nv_top.specs.Commands.{HasRecovered}
 use Rattle.nv_top.specs.Scheduling.{HasScheduledOn, HasUsedTurns, ShowsOutcome}
@@ -94,6 +94,8 @@ returns-clause-scheduled g c =
     (ap (λ (s : BenchState). s.told) c.in_ok-power.ensures.off) (λ holding is. g.met.T.Bench.whole c.give_back.new.self holding is) away in
     has_scheduled basis trace mount pass zero _ _ parts held sums came.placed came.tail over options start armed outcome
     (of_trace c.args.mount c.args.trace.now c.args.options.batch c.args.pass ran.0 start armed c.run_schedule-closed.result.outcome c.tokens.result.now c.calls.result.now c.tokens.ensures.tokens c.calls.ensures.calls ran.1) c.requires.cache failed saw allowed c.requires.trace.well_formed (omega (arith, c.requires.trace.few)) c.requires.trace.lines c.requires.no_rounds (subst (λ (o : Opened). IsMount (mount_of o)) c.requires.board.same_mount c.sees_a_run.ensures.mount)
+    (c.schedules_run_in_the_core.ensures mount trace.tokens trace.calls options.batch pass zero start armed c.run_schedule-closed.result.outcome
+    (of_trace c.args.mount c.args.trace.now c.args.options.batch c.args.pass ran.0 start armed c.run_schedule-closed.result.outcome c.tokens.result.now c.calls.result.now c.tokens.ensures.tokens c.calls.ensures.calls ran.1))
     c.schedules_begin_in_order.ensures c.schedules_are_told.ensures.told c.schedules_are_told.ensures.legal c.schedules_are_faithful.ensures c.history_of_threads_is_legal.ensures.files c.open_calls_are_the_faults.ensures.kept
     c.images_stand_for_files.ensures.files start.picked last text.items behind.before behind.after
     (at_some off.told (λ holding. ShowsOutcome holding outcome last.told text.items) behind.after behind.off_is shown)
@@ -363,8 +365,9 @@ returns-clause-used g c is basis begins named =
     (ap (λ (s : BenchState). s.told) c.in_ok-power.ensures.off) (λ holding is. g.met.T.Bench.whole c.give_back.new.self holding is) away in
     let recovered = at_some off.told (λ holding. (text : List ℕ) × HasRecovered holding last.told text) behind.after behind.off_is (c.show_outcome.ensures.recovered is) in
     has_used basis trace mount pass zero _ _ parts held sums came.placed came.tail over options start armed
-    (subst (HasScheduled mount trace.tokens trace.calls options.batch pass zero start armed) (c.show_outcome.ensures.used is)
-    (of_trace mount trace options.batch pass zero start armed c.run_schedule-closed.result.outcome c.tokens.result.now c.calls.result.now c.tokens.ensures.tokens c.calls.ensures.calls ran.1))
+    (subst (HasRunInCore mount.board.opened mount.fds trace.tokens trace.calls options.batch zero.view start armed) (c.show_outcome.ensures.used is)
+    (c.schedules_run_in_the_core.ensures mount trace.tokens trace.calls options.batch pass zero start armed c.run_schedule-closed.result.outcome
+    (of_trace mount trace options.batch pass zero start armed c.run_schedule-closed.result.outcome c.tokens.result.now c.calls.result.now c.tokens.ensures.tokens c.calls.ensures.calls ran.1)))
     c.requires.cache failed saw c.images_stand_for_files.ensures.files last recovered.0 behind.before behind.after recovered.1
     (ap (λ (s : BenchState). s.left) c.show_outcome.ensures.back ∙ ap (λ (s : BenchState). s.left) c.in_ok-power.ensures.off
     ∙ ap (option_map (powered options.image)) behind.given_is ∙ ap Some (sym behind.after_is))
