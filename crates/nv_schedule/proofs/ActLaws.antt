@@ -256,7 +256,7 @@ anew_same : (call : TraceCall) (result : Result Done Refusal) → is_anew call (
 anew_same call (Ok done) = refl
 anew_same call (Err refusal) = refl
 
-first_same : {T : Type 0} (x y : T) (xs ys : List T) → x ∷ xs ≡ y ∷ ys → (x ≡ y) × (xs ≡ ys)
+pub first_same : {T : Type 0} (x y : T) (xs ys : List T) → x ∷ xs ≡ y ∷ ys → (x ≡ y) × (xs ≡ ys)
 first_same x y xs ys same = (cc, cc)
 
 -- ---- a thread's advance

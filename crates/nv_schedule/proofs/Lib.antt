@@ -18,6 +18,7 @@ mod FollowLaws
 mod FreshLaws
 mod GrowLaws
 mod GrownLaws
+mod HandActs
 mod HandLaws
 mod KeptFaultLaws
 mod LifeLaws

@@ -112,7 +112,7 @@ goes_on_by step old new taken = subst (λ (v : PassView). GoesOnBy v.number (eve
 
 -- ---- and no longer what it was
 
-some_events : (number : ℕ) (works : List Work) (act : Act) → 0 < length (events number works act)
+pub some_events : (number : ℕ) (works : List Work) (act : Act) → 0 < length (events number works act)
 some_events number [] act = omega arith
 some_events number (work ∷ later) act = let more = some_events number later act in omega (arith, more)
 
@@ -148,7 +148,7 @@ last_same (z ∷ xs) (w ∷ ys) x y same = last_same xs ys x y (cc)
 abbrev calls_of : (number : ℕ) → List Work → List Event
 calls_of number works = map (λ work. record { by = number; act = CallsDevice work }) works
 
-act_same : (number : ℕ) (xs ys : List Event) (works others : List Work) (act other : Act) → xs ++ events number works act ≡ ys ++ events number others other → act ≡ other
+pub act_same : (number : ℕ) (xs ys : List Event) (works others : List Work) (act other : Act) → xs ++ events number works act ≡ ys ++ events number others other → act ≡ other
 act_same number xs ys works others act other same =
     ap (λ (e : Event). e.act)
     (last_same (xs ++ calls_of number works) (ys ++ calls_of number others) (record { by = number; act = act }) (record { by = number; act = other })

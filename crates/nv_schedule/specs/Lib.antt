@@ -1,5 +1,6 @@
 pub mod Acting
 pub mod Actors
+pub mod ActsByHand
 pub mod Barred
 pub mod Begun
 pub mod Callers

@@ -1,4 +1,5 @@
 //! Laws of schedules that were followed.
+ghost use Rattle.nv_schedule.specs.ActsByHand.{ActsByHand};
 ghost use Rattle.nv_schedule.specs.Begun.{SchedulesBegin};
 ghost use Rattle.nv_schedule.specs.CoreRuns.{SchedulesRunInCore};
 ghost use Rattle.nv_schedule.specs.Counted.{FaultsAreCounted};
@@ -40,6 +41,12 @@ pub fn schedules_run_in_the_core()
     runs_are_sound();
     passes_are_left_alone();
 }
+
+/// By hand: a write that finds its page taken begins anew, and isn't answered; a sync waits for its place, and is answered by it and by nothing else; a call that is barred is refused by no event, and any other one makes a
+/// step; a batch is of the bound that is asked for.
+pub fn acts_by_hand()
+    ensures { ActsByHand }
+{}
 
 /// Of the events of a schedule that was followed, and has no cut, none is a device call that failed; and one is of a schedule that met a fault.
 pub fn uncut_schedules_meet_no_fault()
