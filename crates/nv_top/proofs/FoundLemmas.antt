@@ -168,8 +168,8 @@ next_finds_run show options holding told trace text ran own =
 pub next_finds_stopped : NextFindsStopped
 next_finds_stopped options old new holding trace text run own =
     let names = run.basis.names in
-    let power = run.stopped.lost.power in
-    let rests = run.stopped.lost.rests in
+    let power = run.stopped.left.lost.power in
+    let rests = run.stopped.left.lost.rests in
     subst (λ files. FindsFiles names files rests.now) run.stopped.shows
     (finds_rested run.basis.sizes.page run.basis.sizes.entries (next_in power.parts run.basis.files) names (files_named power.parts names power.stores) rests.now (without_stores names holding.stores) rests.rests.held rests.rests.rest
     rests.rests.stores_are rests.rests.files_are (named_many power.parts names power.stores) own)
@@ -322,12 +322,12 @@ opened_there count descriptors (o ∷ later) inside within =
 -- a faithful report lists calls of its trace alone, and its history is legal
 reported_within : (worker : Bool) (basis : Basis) (trace : Traced) (report : Report) → IsReportOf worker basis trace report → (P : TracedCall → Type 0) → All P trace.calls → All P (listed_calls report)
 reported_within worker basis trace report (inl faithful) P all = All-permutation P trace.calls (listed_calls report) (IsPermutation-sym (listed_calls report) trace.calls faithful.each_once) all
-reported_within worker basis trace report (inr (inl faithful)) P all = All-permutation P trace.calls (listed_calls report) (IsPermutation-sym (listed_calls report) trace.calls faithful.2.each_once) all
+reported_within worker basis trace report (inr (inl faithful)) P all = All-permutation P trace.calls (listed_calls report) (IsPermutation-sym (listed_calls report) trace.calls faithful.1.each_once) all
 reported_within worker basis trace report (inr (inr faithful)) P all = report_all P trace.calls (listed_calls report) faithful.2.begins all
 
 reported_legal : (worker : Bool) (basis : Basis) (trace : Traced) (report : Report) → IsReportOf worker basis trace report → IsLegal (history_of (descriptors_in basis.names trace) report.history) basis.files
 reported_legal worker basis trace report (inl faithful) = faithful.legal
-reported_legal worker basis trace report (inr (inl faithful)) = faithful.2.legal
+reported_legal worker basis trace report (inr (inl faithful)) = faithful.1.legal
 reported_legal worker basis trace report (inr (inr faithful)) = faithful.2.legal
 
 done_there : (worker : Bool) (options : RunOptions) (holding : Holding) (basis : Basis) (trace : Traced) (report : Report) → IsBasis options holding trace.names basis → IsReportOf worker basis trace report → IsWellFormed trace

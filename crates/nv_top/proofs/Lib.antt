@@ -15,6 +15,7 @@ pub mod RowLemmas
 pub mod RunLemmas
 pub mod ShownLemmas
 pub mod StopLemmas
+pub mod StoppedLemmas
 pub mod StoppingLemmas
 pub mod TestBenches
 pub mod UnhinderedLemmas

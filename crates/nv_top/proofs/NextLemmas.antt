@@ -125,7 +125,7 @@ module _ (old new : BenchState) (holding : Holding) (ready : IsReady old) (told 
 
 run_quiet : (stop : Option ℕ) (options : _) (old new : BenchState) (holding : Holding) (trace : Traced) (text : List ℕ) → IsQuietHolding holding → IsShownOf stop options old new holding trace text → IfSome new.told IsQuietHolding
 run_quiet None options old new holding trace text quiet shown = left_quiet quiet shown.left
-run_quiet (Some k) options old new holding trace text quiet shown = rests_quiet shown.basis.names holding quiet shown.stopped.lost.rests
+run_quiet (Some k) options old new holding trace text quiet shown = rests_quiet shown.basis.names holding quiet shown.stopped.left.lost.rests
 
 run_ready : (stop : Option ℕ) (pick : Pick) (old new : BenchState) (holding : Holding) → IsReady old → old.told ≡ Some holding → new.arms < 2 ^ 63 → new.faults ≡ expected_faults old new → IsLeftAfter stop pick old new → IfSome new.told IsQuietHolding → IsReady new
 run_ready None pick old new holding ready told room counts left quiet = given_ready old new holding ready told room counts left quiet
@@ -175,8 +175,8 @@ next_begins_behind show options later holding told trace text ran wanted basis s
 
 pub next_begins_behind_stop : NextBeginsBehindStop
 next_begins_behind_stop options later old new holding trace text run wanted basis second =
-    let rests = run.stopped.lost.rests in
-    (begins_at run.basis.sizes.page run.basis.sizes.entries (next_in run.stopped.lost.power.parts run.basis.files) run.basis.names rests.now later wanted basis rests.rests.rest second).0
+    let rests = run.stopped.left.lost.rests in
+    (begins_at run.basis.sizes.page run.basis.sizes.entries (next_in run.stopped.left.lost.power.parts run.basis.files) run.basis.names rests.now later wanted basis rests.rests.rest second).0
 
 pub next_begins_behind_schedule : NextBeginsBehindSchedule
 next_begins_behind_schedule options later old new holding trace text run wanted basis second =

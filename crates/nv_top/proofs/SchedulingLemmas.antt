@@ -51,7 +51,8 @@ use Rattle.nv_top.specs.Runs.{BeginsMount, HasCache}
 use Rattle.nv_top.specs.Outcomes.{shown_report}
 use Rattle.nv_top.specs.Reports.{report_text}
 use Rattle.nv_top.specs.Commands.{HasRecovered, recovery_of}
-use Rattle.nv_top.specs.Scheduling.{HasLostPowerBehind, HasScheduledOn, HasUsedTurns, HoldsCells, IsArmedAt, IsArmedAtSome, IsOpenedFor, ShowsOutcome, fds_in}
+use Rattle.nv_top.specs.Behind.{HasLostPowerBehind, HoldsCells}
+use Rattle.nv_top.specs.Scheduling.{HasScheduledOn, HasUsedTurns, IsArmedAt, IsArmedAtSome, IsOpenedFor, ShowsOutcome, fds_in}
 use Rattle.nv_top.specs.Stopping.{IsSettledStop, RestsWith, ShowsOpen, StopSettles}
 use Rattle.nv_top.specs.declared.ending.Stop.{Stop}
 use Rattle.nv_top.specs.declared.ending.Stop.TheVariants as stops

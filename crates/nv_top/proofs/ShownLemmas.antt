@@ -98,9 +98,9 @@ module _ (good_so : FittingHasNoBad) (read_so : ReadIsNotRefused) where
       → (why : Refusal) → ¬ (IsNotRun options holding trace.names why)
   run_allowed None options old new holding trace text ran = ran_allowed Report options holding new.told trace text ran
   run_allowed (Some k) options old new holding trace text run =
-      let rests = run.stopped.lost.rests in
+      let rests = run.stopped.left.lost.rests in
       begun_allowed options holding trace.names run.basis run.begun
-      (rested_few run.basis.sizes.page run.basis.sizes.entries (next_in run.stopped.lost.power.parts run.basis.files) run.basis.names rests.now.parts rests.rests.rest)
+      (rested_few run.basis.sizes.page run.basis.sizes.entries (next_in run.stopped.left.lost.power.parts run.basis.files) run.basis.names rests.now.parts rests.rests.rest)
 
   -- a schedule that was followed wasn't either
   followed_allowed : (failed : Type 0) (options : RunOptions) (before : List Pick) (holding : Holding) (bench : BenchState) (trace : Traced) (text : List ℕ) → HasFollowed failed options before holding bench trace text

@@ -39,7 +39,6 @@ use Rattle.nv_core.specs.content.Content.{Opens}
 use Rattle.nv_core.specs.crash.CommutingWrites.{after_calls}
 use Rattle.nv_core.specs.crash.CrashImages.{OpensRegion}
 use Rattle.nv_core.specs.log.LogContent.{OpensLog}
-use Rattle.nv_core.specs.state.Passes.{IsOneOf}
 use Rattle.nv_core.specs.content.StorePages.{store_of_value}
 use Rattle.nv_core.specs.log.Written.{IsPart}
 use Rattle.nv_core.specs.state.Values.{Bare, Value, faults_of}
@@ -54,7 +53,7 @@ use Rattle.nv_mount.specs.Telling.{AllDevicesTell, IsTelling}
 use Rattle.nv_mount.specs.WholeRuns.{history_then}
 use Rattle.nv_mount.specs.WholeWrites.{LeavesWholeWrites, faults_then}
 use Rattle.nv_mount.specs.declared.fds.Fd.{Fd}
-use Rattle.nv_calls.specs.histories.Faults.{open_in}
+use Rattle.nv_calls.specs.histories.Faults.{OpenWrite, open_in}
 use Rattle.nv_trace.specs.Shape.{IsCallWithin, IsWellFormed}
 use Rattle.nv_trace.specs.Traced.{Traced, lines_in}
 use Rattle.nv_trace.specs.declared.report.Refusal.{Refusal}
@@ -64,26 +63,28 @@ use Rattle.nv_trace.specs.declared.trace_call.TracedCall.{TracedCall}
 use Rattle.nv_runner.specs.declared.plan.Plan.{Plan}
 use Rattle.nv_runner.specs.declared.sorted.Open.{Open}
 use Rattle.nv_runner.specs.declared.sorted.SortedCalls.{SortedCalls}
-use Rattle.nv_runner.specs.DrawnNumbers.{DrawnCall}
-use Rattle.nv_runner.specs.EndedRuns.{HasOutcome, IsClosedBy}
+use Rattle.nv_runner.specs.EndedRuns.{HasOutcome, IsClosedBy, batch_of}
 use Rattle.nv_runner.specs.Faithful.{Basis, IsAllowedRefusal, IsFaithful, IsLeftOpen, WasRefused, after_open, barred, descriptors_in, drawing_calls, file_call, files_shown, history_of, named, open_calls_of, placed_in}
 use Rattle.nv_runner.specs.FaithfulRuns.{IsMountOf, RunsAreFaithful, RunsAreNumbered, ShowsCalls, as_fd}
-use Rattle.nv_runner.specs.Histories.{CallsOnFiles, ThreadsAreLegal}
+use Rattle.nv_runner.specs.Histories.{AreHistory, CallsOnFiles, ThreadsAreLegal}
+use Rattle.nv_runner.specs.KeptCalls.{OpenCallsAreKeptWhole}
 use Rattle.nv_runner.specs.OpenRuns.{LeftOpenAreKept, open_of}
 use Rattle.nv_runner.specs.OpenWrites.{kept_open}
 use Rattle.nv_runner.specs.Reports.{OpenCall, Report, ShownRefusal}
 use Rattle.nv_runner.specs.Sorted.{OpenedCall, opened_call, placed_call, refused_call}
 use Rattle.nv_runner.specs.Told.{AreTold, DescriptorsSayFiles, RunsAreTold}
-use Rattle.nv_top.specs.Fates.{fate_of, fated, fated_report}
+use Rattle.nv_top.specs.Fates.{fated, fated_report}
 use Rattle.nv_top.specs.Outcomes.{shown_report}
 use Rattle.nv_top.specs.Reports.{report_text}
 use Rattle.nv_top.specs.Runs.{BeginsMount}
-use Rattle.nv_top.specs.Scheduling.{HoldsCells}
-use Rattle.nv_top.specs.Stopping.{HasFate, HasLostPower, HaveFates, HasStoppedOn, IsAway, RestsWith, ShowsOpen, ShowsRecovered, next_in}
+use Rattle.nv_top.specs.Behind.{HoldsCells}
+use Rattle.nv_top.specs.Stopped.{HasStoppedOn, HaveFates, IsRunOfReport, left_write}
+use Rattle.nv_top.specs.Stopping.{HasLostPower, IsAway, RestsWith, ShowsOpen, ShowsRecovered, next_in}
 use Rattle.nv_top.specs.Stops.{CountHasCause, StopHasCause}
 use Rattle.nv_top.specs.declared.ending.Stop.{Stop}
 use Rattle.nv_top.specs.declared.ending.Stop.TheVariants.{Usage, BadLine, InputLong, Read, Device, Region, NoMemory, Turns}
 use Rattle.nv_top.proofs.FateLemmas.{after_fates, numbers_low, open_write, open_writes_are}
+use Rattle.nv_top.proofs.StoppedLemmas.{left_fates, left_low, left_writes, nothing_flies}
 use Rattle.nv_top.proofs.HomeLemmas.{images_again}
 use Rattle.nv_top.proofs.PoweredHomes.{others_left, powered_many}
 use Rattle.nv_top.proofs.NameLemmas.{names_plain}
@@ -159,49 +160,6 @@ shows old lent new_told holding sorted begun text found page entries next names 
           }))));
     }
 
--- ---- a report is as faithful where less is said of what failed
-
-refused_while : (failed more : Type 0) (worker : _) (basis : Basis) (drew : List TracedCall) (call : TracedCall) (refusal : Refusal) → (failed → more)
-    → WasRefused failed worker basis drew call refusal → WasRefused more worker basis drew call refusal
-refused_while failed more worker basis drew call shown.BadDescriptor on was = was
-refused_while failed more worker basis drew call shown.TooFar on was = was
-refused_while failed more worker basis drew call shown.TooLong on was = was
-refused_while failed more worker basis drew call shown.Stopped on was = on was
-refused_while failed more worker basis drew call (shown.Spent found) on was = was
-refused_while failed more worker basis drew call (shown.Again head tail) on was = was
-refused_while failed more worker basis drew call shown.RegionFault on was = (was.0, on was.1)
-refused_while failed more worker basis drew call shown.StoreFault on was = (was.0, on was.1)
-
-allowed_while : (failed more : Type 0) (worker : _) (basis : Basis) (descriptors : List Descriptor) (drew : List TracedCall) (call : TracedCall) (refusal : Refusal) → (failed → more)
-    → IsAllowedRefusal failed worker basis descriptors drew call refusal → IsAllowedRefusal more worker basis descriptors drew call refusal
-allowed_while failed more worker basis descriptors drew call refusal on is = go (barred basis.sizes descriptors call.call) is
-  where
-    go : (cause : Option Refusal) → MatchOption cause (WasRefused failed worker basis drew call refusal) (λ cause. refusal ≡ cause) → MatchOption cause (WasRefused more worker basis drew call refusal) (λ cause. refusal ≡ cause)
-    go None was = refused_while failed more worker basis drew call refusal on was
-    go (Some cause) is = is
-
-pub faithful_while : (failed more : Type 0) (worker : _) (basis : Basis) (trace : Traced) (report : Report) → (failed → more) → IsFaithful failed worker basis trace report → IsFaithful more worker basis trace report
-faithful_while failed more worker basis trace report on is = record {
-  legal = is.legal;
-  each_once = is.each_once;
-  in_order = is.in_order;
-  refused_in_order = is.refused_in_order;
-  open_in_order = is.open_in_order;
-  allowed =
-      let descriptors = descriptors_in basis.names trace in
-      All-weaker (λ (r : ShownRefusal). IsAllowedRefusal failed worker basis descriptors (drawing_calls report) r.call r.refusal)
-      (λ (r : ShownRefusal). IsAllowedRefusal more worker basis descriptors (drawing_calls report) r.call r.refusal)
-      (λ r allowed. allowed_while failed more worker basis descriptors (drawing_calls report) r.call r.refusal on allowed) report.refused is.allowed;
-  not_barred = is.not_barred;
-  left_open =
-      let descriptors = descriptors_in basis.names trace in
-      All-weaker (IsLeftOpen failed basis descriptors) (IsLeftOpen more basis descriptors)
-      (λ call is_open. record { is_write = is_open.is_write; failed_so = on is_open.failed_so; not_barred = is_open.not_barred }) (open_calls_of report) is.left_open;
-  room = is.room;
-  numbers = is.numbers;
-  files = is.files;
-}
-
 -- ---- lists
 
 pub all_right : {X : Type 0} (P : X → Type 0) (xs ys : List X) → All P (xs ++ ys) → All P ys
@@ -233,24 +191,6 @@ each_allowed names are k d inside =
 pub names_read : (parts : List Part) → header_names parts ≡ first_names version_1 (row_words parts) (header_of (row_words parts)).files
 unfolding first_names
 names_read parts = refl
-
--- ---- fates
-
--- each has its fate by what was found
-have_fates : (parts : List Part) (files : Files) (found : recover.Recovered) (drawn : List DrawnCall) (open_calls : List Open) → HasFoundAll (row_words parts) found → All (λ (o : Open). found.first ≤ o.number) open_calls
-    → All (λ (o : OpenedCall). IsOneOf drawn (record { call = o.call; number = o.number })) (map opened_call open_calls) → All (HasFate parts files drawn) (map (fated found.first found.groups) open_calls)
-have_fates parts files found drawn [] all low told = All-nil (HasFate parts files drawn)
-have_fates parts files found drawn (one ∷ later) all low told =
-    let Low : Open → Type 0 = λ o. found.first ≤ o.number in
-    let Told : OpenedCall → Type 0 = λ o. IsOneOf drawn (record { call = o.call; number = o.number }) in
-    let here : HasFate parts files drawn (fated found.first found.groups one) = (
-      one.number,
-      All-head Told (opened_call one) (map opened_call later) told,
-      subst (λ first. first ≤ one.number) (all.first files) (All-head Low one later low),
-      ap (λ first. fate_of first found.groups one.number) (all.first files) ∙ ap (λ groups. fate_of (recovered (row_words parts) files).first groups one.number) (all.groups files),
-    ) in
-    All-cons (HasFate parts files drawn) (fated found.first found.groups one) (map (fated found.first found.groups) later) here
-    (have_fates parts files found drawn later all (All-tail Low one later low) (All-tail Told (opened_call one) (map opened_call later) told))
 
 -- ---- what a mount tells that was closed
 
@@ -411,7 +351,8 @@ module _ (basis : Basis) (trace : Traced) (mount : MountState) (pass zero : Pass
     module _ (faithful_so : RunsAreFaithful) (numbered_so : RunsAreNumbered) (stand_so : ReadableStandsForRecovered) (failed : Type 0) (saw : SawStop zero.view → failed) (allowed : AreFileNames version_1 basis.names)
         (bench : BenchState) (text : List ℕ) (after_power : Holding) (shows_so : ShowsRecovered after_power sorted [] bench.told text) (power_left : bench.left ≡ Some after_power) (before : List Pick)
         (picked : bench.picked ≡ plan.image ∷ before) (many : ℕ) (many_so : length after_power.parts ≡ many) (others : List NamedStore) (others_so : without_stores basis.names after_power.stores ≡ others)
-        (left : LeavesWholeWrites zero.view basis.files basis.names (row_words after_power.parts) (files_of (stores_named basis.names after_power.stores))) where
+        (left : LeavesWholeWrites zero.view basis.files basis.names (row_words after_power.parts) (files_of (stores_named basis.names after_power.stores)))
+        (whole_so : OpenCallsAreKeptWhole) (home : Holding) (cells : HoldsCells zero.view basis.names home) (power_is : after_power ≡ powered plan.image home) where
       abbrev found : recover.Recovered
       found = shows_so.found
 
@@ -440,31 +381,59 @@ module _ (basis : Basis) (trace : Traced) (mount : MountState) (pass zero : Pass
       shows_calls : ShowsCalls basis trace sorted report
       shows_calls = record { history = refl; refused = refl; open_calls = calls_again found.first found.groups items; files = ap (named basis.names) files_are }
 
-      is_faithful : IsFaithful failed plan.worker basis trace report
+      is_faithful : IsFaithful (SawStop zero.view) plan.worker basis trace report
       is_faithful =
-          faithful_while (SawStop zero.view) failed plan.worker basis trace report saw
-          (faithful_so basis trace mount.fds plan pass zero sorted part_values store_values parts held faults placed tail report run.well_formed run.few run.rise is_mount begins_so run.out run.closed shows_calls)
+          faithful_so basis trace mount.fds plan pass zero sorted part_values store_values parts held faults placed tail report run.well_formed run.few run.rise is_mount begins_so run.out run.closed shows_calls
 
-      fates : HaveFates basis after_power.parts report
+      abbrev bytes : Files
+      bytes = files_of (stores_named basis.names after_power.stores)
+
+      fates : HaveFates basis trace after_power.parts report (map opened_call items)
       fates =
           let numbered = numbered_so basis trace mount.fds plan pass zero sorted report is_mount run.out shows_calls in
           record {
             drew = numbered.0;
-            each = have_fates after_power.parts basis.files found numbered.0.drawn items shows_so.log (low image (files_of (stores_named basis.names after_power.stores)) left found shows_so.log) numbered.1;
+            own = numbered.1;
+            fates = left_fates after_power.parts basis.files found items shows_so.log;
+            low = left_low after_power.parts basis.files found items shows_so.log (low image bytes left found shows_so.log);
+            whole = whole_so basis trace mount.fds plan pass zero sorted basis.files basis.names image bytes is_mount run.out left;
+          }
+
+      -- the run
+      of_report : IsRunOfReport basis trace report (map opened_call items) zero.view
+      of_report =
+          let Faults : List OpenWrite → Type 0 = λ writes. IsPermutation writes (open_in (faults_then zero.view)) in
+          let flown = nothing_flies mount.fds (batch_of plan) run.out.made zero run.out.run_out.run run.out.run_out.idle in
+          record {
+            opened = subst (λ fds. IsMountOf basis trace zero.view.opened fds) run.begins.is_mount.fds_are (subst (λ (o : Opened). IsMountOf basis trace o mount.fds) (sym same_opened) run.begins.is_mount);
+            passes = record { is_run = run.closed.whole.is_run; joined = run.closed.whole.joined; others = run.closed.whole.others };
+            history = subst (λ fds. AreHistory fds (map placed_call sorted.placed.items) (history_then zero.view)) run.begins.is_mount.fds_are told.placed;
+            flights = subst (λ faults. IsPermutation (map (left_write descriptors) (map opened_call items)) (open_in faults)) (sym flown)
+                (subst Faults (writes ∙ left_writes descriptors items) moved);
           }
 
       pub has_stopped : HasStoppedOn failed plan.worker plan.image before basis trace many others bench text
       has_stopped =
           record {
             report = report;
+            last = zero.view;
             faithful = is_faithful;
+            stopped = saw;
             plain = names_plain version_1.name_limit basis.names shown_files.contents (each_allowed basis.names allowed);
             text_is =
                 shows_so.shown.text_is
                 ∙ ap (λ open_calls. report_text (shown_report sorted open_calls (header_names after_power.parts) shown_files)) (shows_so.shown.are_open.none refl)
                 ∙ ap (λ names. report_text (fated_report sorted found names shown_files)) names_so;
-            lost = lost_power basis trace mount pass zero part_values store_values parts held faults placed tail closed_over stand_so plan.image before bench after_power found.next power_left picked many many_so others others_so left
-                (shows_so.log.next basis.files) shows_so.left;
+            open_calls = map opened_call items;
+            ran = of_report;
+            left = record {
+              lost = lost_power basis trace mount pass zero part_values store_values parts held faults placed tail closed_over stand_so plan.image before bench after_power found.next power_left picked many many_so others others_so left
+                  (shows_so.log.next basis.files) shows_so.left;
+              home = home;
+              cells = cells;
+              power_is = power_is;
+              whole = left;
+            };
             shows = ap (λ names. files_named after_power.parts names after_power.stores) (sym names_so) ∙ files_are;
             fated = fates;
           }

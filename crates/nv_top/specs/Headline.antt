@@ -23,7 +23,8 @@ use Rattle.nv_top.specs.Loads.{HasGenerated, load_options}
 use Rattle.nv_top.specs.declared.show.Show.TheVariants.{Report}
 use Rattle.nv_top.specs.Endings.{IsTrace, OfRead}
 use Rattle.nv_top.specs.Scheduling.{HasScheduledOn, HasUsedTurns, IsArmedAt, IsArmedAtSome, IsBackPowered}
-use Rattle.nv_top.specs.Stopping.{HasStoppedOn, IsPickedOnce, IsPoweredBack}
+use Rattle.nv_top.specs.Stopped.{HasStoppedOn}
+use Rattle.nv_top.specs.Stopping.{IsPickedOnce, IsPoweredBack}
 use Rattle.nv_top.specs.Words.{command_of}
 use Rattle.nv_top.specs.declared.words.Command.{Command}
 use Rattle.nv_top.specs.declared.words.Command.TheVariants.{Run, Sched, Recover, Look, Gen}

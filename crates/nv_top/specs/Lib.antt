@@ -10,6 +10,8 @@ pub mod Leaving
 pub mod Fates
 pub mod Outcomes
 pub mod Stopping
+pub mod Behind
+pub mod Stopped
 pub mod Stops
 pub mod Said
 pub mod Scheduling

@@ -13,6 +13,8 @@ use Rattle.nv_open.specs.Adding.{all_names, new_names}
 use Rattle.nv_open.specs.Begun.{files_behind}
 use Rattle.nv_open.specs.Held.{files_named, header_names}
 use Rattle.nv_open.specs.Refusals.{head_image}
+use Rattle.nv_table.specs.state.Views.{PassView}
+use Rattle.nv_mount.specs.RisenCounts.{SawStop}
 use Rattle.nv_runner.specs.Faithful.{Basis, IsFaithful, descriptors_in, file_call, files_shown, history_of}
 use Rattle.nv_runner.specs.Reports.{OpenCall, Report}
 use Rattle.nv_schedule.specs.FaithfulSchedules.{IsFaithfulSchedule}
@@ -69,7 +71,7 @@ pub record BeginsAt (page entries next : ℕ) (basis : Basis) : Type 0 where
 abbrev pub NextBeginsBehindStop : Type 0
 NextBeginsBehindStop =
     (options later : RunOptions) (old new : BenchState) (holding : Holding) (trace : Traced) (text : List ℕ) (run : HasStopped (Rose old.faults new.faults) options old.picked holding new trace text) (wanted : List (List ℕ)) (basis : Basis)
-    → IsBasis later run.stopped.lost.rests.now wanted basis → BeginsAt run.basis.sizes.page run.basis.sizes.entries (next_in run.stopped.lost.power.parts run.basis.files) basis
+    → IsBasis later run.stopped.left.lost.rests.now wanted basis → BeginsAt run.basis.sizes.page run.basis.sizes.entries (next_in run.stopped.left.lost.power.parts run.basis.files) basis
 
 -- So does a run behind a schedule.
 abbrev pub NextBeginsBehindSchedule : Type 0
@@ -111,7 +113,7 @@ NextFindsRun =
 abbrev pub NextFindsStopped : Type 0
 NextFindsStopped =
     (options : RunOptions) (old new : BenchState) (holding : Holding) (trace : Traced) (text : List ℕ) (run : HasStopped (Rose old.faults new.faults) options old.picked holding new trace text)
-    → HasOwnNames run.stopped.lost.rests.now → FindsFiles run.basis.names (files_shown run.basis trace run.stopped.report) run.stopped.lost.rests.now
+    → HasOwnNames run.stopped.left.lost.rests.now → FindsFiles run.basis.names (files_shown run.basis trace run.stopped.report) run.stopped.left.lost.rests.now
 
 -- So it does behind a schedule: it finds those that the bench stood for as power left it.
 abbrev pub NextFindsScheduled : Type 0
@@ -162,7 +164,7 @@ done_by basis trace report =
 -- A report is faithful: of a run by which no device failed, of one that was stopped, or of a schedule, where some may have.
 abbrev pub IsReportOf : (worker : Bool) → Basis → Traced → Report → Type 0
 IsReportOf worker basis trace report =
-    IsFaithful ⊥ worker basis trace report ⊎ (((before : ℕ) × (now : ℕ) × IsFaithful (Rose before now) worker basis trace report) ⊎ ((before : ℕ) × (now : ℕ) × IsFaithfulSchedule (Rose before now) basis trace report))
+    IsFaithful ⊥ worker basis trace report ⊎ (((last : PassView) × IsFaithful (SawStop last) worker basis trace report) ⊎ ((before : ℕ) × (now : ℕ) × IsFaithfulSchedule (Rose before now) basis trace report))
 
 -- Two commands, one behind the other on one bench, each a run, stopped or not, or a schedule, have one history: what the first did and then what the second did, legal from the files that the first began with
 -- and, behind them, those of the second's new names. It leaves the files that the second shows.

@@ -1,26 +1,17 @@
 -- Scheduling: a schedule that is followed over a bench, and what it leaves.
-use Rattle.std.specs.Prelude.{◌≡◌, ℕ, ◌*◌, ◌<◌, ◌≤◌, min, false, List, [], ◌++◌, map, slice_index_or, Option, Some, Result, Ok}
+use Rattle.std.specs.Prelude.{◌≡◌, ℕ, ◌*◌, min, false, List, [], ◌++◌, map, Option, Result, Ok}
 use Rattle.nv_pmem.specs.Rows.{row_words}
 use Rattle.nv_pmem.specs.declared.picker.Pick.{Pick}
 use Rattle.nv_bench.specs.Benches.{BenchState}
 use Rattle.nv_bench.specs.Holding.{Holding, NamedStore}
-use Rattle.nv_bench.specs.Powered.{powered}
-use Rattle.nv_store.specs.Store.{Store}
 use Rattle.nv_open.specs.Held.{files_named}
-use Rattle.nv_open.specs.Lending.{stores_named}
-use Rattle.nv_recover.specs.Standing.{files_of}
 use Rattle.nv_recover.specs.Recovering.{HasFoundAll}
 use Rattle.nv_recover.specs.declared.recovering.Recovered as recover
-use Rattle.nv_core.specs.content.StorePages.{store_of_value}
 use Rattle.nv_core.specs.crash.CrashImages.{OpensRegion}
-use Rattle.nv_core.specs.log.Written.{IsPart}
-use Rattle.nv_core.specs.state.Words.{STORE}
-use Rattle.nv_table.specs.state.Layout.{cell_of}
 use Rattle.nv_table.specs.state.Opened.{Opened, mount_of, state_of}
-use Rattle.nv_table.specs.state.Views.{PassView, values_of}
+use Rattle.nv_table.specs.state.Views.{PassView}
 use Rattle.nv_mount.specs.RisenCounts.{SawStop}
 use Rattle.nv_mount.specs.Telling.{HasLongParts}
-use Rattle.nv_mount.specs.WholeWrites.{LeavesWholeWrites}
 use Rattle.nv_mount.specs.declared.fds.Fd.{Fd}
 use Rattle.nv_trace.specs.Traced.{Traced}
 use Rattle.nv_trace.specs.declared.token.Token.{Token}
@@ -39,7 +30,8 @@ use Rattle.nv_schedule.specs.declared.schedule_error.ScheduleError.{ScheduleErro
 use Rattle.nv_schedule.specs.declared.scheduled.ScheduledCalls.{ScheduledCalls}
 use Rattle.nv_top.specs.Readings.{HavePlainNames}
 use Rattle.nv_top.specs.Reports.{report_text}
-use Rattle.nv_top.specs.Stopping.{HasLostPower, ShowsOpen, ShowsRecovered}
+use Rattle.nv_top.specs.Behind.{HasLostPowerBehind}
+use Rattle.nv_top.specs.Stopping.{ShowsOpen, ShowsRecovered}
 use Rattle.nv_top.specs.declared.words.RunOptions.{RunOptions}
 
 -- All that was lent came back to a bench that may have been armed meanwhile, and have lost power since: it is as it was, but for what it tells, its counts, and what power left, with which picks.
@@ -72,20 +64,6 @@ pub record ShowsOutcome (holding : Holding) (outcome : Result ScheduledCalls Sch
   pub sorted : SortedCalls
   pub sorted_out : AreSortedOut (made_calls calls.answered.items) sorted
   pub shown : ShowsRecovered holding sorted (map (λ call. call.now) calls.unanswered.items) told text
-
--- A bench holds at home what the cells of a run kept at its end, as a pass saw it last: the parts of the header and of the entries, and the stores of these names.
-pub record HoldsCells (view : PassView) (names : List (List ℕ)) (home : Holding) : Type 0 where
-  pub parts : (slot : ℕ) → slot ≤ view.opened.sizes.entries → IsPart (values_of view (cell_of view.opened.sizes slot)) (slice_index_or home.parts slot [])
-  pub stores : (file : ℕ) (none : Store) → file < view.opened.sizes.files → store_of_value (values_of view (STORE file)) ≡ Some (slice_index_or (stores_named names home.stores) file none)
-
--- Power went off behind the run that a pass saw last so, and left the image that the pick names of what that run's cells kept. It recovers to the files after the history of all callers and then the kept ones of their writes in flight,
--- each whole.
-pub record HasLostPowerBehind (view : PassView) (pick : Pick) (before : List Pick) (basis : Basis) (many : ℕ) (others : List NamedStore) (bench : BenchState) : Type 0 where
-  pub lost : HasLostPower pick before basis many others bench
-  pub home : Holding
-  pub cells : HoldsCells view basis.names home
-  pub power_is : lost.power ≡ powered pick home
-  pub whole : LeavesWholeWrites view basis.files basis.names (row_words lost.power.parts) (files_of (stores_named basis.names lost.power.stores))
 
 -- the descriptors of a trace, over the files of a basis
 abbrev pub fds_in : Basis → Traced → List Fd

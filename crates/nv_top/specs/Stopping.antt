@@ -1,5 +1,5 @@
 -- Stopping: a run that is stopped at a device call, and what it leaves.
-use Rattle.std.specs.Prelude.{◌≡◌, ◌⊎◌, ℕ, ◌+◌, ◌≤◌, Bool, false, List, [], ◌∷◌, length, All, Option, Some, Result, Ok, Err}
+use Rattle.std.specs.Prelude.{◌≡◌, ◌⊎◌, ℕ, ◌+◌, ◌≤◌, false, List, [], ◌∷◌, length, All, Option, Some, Result, Ok, Err}
 use Rattle.nv_plain.specs.Faults.{Rose}
 use Rattle.nv_plain.specs.Files.{Files}
 use Rattle.nv_plain.specs.Images.{header_of}
@@ -17,17 +17,11 @@ use Rattle.nv_open.specs.Held.{files_named, header_names}
 use Rattle.nv_open.specs.Refusals.{head_image}
 use Rattle.nv_recover.specs.Recovering.{HasFoundAll}
 use Rattle.nv_recover.specs.declared.recovering.Recovered as recover
-use Rattle.nv_trace.specs.Traced.{Traced}
-use Rattle.nv_trace.specs.declared.report.Fate.{Fate}
 use Rattle.nv_trace.specs.declared.trace_call.TracedCall.{TracedCall}
-use Rattle.nv_core.specs.state.Passes.{IsOneOf}
-use Rattle.nv_runner.specs.Entries.{entries_taken}
-use Rattle.nv_runner.specs.DrawnNumbers.{DrawnCall, DrewInARow}
-use Rattle.nv_runner.specs.Faithful.{Basis, IsFaithful, drawing_calls, files_shown}
-use Rattle.nv_top.specs.Fates.{AreShownOpen, fate_of}
+use Rattle.nv_runner.specs.Faithful.{Basis}
+use Rattle.nv_top.specs.Fates.{AreShownOpen}
 use Rattle.nv_top.specs.Outcomes.{shown_report}
-use Rattle.nv_top.specs.Readings.{HavePlainNames}
-use Rattle.nv_runner.specs.Reports.{OpenCall, Report}
+use Rattle.nv_runner.specs.Reports.{OpenCall}
 use Rattle.nv_top.specs.Reports.{report_text}
 use Rattle.nv_top.specs.declared.ending.Stop.{Stop}
 use Rattle.nv_top.specs.declared.ending.Stop.TheVariants.{Usage, BadLine, InputLong, Read, Device, Region, NoMemory, Turns}
@@ -100,26 +94,9 @@ pub record ShowsRecovered (holding : Holding) (sorted : SortedCalls) (begun : Li
   pub left : RestsWith (header_of (head_image holding.parts)).page (header_of (head_image holding.parts)).entries (header_names holding.parts) found.next
       (files_named holding.parts (header_names holding.parts) holding.stores) (length holding.parts) (without_stores (header_names holding.parts) holding.stores) told
 
--- the fate of a write that drew this number, by what the log recovers to that stands in these parts
-abbrev pub fate_in : List Part → Files → ℕ → Fate
-fate_in parts files number =
-    let log = recovered (row_words parts) files in
-    fate_of log.first log.groups number
-
 -- the number behind the log that stands in these parts
 abbrev pub next_in : List Part → Files → ℕ
 next_in parts files = (recovered (row_words parts) files).next
-
--- A write that was left open is one of these calls that drew, and has its fate by its number: that is no lower than the first one that the log recovers to that stands in these parts, which says what became of
--- the write.
-abbrev pub HasFate : List Part → Files → List DrawnCall → OpenCall → Type 0
-HasFate parts files drawn o =
-    (number : ℕ) × IsOneOf drawn (record { call = o.call; number = number }) × ((recovered (row_words parts) files).first ≤ number) × (o.fate ≡ fate_in parts files number)
-
--- The placed and the open calls drew their numbers in a row, from the basis' next one on; and each open one is kept or lost by its number, as the log says that stands in these parts.
-pub record HaveFates (basis : Basis) (parts : List Part) (report : Report) : Type 0 where
-  pub drew : DrewInARow (entries_taken basis.sizes.page) basis.next (drawing_calls report)
-  pub each : All (HasFate parts basis.files drew.drawn) report.open_calls
 
 -- Power went off once more than with those picks, with this one, and left this of a bench. That was recovered: the bench rests with the files that it recovers to, and with the sizes of the basis; the log goes on where that of what power
 -- left ended. The bench has so many parts, and these other stores.
@@ -129,13 +106,3 @@ pub record HasLostPower (pick : Pick) (before : List Pick) (basis : Basis) (many
   pub power_left : bench.left ≡ Some power
   pub stands : files_named power.parts basis.names power.stores ≡ (recovered (row_words power.parts) (files_of (stores_named basis.names power.stores))).files
   pub rests : RestsWith basis.sizes.page basis.sizes.entries basis.names (next_in power.parts basis.files) (files_named power.parts basis.names power.stores) many others bench.told
-
--- The text is that of a faithful report of a run of the trace. Power went off behind it, with this pick; what it left stood for the files that are shown, and the fates are by the log of that.
-pub record HasStoppedOn (failed : Type 0) (worker : Bool) (pick : Pick) (before : List Pick) (basis : Basis) (trace : Traced) (many : ℕ) (others : List NamedStore) (bench : BenchState) (text : List ℕ) : Type 0 where
-  pub report : Report
-  pub faithful : IsFaithful failed worker basis trace report
-  pub plain : HavePlainNames report.files
-  pub text_is : text ≡ report_text report
-  pub lost : HasLostPower pick before basis many others bench
-  pub shows : files_named lost.power.parts basis.names lost.power.stores ≡ files_shown basis trace report
-  pub fated : HaveFates basis lost.power.parts report

@@ -20,7 +20,8 @@ use Rattle.nv_top.specs.Headline.{HasStopped, IsRunRefused}
 use Rattle.nv_top.specs.Lives.{HasLived, LeavesRun}
 use Rattle.nv_top.specs.Reported.{HasRunTrace}
 use Rattle.nv_top.specs.Runs.{basis_over}
-use Rattle.nv_top.specs.Stopping.{HasStoppedOn, IsAway, IsSettledStop}
+use Rattle.nv_top.specs.Stopped.{HasStoppedOn}
+use Rattle.nv_top.specs.Stopping.{IsAway, IsSettledStop}
 use Rattle.std.specs.Global.{Vec}
 use Rattle.nv_top.specs.Stops.{CountHasCause, stop_of_opening}
 use Rattle.nv_top.specs.declared.ending.Stop.TheVariants.{NoMemory, Region}

@@ -12,7 +12,8 @@ use Rattle.nv_mount.specs.RisenCounts.{SawStop, failed_before}
 use Rattle.nv_runner.specs.EndedRuns.{HasOutcome}
 use Rattle.nv_runner.specs.Faithful.{Basis}
 use Rattle.nv_top.specs.Runs.{BeginsMount}
-use Rattle.nv_top.specs.Stopping.{HasStoppedOn, IsAway, ShowsRecovered}
+use Rattle.nv_top.specs.Stopped.{HasStoppedOn}
+use Rattle.nv_top.specs.Stopping.{IsAway, ShowsRecovered}
 use Rattle.nv_top.proofs.PoweredHomes.{part_shown, parts_counted, store_shown}
 use Rattle.nv_top.proofs.StoppingLemmas.{HasRunToClose, at_some, closed_over, count_grows, failed_same, given_home, has_stopped, home_with, if_some, left_behind, none_unless, quiet_after, rose_home}
 use Rattle.nv_top.proofs.UnrefusedLemmas.{never_refused}
@@ -112,7 +113,7 @@ returns-clause-ran g c =
     (1 + mount.board.opened.sizes.entries + length pass.spare)
     (behind.many_are ∙ length-map came.parts.items g.T.Part.Lines.history
     ∙ parts_counted _ came.parts.items (1 + mount.board.opened.sizes.entries) pass.spare ran.2.many_parts (ran.2.same_spare ∙ out.run_out.spare))
-    left.stores behind.others_are behind.whole))
+    left.stores behind.others_are behind.whole c.runs_are_faithful.ensures.kept behind.before behind.cells behind.after_is))
     c.show_recovered.ensures.shown
 
 pub returns-clause-never : goal.returns-clause-never

@@ -8,7 +8,8 @@ use Rattle.nv_recover.specs.Standing.{files_of}
 use Rattle.nv_mount.specs.RisenCounts.{failed_before}
 use Rattle.nv_runner.specs.Faithful.{Basis}
 use Rattle.nv_top.specs.Runs.{BeginsMount, basis_over}
-use Rattle.nv_top.specs.Stopping.{HasStoppedOn, IsAway}
+use Rattle.nv_top.specs.Stopped.{HasStoppedOn}
+use Rattle.nv_top.specs.Stopping.{IsAway}
 use Rattle.std.proofs.Common.{◌∙◌, ap, arith, refl, length}
 use Rattle.std.proofs.lemmas.List.{length-map}
 use Rattle.nv_bench.specs.Holding.{Holding, named_stores}
