@@ -1,6 +1,6 @@
 -- What a bench tells to which devices come back, and that it stands as before.
-use Rattle.std.proofs.Common.{◌≡◌, ℕ, List, [], ◌++◌, length, map, refl, sym, ap, subst, ◌∙◌}
-use Rattle.std.specs.Prelude.{All, Option, Some, None, IfSome, option_map, Result, Ok, Err, IfErr}
+use Rattle.std.proofs.Common.{◌≡◌, ℕ, suc, zero, List, [], ◌∷◌, ◌++◌, length, map, take, refl, sym, ap, subst, ◌∙◌, arith}
+use Rattle.std.specs.Prelude.{All, Contains, Option, Some, None, IfSome, option_map, Result, Ok, Err, IfErr}
 use Rattle.std.proofs.lemmas.List.{append-nil, length-map}
 use Rattle.nv_plain.specs.Files.{Files}
 use Rattle.nv_plain.specs.Layouts.{version_1}
@@ -18,10 +18,10 @@ use Rattle.nv_header.specs.Regions.{IsAtRest}
 use Rattle.nv_recover.specs.Standing.{StandsStill, files_of}
 use Rattle.nv_recover.specs.Telling.{AllTell}
 use Rattle.nv_pmem.specs.Rows.{row_words}
-use Rattle.nv_open.specs.Held.{HoldFiles, header_names}
+use Rattle.nv_open.specs.Held.{HoldFiles, header_names, returned}
 use Rattle.nv_open.specs.Lending.{stores_lent, stores_named, without_named, without_stores}
-use Rattle.nv_open.specs.Unopened.{HasHeader, GivesBack, IsAtRestWith, StandAsBefore, StandsAsBefore, TellsOf}
-use Rattle.nv_open.proofs.Homes.{all_same_again, back_again}
+use Rattle.nv_open.specs.Unopened.{HasHeader, GivesBack, IsAtRestWith, IsGood, IsUntouched, StandAsBefore, StandsAsBefore, TellsOf}
+use Rattle.nv_open.proofs.Homes.{all_same_again, back_again, none_in, others_again, same_again}
 use Rattle.nv_open.proofs.LogLaws.{states_many}
 use Rattle.nv_open.proofs.Returns.{named_quiet}
 use Rattle.nv_open.proofs.Stands.{stands_read}
@@ -40,6 +40,13 @@ pub home_distinct : (old : BenchState) (holding : Holding) → HasDistinctStores
 home_distinct old holding named told home =
     let Distinct : List (List ℕ) → Type 0 = λ lent. AreDistinct (names_of holding.stores ++ lent) in
     subst AreDistinct (append-nil (names_of holding.stores)) (subst Distinct home (at_some old.told (λ holding. AreDistinct (names_of holding.stores ++ old.lent)) holding told named))
+
+-- the first of some names are among them
+pub among : (count : ℕ) (names : List (List ℕ)) (name : List ℕ) → Contains (take count names) name → Contains names name
+among zero names name there = absurd (let below = there.1 in omega (arith, below))
+among (suc count) [] name there = there
+among (suc count) (first ∷ rest) name (zero, inside, is) = (0, omega arith, is)
+among (suc count) (first ∷ rest) name (suc k, inside, is) = let later = among count rest name (k, omega (arith, inside), is) in (suc later.0, (let below = later.1 in omega (arith, below)), later.2)
 
 -- what a bench is to tell to which stores of these names come back
 pub told_with : (old new : BenchState) (lent : List (List ℕ)) (holding : Holding) (now : List Part) (held : List Store) → old.told ≡ Some holding → old.lent ≡ [] → new ≡ with_faults new.faults (stores_lent lent old)
@@ -73,16 +80,58 @@ module _ {X Y : Type 0} (part_history : X → lines.PartHistory) (store_history 
           told_is = told_with old new lent holding told held told_is home is;
           is_so =
               stands_read told holding.stores back (row_tells_at (map part_history before) AreQuiet told told_are quiet) (named_quiet (header_names told) holding.stores still) readable refl
-              (all_same_again (header_names told) lent holding.stores (home_distinct old holding named told_is home));
+              (all_same_again (header_names told) lent holding.stores (home_distinct old holding named told_is home))
+              (record { many_are = refl; others = λ name other. same_again name lent holding.stores (home_distinct old holding named told_is home) });
         };
       }))
 
+  abbrev Untouched : Holding → List Part → Type 0
+  Untouched holding told = ¬ (IsGood told) → GivesBack part_history store_history (IsUntouched (record { parts = told; stores = holding.stores })) new now stores
+
+  abbrev AreOfHeader : List (List ℕ) → List Part → Type 0
+  AreOfHeader lent told = (name : List ℕ) → Contains lent name → Contains (header_names told) name
+
+  -- devices of a region that isn't good
+  pub untouched_back : (lent : List (List ℕ)) → new ≡ with_faults new.faults (stores_lent lent old) → RowTells (map part_history before) (AreOfHeader lent)
+      → ((holding : Holding) → old.told ≡ Some holding → (told : List Part) → AreNow (map part_history before) told → ¬ (IsGood told)
+      → AreNow (map part_history now) told × AreNow (map store_history stores) (stores_named lent holding.stores))
+      → IfSome old.told (λ holding. RowTells (map part_history before) (Untouched holding))
+  untouched_back lent is of_header are =
+      if_some old.told (λ holding. RowTells (map part_history before) (Untouched holding)) (λ holding told_is.
+      row_tells_from (map part_history before) (Untouched holding) (λ told told_are not_good.
+      let both = are holding told_is told told_are not_good in
+      record {
+        now = told;
+        held = stores_named lent holding.stores;
+        now_are = both.0;
+        held_are = both.1;
+        tells = record {
+          now = returned lent (record { parts = told; stores = holding.stores });
+          told_is = told_with old new lent holding told (stores_named lent holding.stores) told_is home is;
+          is_so = record { lent = lent; of_header = row_tells_at (map part_history before) (AreOfHeader lent) told told_are of_header; now_is = refl };
+        };
+      }))
+
+  -- and of any that was only read
+  pub read_untouched : (lent : List (List ℕ)) → map part_history now ≡ map part_history before → new ≡ with_faults new.faults (stores_lent lent old)
+      → IfSome old.told (λ holding. AreNow (map store_history stores) (stores_named lent holding.stores)) → RowTells (map part_history before) (AreOfHeader lent)
+      → IfSome old.told (λ holding. RowTells (map part_history before) (Untouched holding))
+  read_untouched lent same is are of_header =
+      untouched_back lent is of_header (λ holding told_is told told_are not_good. (
+        subst (λ (row : List lines.PartHistory). AreNow row told) (sym same) told_are,
+        at_some old.told (λ holding. AreNow (map store_history stores) (stores_named lent holding.stores)) holding told_is are,
+      ))
+
+  -- no name at all
+  pub none_of_header : RowTells (map part_history before) (AreOfHeader [])
+  none_of_header = row_tells_from (map part_history before) (AreOfHeader []) (λ told told_are name there. absurd (none_in name there))
+
   -- devices of a recovery that failed
-  pub stood_back : (names : List (List ℕ)) → RowTells (map part_history before) (λ told. header_names told ≡ names) → AreFileNames version_1 names → length stores ≡ length names
+  pub stood_back : (names : List (List ℕ)) → RowTells (map part_history before) (λ told. header_names told ≡ names) → AreFileNames version_1 names → length stores ≡ length names → length now ≡ length before
       → new ≡ with_faults new.faults (stores_lent names old)
       → ((holding : Holding) → old.told ≡ Some holding → (told : List Part) → AreNow (map part_history before) told → StandAsBefore told (stores_named names holding.stores) (map part_history now) (map store_history stores))
       → IfSome old.told (λ holding. RowTells (map part_history before) (λ told. HasHeader told → GivesBack part_history store_history (StandsAsBefore (record { parts = told; stores = holding.stores })) new now stores))
-  stood_back names named_so are_names one_each is stands =
+  stood_back names named_so are_names one_each as_many is stands =
       if_some old.told (λ holding. RowTells (map part_history before) (λ told. HasHeader told → GivesBack part_history store_history (StandsAsBefore (record { parts = told; stores = holding.stores })) new now stores)) (λ holding told_is.
       row_tells_from (map part_history before) (λ told. HasHeader told → GivesBack part_history store_history (StandsAsBefore (record { parts = told; stores = holding.stores })) new now stores) (λ told told_are readable.
       let left = stands holding told_is told told_are in
@@ -103,9 +152,27 @@ module _ {X Y : Type 0} (part_history : X → lines.PartHistory) (store_history 
           is_so = record {
             same_names = left.same_names;
             stands = subst Stands (sym same) (subst (λ held. StandsStill (row_words told) (files_of (stores_named names holding.stores)) left.now held) (sym again) left.stands);
+            rest = record {
+              many_are =
+                  states_many (map part_history now) left.now left.now_are ∙ length-map now part_history ∙ as_many
+                  ∙ sym (states_many (map part_history before) told told_are ∙ length-map before part_history);
+              others = λ name other. others_again name names holding.stores left.held (subst (λ these. ¬ (Contains these name)) same other);
+            };
           };
         };
       }))
+
+-- the names of the header, and the first of them
+pub all_of_header : (row : List lines.PartHistory) (names : List (List ℕ)) → RowTells row (λ told. header_names told ≡ names) → RowTells row (λ told. (name : List ℕ) → Contains names name → Contains (header_names told) name)
+all_of_header row names says =
+    row_tells_from row (λ told. (name : List ℕ) → Contains names name → Contains (header_names told) name) (λ told are name there.
+    subst (λ these. Contains these name) (sym (row_tells_at row (λ told. header_names told ≡ names) told are says)) there)
+
+pub first_of_header : (row : List lines.PartHistory) (count : ℕ) (names : List (List ℕ)) → RowTells row (λ told. header_names told ≡ names)
+    → RowTells row (λ told. (name : List ℕ) → Contains (take count names) name → Contains (header_names told) name)
+first_of_header row count names says =
+    row_tells_from row (λ told. (name : List ℕ) → Contains (take count names) name → Contains (header_names told) name) (λ told are name there.
+    subst (λ these. Contains these name) (sym (row_tells_at row (λ told. header_names told ≡ names) told are says)) (among count names name there))
 
 -- parts at rest, with the stores of their names that were lent
 pub rest_back : {X Y : Type 0} (part_history : X → lines.PartHistory) (store_history : Y → StoreHistory) (bench : BenchState) (parts : List X) (stores : List Y) (page entries : ℕ) (names : List (List ℕ)) (next : ℕ) (files : Files)
@@ -141,8 +208,20 @@ still_stands old new was is told quiet readable =
     record {
       now = was;
       told_is = ap (λ (state : BenchState). state.told) is ∙ told;
-      is_so = stands_read was.parts was.stores was still.parts (named_quiet (header_names was.parts) was.stores still.stores) readable refl refl;
+      is_so = stands_read was.parts was.stores was still.parts (named_quiet (header_names was.parts) was.stores still.stores) readable refl refl
+          (record { many_are = refl; others = λ name other. refl });
     }
+
+pub still_untouched : (old new : BenchState) (was : Holding) → new ≡ with_faults new.faults old → old.told ≡ Some was → TellsOf (IsUntouched was) new.told
+still_untouched old new was is told = record {
+  now = was;
+  told_is = ap (λ (state : BenchState). state.told) is ∙ told;
+  is_so = record {
+    lent = [];
+    of_header = λ name there. absurd (none_in name there);
+    now_is = ap (λ (stores : List NamedStore). record { parts = was.parts; stores = stores }) (sym (append-nil was.stores));
+  };
+}
 
 pub if_err_any : {T E : Type 0} {P : E → Type 0} (result : Result T E) → ((error : E) → P error) → IfErr result P
 if_err_any (Ok value) each = tt

@@ -1,5 +1,5 @@
 -- Homes: which store a name finds at a bench to which stores came back behind those that were there.
-use Rattle.std.proofs.Common.{◌≡◌, ◌≢◌, ◌⊎◌, ℕ, ◌<◌, Bool, true, false, cond, zero, suc, All, List, [], ◌∷◌, ◌++◌, length, map, get_or, slice_index_or, inl, inr, refl, sym, ap, subst, ◌∙◌, arith}
+use Rattle.std.proofs.Common.{◌≡◌, ◌≢◌, ◌⊎◌, ℕ, ◌<◌, Bool, true, false, cond, zero, suc, All, List, [], ◌∷◌, ◌++◌, length, slice_index_or, inl, inr, refl, sym, ap, subst, ◌∙◌, arith}
 use Rattle.std.specs.Prelude.{nat_eq, Contains, if◌then◌else◌}
 use Rattle.std.specs.Cmp.Lexicographic.{same_text, other_text}
 use Rattle.std.proofs.lemmas.List.Elements.{All-nil, All-cons, All-head, All-tail}
@@ -30,7 +30,7 @@ own_name name = true_unless (pointwise nat_eq name name) (λ other. other_text n
 pub other_name : (one other : List ℕ) → one ≢ other → pointwise nat_eq one other ≡ false
 other_name one other differ = false_unless (pointwise nat_eq one other) (λ same. differ (same_text one other same))
 
-none_in : (name : List ℕ) → ¬ (Contains [] name)
+pub none_in : (name : List ℕ) → ¬ (Contains [] name)
 none_in name (k, inside, is) = absurd (omega (arith, inside))
 
 -- a name is one of some, or none
@@ -171,6 +171,11 @@ all_same_again (name ∷ names) lent stores distinct =
     let back = without_stores lent stores ++ named_stores lent (stores_named lent stores) in
     ap (λ (store : Store). store ∷ stores_named names back) (same_again name lent stores distinct)
     ∙ ap (λ (others : List Store). store_of name stores ∷ others) (all_same_again names lent stores distinct)
+
+-- a store of another name, where some came back
+pub others_again : (name : List ℕ) (lent : List (List ℕ)) (stores : List NamedStore) (held : List Store) → ¬ (Contains lent name) → store_of name (without_stores lent stores ++ named_stores lent held) ≡ store_of name stores
+others_again name lent stores held absent =
+    in_front name (without_stores lent stores) (named_stores lent held) (not_given name lent held absent) ∙ store_of_others name lent stores absent
 
 -- stores of names that differ, as they came back
 pub back_again : (names : List (List ℕ)) (stores : List NamedStore) (held : List Store) → AreDistinct (names_of stores) → length names ≡ length held

@@ -1,15 +1,18 @@
 -- What each step of an opening leaves, put together of what its calls did.
 use Rattle.std.proofs.Common.{◌≡◌, ◌+◌, ℕ, List, [], ◌++◌, length, map, true, false, sym, ap, ◌∙◌, subst, arith, length-append}
-use Rattle.std.specs.Prelude.{All, IfSome, option_map, Vec, Result, Ok, Err, IfOk, IfErr}
+use Rattle.std.specs.Prelude.{All, IfSome, Option, None, Some, option_map, Vec, Result, Ok, Err, IfOk, IfErr}
 use Rattle.std.proofs.lemmas.List.{length-map}
 use Rattle.nv_plain.specs.Files.{Files}
 use Rattle.nv_pmem.specs.Moments.{Tells}
+use Rattle.nv_pmem.specs.Part.{Part}
+use Rattle.nv_pmem.specs.RowStates.{row_tells_at, row_tells_from}
 use Rattle.nv_pmem.specs.Rows.{RowTells}
 use Rattle.nv_pmem.specs.Steps as lines
 use Rattle.nv_pmem.specs.declared.geometry.Geometry.{Geometry}
 use Rattle.nv_store.specs.Steps.{StoreHistory}
 use Rattle.nv_store.specs.Store.{IsQuietStore}
 use Rattle.nv_bench.specs.Benches.{BenchState, with_faults}
+use Rattle.nv_bench.specs.Holding.{Holding}
 use Rattle.nv_bench.specs.Opening.{is_blank}
 use Rattle.nv_bench.specs.declared.bench.BenchError.{BenchError}
 use Rattle.nv_bench.specs.declared.bench.BenchError.TheVariants.{Failed, NoMemory}
@@ -19,11 +22,11 @@ use Rattle.nv_recover.specs.Telling.{AllTell}
 use Rattle.nv_recover.specs.declared.recovering.Recovered.{Recovered}
 use Rattle.nv_open.specs.Held.{AreUnwritten, HoldFiles, IsRecovered, files_named}
 use Rattle.nv_open.specs.Adding.{all_names, new_names}
-use Rattle.nv_open.specs.Begun.{IsFormatted, files_behind}
+use Rattle.nv_open.specs.Begun.{IsFormatted, IsOpeningBegun, files_behind}
 use Rattle.nv_open.specs.Layers.{HasAdded, HasNotAdded, IsBegunOpen, IsNotBegun, IsNotRecovered, IsOpenedOpen, IsRecoveredOpen, IsUnopened}
 use Rattle.nv_open.specs.Lending.{stores_lent, without_named}
 use Rattle.nv_open.specs.Refusals.{IsRefusedFor, of_bench}
-use Rattle.nv_open.specs.Unopened.{GivesBack, HasHeader, HasSome, InEachImage, RestsUnopened, StandForFiles, StandsAsBefore, StandsWithSome}
+use Rattle.nv_open.specs.Unopened.{GivesBack, HasHeader, HasRest, HasSome, InEachImage, IsGood, IsUntouched, RestsUnopened, StandForFiles, StandsAsBefore, StandsOpening}
 use Rattle.nv_open.specs.declared.error.OpenError.{OpenError}
 use Rattle.nv_open.specs.declared.error.OpenError.TheVariants as error
 use Rattle.nv_open.specs.declared.error.Refusal.{Refusal}
@@ -45,6 +48,23 @@ never_by_fault why told is refused = absurd (let both : error.Fault ≡ error.Re
 -- nor does want of memory
 pub never_by_memory : {A : Type 0} (why : Refusal) → error.NoMemory ≡ error.Refused why → A
 never_by_memory why refused = absurd (let both : error.NoMemory ≡ error.Refused why = refused in cc)
+
+-- a region that was opened, and isn't blank, is good
+pub good_begun : (told : List Part) (geometry : Geometry) (page entries : ℕ) (names : List (List ℕ)) (next : ℕ) → IsOpeningBegun told geometry page entries names next → is_blank told ≡ false → IsGood told
+good_begun told geometry page entries names next begun kept =
+    let recovered = (begun.kept kept).recovered in record { readable = recovered.readable; long = recovered.long; fits = recovered.log.fits }
+
+pub never_bad : (found : Option Holding) (row : List lines.PartHistory) (P : Holding → List Part → Type 0) → RowTells row (λ told. is_blank told ≡ false → ¬ (IsGood told) → ⊥)
+    → IfSome found (λ holding. RowTells row (λ told. is_blank told ≡ false → ¬ (IsGood told) → P holding told))
+never_bad None row P never = tt
+never_bad (Some holding) row P never =
+    row_tells_from row (λ told. is_blank told ≡ false → ¬ (IsGood told) → P holding told) (λ told are kept not_good. absurd (row_tells_at row (λ told. is_blank told ≡ false → ¬ (IsGood told) → ⊥) told are never kept not_good))
+
+pub not_blank : (found : Option Holding) (row : List lines.PartHistory) (P : Holding → List Part → Type 0) → IfSome found (λ holding. RowTells row (λ told. ¬ (IsGood told) → P holding told))
+    → IfSome found (λ holding. RowTells row (λ told. is_blank told ≡ false → ¬ (IsGood told) → P holding told))
+not_blank None row P each = tt
+not_blank (Some holding) row P each =
+    row_tells_from row (λ told. is_blank told ≡ false → ¬ (IsGood told) → P holding told) (λ told are kept. row_tells_at row (λ told. ¬ (IsGood told) → P holding told) told are each)
 
 -- rows of as many parts
 pub as_many : {X : Type 0} (part_history : X → lines.PartHistory) (now before : List X) → map part_history now ≡ map part_history before → length now ≡ length before
@@ -80,12 +100,15 @@ module _ {X Y : Type 0} (part_history : X → lines.PartHistory) (store_history 
       → ((why : Refusal) → answer_of result ≡ Err (error.Refused why) → AreUnwritten part_history store_history why old new before (parts_after result) stores)
       → IfErr result (λ failed. IfSome old.told (λ holding. RowTells (map part_history before) (λ told. HasHeader told
       → GivesBack part_history store_history (StandsAsBefore (record { parts = told; stores = holding.stores })) new failed.0.items stores)))
+      → IfErr result (λ failed. IfSome old.told (λ holding. RowTells (map part_history before) (λ told. ¬ (IsGood told)
+      → GivesBack part_history store_history (IsUntouched (record { parts = told; stores = holding.stores })) new failed.0.items stores)))
       → IfErr result (λ failed. IsNotRecovered part_history store_history old new before failed.0.items stores failed.1)
-  not_recovered (Ok done) refused unwritten standing = tt
-  not_recovered (Err failed) refused unwritten standing = record {
+  not_recovered (Ok done) refused unwritten standing untouched = tt
+  not_recovered (Err failed) refused unwritten standing untouched = record {
     refused = λ why is. refused why (ap Err is);
     unwritten = λ why is. unwritten why (ap Err is);
     standing = standing;
+    untouched = untouched;
   }
 
   -- ---- a beginning
@@ -126,10 +149,12 @@ module _ {X Y : Type 0} (part_history : X → lines.PartHistory) (store_history 
       → ((why : Refusal) → IfErr result (λ failed. failed.1 ≡ error.Refused why → IfSome old.told (λ holding. RowTells (map part_history before) (λ told. (is_blank told ≡ false) × IsRefusedFor told why))))
       → ((why : Refusal) → IfErr result (λ failed. failed.1 ≡ error.Refused why → AreUnwritten part_history store_history why old new before failed.0.items stores))
       → ((wanted : List (List ℕ)) → IfErr result (λ failed. IfSome old.told (λ holding. RowTells (map part_history before) (λ told. StandForFiles told
-      → GivesBack part_history store_history (InEachImage (StandsWithSome (record { parts = told; stores = holding.stores }) wanted)) new failed.0.items stores))))
+      → GivesBack part_history store_history (StandsOpening (length told) (record { parts = told; stores = holding.stores }) wanted) new failed.0.items stores))))
+      → IfErr result (λ failed. IfSome old.told (λ holding. RowTells (map part_history before) (λ told. is_blank told ≡ false → ¬ (IsGood told)
+      → GivesBack part_history store_history (IsUntouched (record { parts = told; stores = holding.stores })) new failed.0.items stores)))
       → IfErr result (λ failed. IsNotBegun part_history store_history old new before failed.0.items stores failed.1)
-  not_formatted (Ok region) refused unwritten standing = tt
-  not_formatted (Err failed) refused unwritten standing = record { refused = refused; unwritten = unwritten; standing = standing }
+  not_formatted (Ok region) refused unwritten standing untouched = tt
+  not_formatted (Err failed) refused unwritten standing untouched = record { refused = refused; unwritten = unwritten; standing = standing; untouched = untouched }
 
   pub not_recovered_begins : (back left : List X) (error : OpenError)
       → map part_history back ≡ map part_history before → RowTells (map part_history before) (λ told. is_blank told ≡ false)
@@ -144,6 +169,10 @@ module _ {X Y : Type 0} (part_history : X → lines.PartHistory) (store_history 
         kept_back part_history store_history old new (map part_history before) left stores wanted blank
         (subst (λ (row : List lines.PartHistory). IfSome old.told (λ holding. RowTells row (λ told. HasHeader told
         → GivesBack part_history store_history (StandsAsBefore (record { parts = told; stores = holding.stores })) new left stores))) same is.standing);
+    untouched =
+        not_blank old.told (map part_history before) (λ holding told. GivesBack part_history store_history (IsUntouched (record { parts = told; stores = holding.stores })) new left stores)
+        (subst (λ (row : List lines.PartHistory). IfSome old.told (λ holding. RowTells row (λ told. ¬ (IsGood told)
+        → GivesBack part_history store_history (IsUntouched (record { parts = told; stores = holding.stores })) new left stores))) same is.untouched);
   }
 
   -- ---- names that are added
@@ -174,7 +203,7 @@ module _ {X Y : Type 0} (part_history : X → lines.PartHistory) (store_history 
   pub not_added : {A : Type 0} {g : _} (result : Result (Region X g) (Vec X A × OpenError)) (page entries : ℕ) (known wanted : List (List ℕ)) (next : ℕ) (stores_before : List Y)
       → ((why : Refusal) → IfErr result (λ failed. ¬ (failed.1 ≡ error.Refused why)))
       → ((files : Files) → HoldFiles (map store_history stores_before) files → IfErr result (λ failed. IfSome old.told (λ holding. AllTell (map part_history before)
-      → GivesBack part_history store_history (InEachImage (HasSome (length known) (all_names known wanted) (files_behind files (new_names known wanted) holding.stores))) new failed.0.items stores)))
+      → GivesBack part_history store_history (λ now. InEachImage (HasSome (length known) (all_names known wanted) (files_behind files (new_names known wanted) holding.stores)) now × HasRest (length before) known holding.stores now) new failed.0.items stores)))
       → IfErr result (λ failed. HasNotAdded part_history store_history old new page entries known wanted next before failed.0.items stores_before stores failed.1)
   not_added (Ok added) page entries known wanted next stores_before never standing = tt
   not_added (Err failed) page entries known wanted next stores_before never standing = record {
@@ -230,7 +259,12 @@ module _ {X Y A : Type 0} {g : _} (part_history : X → lines.PartHistory) (stor
             (map store_history stores_mid) stores geometry region_geometry.page region_geometry.entries known wanted next mid_told begun.begun begun.files begun.devices.tell (λ refused. (is.refused TooManyFiles refused).1) is.rests;
         standing =
             with_wanted {T = ℕ} part_history store_history (Err failed) (λ (failed : Vec X A × OpenError). failed.0.items) old.told mid.told new (map part_history before) (map part_history region_parts) (map store_history stores_mid) stores geometry
-            region_geometry.page region_geometry.entries known wanted next mid_told begun.begun begun.files begun.devices.tell is.standing;
+            region_geometry.page region_geometry.entries known wanted next (length region_parts) (begun.devices.many ∙ sym (length-map before part_history)) mid_told begun.begun begun.files begun.devices.tell is.standing;
+        untouched =
+            never_bad old.told (map part_history before) (λ holding told. GivesBack part_history store_history (IsUntouched (record { parts = told; stores = holding.stores })) new failed.0.items stores)
+            (row_tells_from (map part_history before) (λ told. is_blank told ≡ false → ¬ (IsGood told) → ⊥) (λ told are kept not_good.
+            not_good (good_begun told geometry region_geometry.page region_geometry.entries known next
+            (row_tells_at (map part_history before) (λ told. IsOpeningBegun told geometry region_geometry.page region_geometry.entries known next) told are begun.begun) kept)));
       }
 
 pub not_begun_opens : {X Y : Type 0} (part_history : X → lines.PartHistory) (store_history : Y → StoreHistory) (old new : BenchState) (before back : List X) (stores : List Y) (geometry : Geometry) (wanted : List (List ℕ)) (error : OpenError)
@@ -243,4 +277,5 @@ not_begun_opens part_history store_history old new before back stores geometry w
       (λ holding told. GivesBack part_history store_history (RestsUnopened (record { parts = told; stores = holding.stores }) geometry wanted) new back stores)
       (is.refused TooManyFiles refused);
   standing = is.standing wanted;
+  untouched = is.untouched;
 }

@@ -24,6 +24,8 @@ use Rattle.nv_recover.specs.declared.error.RecoverError.{RecoverError}
 use Rattle.nv_recover.specs.declared.error.RecoverError.TheVariants as recovery
 use Rattle.nv_recover.specs.declared.recovering.Recovered.{Recovered}
 use Rattle.nv_open.specs.Held.{HoldFiles, IsRecovered}
+use Rattle.nv_open.specs.Unopened.{IsGood}
+use Rattle.nv_plain.specs.Recovered.{Fits}
 use Rattle.nv_open.specs.Refusals.{of_recovery, header_part, CanBeRead, IsRefusedFor, IsBadLog}
 use Rattle.nv_open.specs.declared.error.OpenError.TheVariants as error
 use Rattle.nv_open.specs.declared.error.Refusal.{Refusal}
@@ -82,6 +84,15 @@ module _ {X : Type 0} (history : X → lines.PartHistory) (room : X → Room) (t
         log = row_tells_at (map history parts) (λ these. HasFoundAll (row_words these) found) told are all;
         next_is = next_is;
       })
+
+  -- nothing is written of one that isn't good
+  pub unwritten_unless_good : (old new : Devices) → old.parts ≡ map history parts → UnfitIsUnwritten old new → RowTells (map history parts) (λ told. ¬ (IsGood told) → (new.parts ≡ old.parts) × (new.stores ≡ old.stores))
+  unwritten_unless_good old new row unfit =
+      row_tells_from (map history parts) (λ told. ¬ (IsGood told) → (new.parts ≡ old.parts) × (new.stores ≡ old.stores)) (λ told are not_good.
+      let same : new ≡ old =
+      row_tells_at old.parts (λ told. ¬ (Fits version_1 (row_words told)) → new ≡ old) told (subst (λ (row : List lines.PartHistory). AreNow row told) (sym row) are) unfit
+      (λ fits. not_good (record { readable = can_be_read told are; long = long_told history room told_lines parts told one some are is has; fits = fits })) in
+      (ap (λ (devices : Devices). devices.parts) same, ap (λ (devices : Devices). devices.stores) same))
 
   -- a refusal of the log names the least bad entry
   pub refused_by_log : (refusal : RecoverError) (why : Refusal) → of_recovery refusal ≡ error.Refused why

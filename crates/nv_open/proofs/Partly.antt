@@ -1,25 +1,24 @@
 -- Partly: what an opening leaves that failed.
-use Rattle.std.proofs.Common.{◌≡◌, ◌≢◌, ◌⊎◌, ℕ, ◌+◌, ◌<◌, ◌≤◌, ◌==◌, zero, suc, Bool, true, false, cond, All, List, [], ◌∷◌, ◌++◌, length, map, get_or, slice_index_or, slice_set, take, inl, inr, refl, sym, ap, subst, ◌∙◌, arith, append_assoc, length-append}
-use Rattle.std.specs.Prelude.{Contains, IfSome, Option, Some, None, fold, if◌then◌else◌, option_map}
+use Rattle.std.proofs.Common.{◌≡◌, ◌≢◌, ℕ, ◌+◌, ◌<◌, suc, Bool, true, false, cond, All, List, [], ◌∷◌, ◌++◌, length, map, get_or, slice_index_or, take, inl, inr, refl, sym, ap, subst, ◌∙◌, arith, append_assoc, length-append}
+use Rattle.std.specs.Prelude.{Contains, Option, Some, fold, if◌then◌else◌, option_map}
 use Rattle.std.specs.List.{flat_map}
 use Rattle.std.proofs.Math.Seq.{take-append_seam, take-append-add}
-use Rattle.std.proofs.lemmas.List.{append-nil, get_or_append_left, get_or-append-add, get_or_default, length-map, length-set, map-append, take-map, take_all}
-use Rattle.std.proofs.lemmas.List.Elements.{All-nil, All-cons, All-append, All-take, Contains-append_right}
+use Rattle.std.proofs.lemmas.List.{get_or_append_left, get_or-append-add, get_or_default, length-map, length-set, map-append, take-map, take_all}
+use Rattle.std.proofs.lemmas.List.Elements.{All-nil, All-cons, All-append, Contains-append_right}
 use Rattle.nv_plain.specs.Files.{Files}
 use Rattle.nv_plain.specs.Images.{Image}
 use Rattle.nv_plain.specs.Layouts.{version_1}
-use Rattle.nv_plain.specs.Recovered.{Fits, IsBlank, committed, group_numbers, recovered, with_entry}
-use Rattle.nv_pmem.specs.Laws.{QuietPartHasOneImage}
+use Rattle.nv_plain.specs.Recovered.{Fits, committed, group_numbers, recovered, with_entry}
 use Rattle.nv_pmem.specs.Part.{Part}
-use Rattle.nv_pmem.specs.Rows.{AreQuiet, EachRowMoment, InEachRowImage, IsRowImage, RowTells, row_grown, row_words}
-use Rattle.nv_pmem.specs.RowStates.{AreNow, TellingRowsHaveStates, row_tells_at, row_tells_from}
+use Rattle.nv_pmem.specs.Rows.{EachRowMoment, InEachRowImage, RowTells, row_grown, row_words}
+use Rattle.nv_pmem.specs.RowStates.{AreNow, TellingRowsHaveStates, row_tells_at}
 use Rattle.nv_pmem.specs.Runs.{run}
 use Rattle.nv_pmem.specs.Steps as lines
 use Rattle.nv_store.specs.Steps.{StoreHistory}
 use Rattle.nv_store.specs.Store.{IsQuietStore, Store}
-use Rattle.nv_bench.specs.Benches.{BenchState, told_back, with_faults}
-use Rattle.nv_bench.specs.Holding.{Holding, NamedStore, is_named, named_stores, store_of}
-use Rattle.nv_bench.specs.Naming.{AreDistinct, HasDistinctStores, names_of}
+use Rattle.nv_bench.specs.Benches.{BenchState, with_faults}
+use Rattle.nv_bench.specs.Holding.{Holding, NamedStore, named_stores, store_of}
+use Rattle.nv_bench.specs.Naming.{AreDistinct, names_of}
 use Rattle.nv_bench.specs.Opening.{is_blank}
 use Rattle.nv_header.specs.FileNames.{AreFileNames}
 use Rattle.nv_header.specs.Regions.{HasEmptyLog, IsBlankOrFormatted}
@@ -28,17 +27,16 @@ use Rattle.nv_recover.specs.Telling.{AllTell}
 use Rattle.nv_recover.proofs.AlikeLaws.{empty_fits, empty_recovered}
 use Rattle.nv_recover.proofs.ApplyLaws.{quiet_image}
 use Rattle.nv_recover.proofs.EmptyLaws.{empty_none}
-use Rattle.nv_open.specs.Adding.{all_names, new_names}
+use Rattle.nv_open.specs.Adding.{new_names}
 use Rattle.nv_open.specs.Begun.{files_behind, files_with}
-use Rattle.nv_open.specs.Held.{HoldFiles, files_named, header_names}
+use Rattle.nv_open.specs.Held.{files_named, header_names}
 use Rattle.nv_open.specs.Lending.{stores_lent, stores_named, without_named, without_stores}
-use Rattle.nv_open.specs.Unopened.{GivesBack, HasFirstNames, HasSome, InEachImage, StandForFiles, StandsAsBefore, StandsWithSome, TellRow, first_files, names_in, names_known}
-use Rattle.nv_open.proofs.BlankLaws.{blank_row}
+use Rattle.nv_open.specs.Unopened.{GivesBack, HasFirstNames, HasRest, HasSome, InEachImage, StandsAsBefore, StandsWithSome, TellRow, first_files, names_in, names_known}
+use Rattle.nv_open.proofs.GivenBack.{among}
 use Rattle.nv_open.proofs.Homes.{NotNamed, all_away, all_behind, all_in_front, behind, found_same, in_front, kept_in_all, not_given, one_or_none, other_name, own_stores}
 use Rattle.nv_open.proofs.LogLaws.{states_many}
 use Rattle.nv_open.proofs.Openings.{store_of_others}
 use Rattle.nv_open.proofs.Returns.{named_quiet}
-use Rattle.nv_open.proofs.Stands.{names_read}
 use Rattle.nv_open.proofs.Tells.{did_tells}
 
 -- ---- parts after the last step of a call
@@ -216,13 +214,6 @@ module _ (home : List NamedStore) (known more : List (List ℕ)) (held : List St
       map-append (λ name. store_of name back) known names ∙ ap (λ (stores : List Store). stores ++ stores_named names back) known_back
       ∙ ap (λ (stores : List Store). held ++ stores) (others_back names apart)
 
--- the first of some names are among them
-among : (count : ℕ) (names : List (List ℕ)) (name : List ℕ) → Contains (take count names) name → Contains names name
-among zero names name there = absurd (let below = there.1 in omega (arith, below))
-among (suc count) [] name there = there
-among (suc count) (first ∷ rest) name (zero, inside, is) = (0, omega arith, is)
-among (suc count) (first ∷ rest) name (suc k, inside, is) = let later = among count rest name (k, omega (arith, inside), is) in (suc later.0, (let below = later.1 in omega (arith, below)), later.2)
-
 quiet_first : (names : List (List ℕ)) (stores : List NamedStore) → All (λ (named : NamedStore). IsQuietStore named.store) stores → AreQuietStores (stores_named names stores)
 quiet_first names stores quiet = named_quiet names stores quiet
 
@@ -262,11 +253,11 @@ module _ (home : List NamedStore) (known new more : List (List ℕ)) (held : Lis
       }
 
   -- and that is what a bench is given back
-  pub begun_back : {X Y : Type 0} (part_history : X → lines.PartHistory) (store_history : Y → StoreHistory) (old bench : BenchState) (parts : List X) (stores : List Y) (left : Holding) → old.told ≡ Some left → left.stores ≡ home → old.lent ≡ known
+  pub begun_back : {X Y : Type 0} (part_history : X → lines.PartHistory) (store_history : Y → StoreHistory) (old bench : BenchState) (parts : List X) (stores : List Y) (left : Holding) (many : ℕ) → length parts ≡ many → old.told ≡ Some left → left.stores ≡ home → old.lent ≡ known
       → bench ≡ with_faults bench.faults (stores_lent more old) → TellRow (InEachRowImage (HasFirstNames page entries known new next)) (map part_history parts)
       → AreNow (map store_history stores) (held ++ stores_named more home)
-      → GivesBack part_history store_history (InEachImage (HasSome (length known) (known ++ new) (files_behind files new home))) bench parts stores
-  begun_back part_history store_history old bench parts stores left told at_home lent is row held_are =
+      → GivesBack part_history store_history (λ now. InEachImage (HasSome (length known) (known ++ new) (files_behind files new home)) now × HasRest many known home now) bench parts stores
+  begun_back part_history store_history old bench parts stores left many as_many told at_home lent is row held_are =
       let now_held = held ++ stores_named more home in
       let all : List NamedStore = without_stores more home ++ (named_stores known held ++ named_stores more (stores_named more home)) in
       let back : Holding = record { parts = row.now; stores = all } in
@@ -284,6 +275,12 @@ module _ (home : List NamedStore) (known new more : List (List ℕ)) (held : Lis
               ap (λ (one : Option Holding). option_map (gives bench.lent) one) told_is ∙ ap (λ names. Some (gives names (without_named more left))) lent_is
               ∙ ap (λ (stores : List NamedStore). Some (record { parts = row.now; stores = without_stores more stores ++ named_stores (known ++ more) now_held })) at_home
               ∙ ap (λ (given : List NamedStore). Some (record { parts = row.now; stores = without_stores more home ++ given })) (named_append known more held (stores_named more home) long);
-          is_so = begun_left back row.is_so refl;
+          is_so = (
+            begun_left back row.is_so refl,
+            record {
+              many_are = states_many (map part_history parts) row.now row.now_are ∙ length-map parts part_history ∙ as_many;
+              others = λ name other. other_back home known more held distinct own are long name other;
+            },
+          );
         };
       }

@@ -21,7 +21,7 @@ use Rattle.nv_recover.specs.Alike.{SayTheSame}
 use Rattle.nv_recover.specs.Changes.{Devices, devices_after_change}
 use Rattle.nv_recover.specs.Interrupted.{IsRecoveryStop, PromisesKeepTelling, Start}
 use Rattle.nv_recover.specs.Recovering.{StandThroughout}
-use Rattle.nv_recover.specs.Standing.{AreQuietStores, AreStoreImages, HasSameLog, ReadsAlike, StandsStill, TakesPlace, files_of}
+use Rattle.nv_recover.specs.Standing.{AreQuietStores, AreStoreImages, StandsStill, TakesPlace, files_of}
 use Rattle.nv_recover.proofs.AlikeLaws.{same_fits, same_recovered}
 use Rattle.nv_recover.proofs.ApplyLaws.{quiet_image}
 use Rattle.nv_recover.proofs.EmptyLaws.{same_words, reads_too}
@@ -29,7 +29,7 @@ use Rattle.nv_recover.proofs.Interrupted.{end_is_stop, promise_is_run}
 use Rattle.nv_recover.specs.Telling.{TellingStoresHaveStates}
 use Rattle.nv_open.specs.Held.{header_names}
 use Rattle.nv_open.specs.Lending.{stores_named}
-use Rattle.nv_open.specs.Unopened.{HasHeader, StandAsBefore, StandsAsBefore, names_in}
+use Rattle.nv_open.specs.Unopened.{HasHeader, HasRest, StandAsBefore, StandsAsBefore, names_in}
 use Rattle.nv_open.proofs.Returns.{states_tell}
 
 -- Quiet devices have one image, which takes the place of itself.
@@ -127,8 +127,8 @@ own_images stores quiet = record {
 
 -- What only was read stands as before, with stores that are as they were.
 pub stands_read : (parts : List Part) (stores : List NamedStore) (back : Holding) → AreQuiet parts → AreQuietStores (stores_named (header_names parts) stores) → HasHeader parts
-    → back.parts ≡ parts → stores_named (header_names parts) back.stores ≡ stores_named (header_names parts) stores → StandsAsBefore (record { parts = parts; stores = stores }) back
-stands_read parts stores back quiet still readable same_parts same_stores =
+    → back.parts ≡ parts → stores_named (header_names parts) back.stores ≡ stores_named (header_names parts) stores → HasRest (length parts) (header_names parts) stores back → StandsAsBefore (record { parts = parts; stores = stores }) back
+stands_read parts stores back quiet still readable same_parts same_stores rest =
     let names = header_names parts in
     let here = stands_quiet parts (stores_named names stores) quiet still readable in
     let Names : List Part → Type 0 = λ now. (image : Image) → IsRowImage now image → names_in image ≡ names in
@@ -137,4 +137,5 @@ stands_read parts stores back quiet still readable same_parts same_stores =
       stands =
           subst (λ now. StandsStill (row_words parts) (files_of (stores_named names stores)) now (stores_named names back.stores)) (sym same_parts)
           (subst (λ held. StandsStill (row_words parts) (files_of (stores_named names stores)) parts held) (sym same_stores) here);
+      rest = rest;
     }

@@ -20,7 +20,7 @@ use Rattle.nv_open.specs.Begun.{IsNotOpened, IsOpeningBegun, IsRegionOpened, fil
 use Rattle.nv_open.specs.Held.{AreUnwritten, HoldFiles, IsRecovered, files_named}
 use Rattle.nv_open.specs.Lending.{stores_lent}
 use Rattle.nv_open.specs.Refusals.{IsRefusedFor}
-use Rattle.nv_open.specs.Unopened.{GivesBack, HasHeader, HasSome, InEachImage, IsAtRestWith, RestsUnopened, StandForFiles, StandsAsBefore, StandsWithSome}
+use Rattle.nv_open.specs.Unopened.{GivesBack, HasHeader, HasRest, HasSome, InEachImage, IsAtRestWith, IsGood, IsUntouched, RestsUnopened, StandForFiles, StandsAsBefore, StandsOpening}
 use Rattle.nv_open.specs.declared.error.OpenError.{OpenError}
 use Rattle.nv_open.specs.declared.error.OpenError.TheVariants.{Refused}
 use Rattle.nv_open.specs.declared.error.Refusal.{Refusal}
@@ -75,13 +75,17 @@ pub record IsNotRecovered {X Y : Type 0} (part_history : X → lines.PartHistory
   pub unwritten : (why : Refusal) → error ≡ Refused why → AreUnwritten part_history store_history why old new before back stores
   pub standing : IfSome old.told (λ holding. RowTells (map part_history before) (λ told. HasHeader told
       → GivesBack part_history store_history (StandsAsBefore (record { parts = told; stores = holding.stores })) new back stores))
+  pub untouched : IfSome old.told (λ holding. RowTells (map part_history before) (λ told. ¬ (IsGood told)
+      → GivesBack part_history store_history (IsUntouched (record { parts = told; stores = holding.stores })) new back stores))
 
 -- It was neither formatted nor recovered.
 pub record IsNotBegun {X Y : Type 0} (part_history : X → lines.PartHistory) (store_history : Y → StoreHistory) (old new : BenchState) (before back : List X) (stores : List Y) (error : OpenError) : Type 0 where
   pub refused : (why : Refusal) → error ≡ Refused why → IfSome old.told (λ holding. RowTells (map part_history before) (λ told. (is_blank told ≡ false) × IsRefusedFor told why))
   pub unwritten : (why : Refusal) → error ≡ Refused why → AreUnwritten part_history store_history why old new before back stores
   pub standing : (wanted : List (List ℕ)) → IfSome old.told (λ holding. RowTells (map part_history before) (λ told. StandForFiles told
-      → GivesBack part_history store_history (InEachImage (StandsWithSome (record { parts = told; stores = holding.stores }) wanted)) new back stores))
+      → GivesBack part_history store_history (StandsOpening (length told) (record { parts = told; stores = holding.stores }) wanted) new back stores))
+  pub untouched : IfSome old.told (λ holding. RowTells (map part_history before) (λ told. is_blank told ≡ false → ¬ (IsGood told)
+      → GivesBack part_history store_history (IsUntouched (record { parts = told; stores = holding.stores })) new back stores))
 
 -- It was not opened with the wanted names.
 pub record IsUnopened {X Y : Type 0} (part_history : X → lines.PartHistory) (store_history : Y → StoreHistory) (old new : BenchState) (before back : List X) (stores : List Y) (geometry : Geometry) (wanted : List (List ℕ)) (error : OpenError) : Type 0 where
@@ -90,7 +94,9 @@ pub record IsUnopened {X Y : Type 0} (part_history : X → lines.PartHistory) (s
   pub rests : error ≡ Refused TooManyFiles → IfSome old.told (λ holding. RowTells (map part_history before) (λ told.
       GivesBack part_history store_history (RestsUnopened (record { parts = told; stores = holding.stores }) geometry wanted) new back stores))
   pub standing : IfSome old.told (λ holding. RowTells (map part_history before) (λ told. StandForFiles told
-      → GivesBack part_history store_history (InEachImage (StandsWithSome (record { parts = told; stores = holding.stores }) wanted)) new back stores))
+      → GivesBack part_history store_history (StandsOpening (length told) (record { parts = told; stores = holding.stores }) wanted) new back stores))
+  pub untouched : IfSome old.told (λ holding. RowTells (map part_history before) (λ told. is_blank told ≡ false → ¬ (IsGood told)
+      → GivesBack part_history store_history (IsUntouched (record { parts = told; stores = holding.stores })) new back stores))
 
 -- ---- names that are added to an open region
 
@@ -112,4 +118,4 @@ pub record HasNotAdded {X Y : Type 0} (part_history : X → lines.PartHistory) (
   pub rests : (files : Files) → HoldFiles (map store_history stores_before) files → error ≡ Refused TooManyFiles → IfSome old.told (λ holding. AllTell (map part_history before)
       → GivesBack part_history store_history (IsAtRestWith page entries known next files holding.stores) new back stores)
   pub standing : (files : Files) → HoldFiles (map store_history stores_before) files → IfSome old.told (λ holding. AllTell (map part_history before)
-      → GivesBack part_history store_history (InEachImage (HasSome (length known) (all_names known wanted) (files_behind files (new_names known wanted) holding.stores))) new back stores)
+      → GivesBack part_history store_history (λ now. InEachImage (HasSome (length known) (all_names known wanted) (files_behind files (new_names known wanted) holding.stores)) now × HasRest (length before) known holding.stores now) new back stores)

@@ -1,5 +1,5 @@
 -- Unopened: what a bench holds, whatever a power failure leaves of it, whose region wasn't opened, or wasn't recovered.
-use Rattle.std.specs.Prelude.{◌≡◌, ◌⊎◌, ℕ, ◌<◌, ◌≤◌, true, false, if◌then◌else◌, List, [], ◌++◌, length, map, take, Option, Some}
+use Rattle.std.specs.Prelude.{◌≡◌, ◌⊎◌, ℕ, ◌<◌, ◌≤◌, true, false, if◌then◌else◌, Contains, List, [], ◌++◌, length, map, take, Option, Some}
 use Rattle.nv_plain.specs.Files.{Files}
 use Rattle.nv_plain.specs.Images.{Image, header_of}
 use Rattle.nv_plain.specs.Layouts.{version_1}
@@ -14,13 +14,14 @@ use Rattle.nv_store.specs.Store.{Store}
 use Rattle.nv_header.specs.Heads.{IsHead, first_names}
 use Rattle.nv_header.specs.Regions.{HasEmptyLog, IsAtRest}
 use Rattle.nv_bench.specs.Benches.{BenchState, told_back}
-use Rattle.nv_bench.specs.Holding.{Holding, NamedStore, named_stores}
-use Rattle.nv_bench.specs.Opening.{is_blank}
+use Rattle.nv_bench.specs.Holding.{Holding, NamedStore, named_stores, store_of}
+use Rattle.nv_bench.specs.Opening.{is_blank, opened}
 use Rattle.nv_recover.specs.Standing.{AreQuietStores, AreStoreImages, StandsFor, StandsStill, files_of}
 use Rattle.nv_open.specs.Adding.{all_names}
 use Rattle.nv_open.specs.Begun.{IsOpeningBegun, files_with}
-use Rattle.nv_open.specs.Held.{files_named, header_names}
+use Rattle.nv_open.specs.Held.{files_named, header_names, returned}
 use Rattle.nv_open.specs.Lending.{stores_named, without_stores}
+use Rattle.nv_open.specs.Refusals.{AreLong, CanBeRead}
 
 -- a bench tells that it holds something that is so
 pub record TellsOf (P : Holding → Type 0) (told : Option Holding) : Type 0 where
@@ -55,12 +56,18 @@ pub record HasSome (least : ℕ) (names : List (List ℕ)) (files : Files) (imag
 abbrev pub HasHeader : List Part → Type 0
 HasHeader parts = IsHead version_1 version_1.header_lines (row_words parts)
 
+-- What a bench holds beside the stores of these names: so many parts, and each store of another name as it was among these.
+pub record HasRest (many : ℕ) (names : List (List ℕ)) (stores : List NamedStore) (now : Holding) : Type 0 where
+  pub many_are : length now.parts ≡ many
+  pub others : (name : List ℕ) → ¬ (Contains names name) → store_of name now.stores ≡ store_of name stores
+
 -- ---- a recovery that failed
 
--- Whatever a power failure leaves of what a bench holds has a header with the same names, and can take the place of what it held.
+-- Whatever a power failure leaves of what a bench holds has a header with the same names, and can take the place of what it held. It has as many parts, and each store of another name is as it was.
 pub record StandsAsBefore (was now : Holding) : Type 0 where
   pub same_names : (image : Image) → IsRowImage now.parts image → names_in image ≡ header_names was.parts
   pub stands : StandsStill (row_words was.parts) (files_of (stores_named (header_names was.parts) was.stores)) now.parts (stores_named (header_names was.parts) now.stores)
+  pub rest : HasRest (length was.parts) (header_names was.parts) was.stores now
 
 -- ---- an opening that failed
 
@@ -79,6 +86,29 @@ abbrev pub StandsWithSome : (was : Holding) (wanted : List (List ℕ)) → Image
 StandsWithSome was wanted image bytes =
     let known = names_known was.parts in
     ((is_blank was.parts ≡ true) × IsBlank image) ⊎ HasSome (length known) (all_names known wanted) (files_with was.parts known wanted was.stores) image bytes
+
+-- A bench holds what an opening leaves that failed: in each image it stands with some, and it has so many parts, and each store that is neither of the region nor of these names as it was.
+pub record StandsOpening (many : ℕ) (was : Holding) (wanted : List (List ℕ)) (now : Holding) : Type 0 where
+  pub images : InEachImage (StandsWithSome was wanted) now
+  pub rest : HasRest many (all_names (names_known was.parts) wanted) was.stores now
+
+-- It has as many parts as the bench had, or as were made of blank ones.
+pub record StandsUnopened (was : Holding) (geometry : Geometry) (wanted : List (List ℕ)) (now : Holding) : Type 0 where
+  pub either : StandsOpening (length was.parts) was wanted now ⊎ StandsOpening (length (opened (Some geometry) was.parts)) was wanted now
+
+-- ---- a region that isn't good
+
+-- The header of a region can be read, it has the lines that this says, and each committed number leads a whole group.
+pub record IsGood (parts : List Part) : Type 0 where
+  pub readable : CanBeRead parts
+  pub long : AreLong parts
+  pub fits : Fits version_1 (row_words parts)
+
+-- A bench holds what it held, but that the stores of some names of its header came back behind the others, as they were.
+pub record IsUntouched (was now : Holding) : Type 0 where
+  pub lent : List (List ℕ)
+  pub of_header : (name : List ℕ) → Contains lent name → Contains (header_names was.parts) name
+  pub now_is : now ≡ returned lent was
 
 -- ---- a region that would have too many files
 

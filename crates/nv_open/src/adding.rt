@@ -41,6 +41,7 @@ pub(crate) fn add_names<L: Lines + Drop>(
     ensures geometry { IfOk result (λ added. added.geometry ≡ region.geometry) }
     ensures next { IfOk result (λ added. added.next ≡ region.next) }
     ensures many { IfOk result (λ added. length added.parts.items ≡ length region.parts.items) }
+    ensures as_many { IfErr result (λ failed. length failed.0.items ≡ length region.parts.items) }
     ensures tell { AllTell (map L.history region.parts.items) → IfOk result (λ added. AllTell (map L.history added.parts.items)) }
     ensures never { (why : _) → IfErr result (λ failed. ¬ (failed.1 ≡ error.Refused why)) }
     ensures left { AllTell (map L.history region.parts.items) → IfErr result (λ failed.

@@ -30,6 +30,7 @@ pub(crate) fn format_parts<L: Lines + Drop>(
     requires spare { All HasSpare (map L.room parts.items) }
     ensures formatted { IfOk result (λ region. IsFormatted geometry region.geometry.page region.geometry.entries region.names region.next) }
     ensures many { IfOk result (λ region. length region.parts.items ≡ length parts.items) }
+    ensures as_many { IfErr result (λ failed. length failed.0.items ≡ length parts.items) }
     ensures tell { AllTell (map L.history parts.items) → IfOk result (λ region. AllTell (map L.history region.parts.items)) }
     ensures short { (why : _) → IfErr result (λ failed. failed.1 ≡ error.Refused why
         → RowTells (map L.history parts.items) (λ told. ¬ HasLines version_1 geometry.page geometry.entries (rooms_of told))) }

@@ -16,7 +16,7 @@ ghost use Rattle.nv_recover.specs.Telling.{AllTell};
 ghost use Rattle.nv_open.specs.Causes.{OpenHasCause};
 ghost use Rattle.nv_open.specs.Held.{HoldFiles, IsRecovered};
 ghost use Rattle.nv_open.specs.Refusals.{IsRefusedFor, IsBadLog};
-ghost use Rattle.nv_open.specs.Unopened.{StandAsBefore};
+ghost use Rattle.nv_open.specs.Unopened.{IsGood, StandAsBefore};
 ghost use Rattle.nv_open.specs.declared.error.OpenError.TheVariants as error;
 
 use crate::OpenError;
@@ -61,9 +61,12 @@ pub(crate) fn recover_log<L: Lines + Drop, B: Backing>(
         → map L.history (parts_after result) ≡ map L.history parts.items }
     ensures stores_kept { (why : _) → answer_of result ≡ Err (error.Refused why)
         → RowTells (map L.history parts.items) (λ told. map B.history stores.new.items ≡ map B.history stores.old.items) }
+    ensures unfit { IfErr result (λ failed. RowTells (map L.history parts.items) (λ told. ¬ (IsGood told)
+        → (map L.history failed.0.items ≡ map L.history parts.items) × (map B.history stores.new.items ≡ map B.history stores.old.items))) }
     ensures standing { IfErr result (λ failed. (told : List Part) (was : List Store) → AreNow (map L.history parts.items) told → AreNow (map B.history stores.old.items) was
         → StandAsBefore told was (map L.history failed.0.items) (map B.history stores.new.items)) }
     ensures count { length stores.new.items ≡ length stores.old.items }
+    ensures as_many { IfErr result (λ failed. length failed.0.items ≡ length parts.items) }
     ensures cause { OpenHasCause (sum_by L.fault_count parts.items + sum_by B.fault_count stores.old.items)
         (sum_by L.fault_count (parts_after result) + sum_by B.fault_count stores.new.items) (answer_of result) }
 {

@@ -18,7 +18,7 @@ ghost use Rattle.nv_open.specs.Held.{told_after};
 ghost use Rattle.nv_open.specs.Layers.{AreLentParts, HasAdded, HasNotAdded, IsBegunOpen, IsNotBegun, IsOpenedOpen, IsUnopened};
 ghost use Rattle.nv_open.specs.Lending.{HasLent, HasLentMore, all_lent};
 ghost use Rattle.nv_open.specs.Refusals.{rooms_of};
-ghost use Rattle.nv_open.specs.Unopened.{InEachImage, RestsUnopened, StandForFiles, StandsWithSome, TellsOf};
+ghost use Rattle.nv_open.specs.Unopened.{IsGood, IsUntouched, RestsUnopened, StandForFiles, StandsUnopened, TellsOf};
 ghost use Rattle.nv_open.specs.declared.error.OpenError.TheVariants as error;
 ghost use Rattle.nv_open.specs.declared.error.Refusal.TheVariants as refusal;
 
@@ -70,7 +70,9 @@ pub fn open<T: Bench>(
     ensures rests { result ≡ Err (error.Refused refusal.TooManyFiles)
         → IfSome (T.state bench.old).told (λ was. TellsOf (RestsUnopened was geometry wanted.now) (T.state bench.new).told) }
     ensures standing { IfErr result (λ why. IfSome (T.state bench.old).told (λ was. StandForFiles was.parts
-        → TellsOf (InEachImage (StandsWithSome was wanted.now)) (T.state bench.new).told)) }
+        → TellsOf (StandsUnopened was geometry wanted.now) (T.state bench.new).told)) }
+    ensures untouched { IfErr result (λ why. IfSome (T.state bench.old).told (λ was. is_blank was.parts ≡ false → ¬ (IsGood was.parts)
+        → TellsOf (IsUntouched was) (T.state bench.new).told)) }
     ensures untold { (T.state bench.old).told ≡ None → (T.state bench.new).told ≡ None }
     ensures cause { IfErr result (ErrorHasCause (T.state bench.old).faults (T.state bench.new).faults) }
 {

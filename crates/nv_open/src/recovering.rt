@@ -12,7 +12,7 @@ ghost use Rattle.nv_open.specs.Held.{HoldFiles, IsRecovered, files_named, told_a
 ghost use Rattle.nv_open.specs.Layers.{AreLentParts, IsNotRecovered, IsRecoveredOpen};
 ghost use Rattle.nv_open.specs.Lending.{HasLent, all_lent};
 ghost use Rattle.nv_open.specs.Refusals.{IsRefusedFor};
-ghost use Rattle.nv_open.specs.Unopened.{HasHeader, StandsAsBefore, TellsOf};
+ghost use Rattle.nv_open.specs.Unopened.{HasHeader, IsGood, IsUntouched, StandsAsBefore, TellsOf};
 ghost use Rattle.nv_open.specs.declared.error.OpenError.TheVariants as error;
 
 use crate::header::read_header;
@@ -56,6 +56,7 @@ pub fn recover_region<T: Bench>(
     ensures unwritten { (why : _) → result ≡ Err (error.Refused why)
         → (T.state bench.new).told ≡ told_after why (T.state bench.old).told }
     ensures standing { IfErr result (λ why. IfSome (T.state bench.old).told (λ was. HasHeader was.parts → TellsOf (StandsAsBefore was) (T.state bench.new).told)) }
+    ensures untouched { IfErr result (λ why. IfSome (T.state bench.old).told (λ was. ¬ (IsGood was.parts) → TellsOf (IsUntouched was) (T.state bench.new).told)) }
     ensures untold { (T.state bench.old).told ≡ None → (T.state bench.new).told ≡ None }
     ensures cause { IfErr result (ErrorHasCause (T.state bench.old).faults (T.state bench.new).faults) }
 {

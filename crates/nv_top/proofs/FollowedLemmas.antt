@@ -34,7 +34,6 @@ use Rattle.nv_mount.specs.RisenCounts.{SawStop}
 use Rattle.nv_mount.specs.WholeRuns.{history_then}
 use Rattle.nv_mount.specs.WholeWrites.{LeavesWholeWrites, flights_then}
 use Rattle.nv_mount.specs.declared.fds.Fd.{Fd}
-use Rattle.nv_calls.specs.histories.Faults.{open_in}
 use Rattle.nv_trace.specs.Forms.{has_rounds}
 use Rattle.nv_trace.specs.Shape.{IsCallWithin, IsWellFormed}
 use Rattle.nv_trace.specs.Traced.{Traced, lines_in}
@@ -44,10 +43,10 @@ use Rattle.nv_trace.specs.declared.trace.Descriptor.{Descriptor}
 use Rattle.nv_trace.specs.declared.trace_call.TraceCall.{TraceCall}
 use Rattle.nv_trace.specs.declared.trace_call.TraceCall.TheVariants.{Pread, Pwrite, Fsync}
 use Rattle.nv_trace.specs.declared.trace_call.TracedCall.{TracedCall}
-use Rattle.nv_runner.specs.Faithful.{Basis, after_fate, after_open, barred, descriptors_in, drawing_calls, file_call, files_shown, history_of, named, open_calls_of, placed_in}
+use Rattle.nv_runner.specs.Faithful.{Basis, after_fate, after_open, barred, descriptors_in, drawing_calls, file_call, files_shown, history_of, named, placed_in}
 use Rattle.nv_runner.specs.Histories.{CallsOnFiles}
 use Rattle.nv_runner.specs.Lists.{made_calls}
-use Rattle.nv_runner.specs.OpenRuns.{LeftOpenAreKept, open_of}
+use Rattle.nv_runner.specs.OpenRuns.{LeftOpenAreKept}
 use Rattle.nv_runner.specs.OpenWrites.{kept_open}
 use Rattle.nv_runner.specs.Reports.{OpenCall, Report, ShownRefusal}
 use Rattle.nv_runner.specs.Shifts.{calls_of_thread}
@@ -65,7 +64,7 @@ use Rattle.nv_schedule.specs.Turns.{CallerState}
 use Rattle.nv_schedule.specs.declared.scheduled.ScheduledCalls.{ScheduledCalls}
 use Rattle.nv_top.specs.Fates.{AreShownOpen, begun_call, begun_fate, fate_of, fated}
 use Rattle.nv_top.specs.Outcomes.{shown_report}
-use Rattle.nv_top.proofs.FateLemmas.{after_fates, open_write, open_writes_are}
+use Rattle.nv_top.proofs.FateLemmas.{after_fates, open_writes_are}
 use Rattle.nv_top.proofs.StoppingLemmas.{HasClosedOver, all_right, files_open, log_opens, same_files, still_opened, within_open}
 
 -- ---- orders

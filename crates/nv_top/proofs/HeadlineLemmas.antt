@@ -10,7 +10,6 @@ use Rattle.nv_open.proofs.Homes.{kept_in_all}
 use Rattle.nv_open.specs.Held.{told_after}
 use Rattle.nv_open.specs.Refusals.{IsRefusedFor}
 use Rattle.nv_open.specs.declared.error.Refusal.{Refusal}
-use Rattle.nv_open.specs.declared.error.Refusal.TheVariants as refusals
 use Rattle.nv_pmem.specs.Laws.{BlankIsQuiet}
 use Rattle.nv_store.specs.Store.{IsQuietStore}
 use Rattle.nv_load.specs.Generated.{IsLoad}
@@ -20,7 +19,7 @@ use Rattle.nv_trace.specs.declared.trace.Form.{Form}
 use Rattle.nv_trace.specs.declared.trace.Form.TheVariants as forms
 use Rattle.nv_trace.specs.Traced.{Traced}
 use Rattle.nv_top.specs.Endings.{OfRead}
-use Rattle.nv_top.specs.Headline.{IsCommandRefused, IsRunRefused, IsShown, command_over, may_stop, possible}
+use Rattle.nv_top.specs.Headline.{IsCommandRefused, IsRunRefused, command_over, may_stop, possible}
 use Rattle.nv_top.specs.Ready.{IsRunnable}
 use Rattle.nv_top.specs.Words.{AreInLimits, command_of}
 use Rattle.nv_top.specs.declared.words.Command.{Command}

@@ -1,6 +1,6 @@
 -- Lives: what a bench tells to which the devices of a run come back, and what power and a recovery make of that.
 use Rattle.std.proofs.Common.{◌≡◌, ◌≢◌, ℕ, ◌<◌, Bool, true, false, cond, All, List, [], ◌∷◌, ◌++◌, length, map, slice_index_or, inl, inr, refl, sym, ap, subst, ◌∙◌, arith, Option, Some, None}
-use Rattle.std.specs.Prelude.{IfSome, option_map}
+use Rattle.std.specs.Prelude.{Contains, IfSome, option_map}
 use Rattle.std.proofs.lemmas.List.Elements.{All-nil, All-cons, All-head, All-tail}
 use Rattle.nv_plain.specs.Files.{Files}
 use Rattle.nv_plain.specs.Images.{Image, header_of}
@@ -14,12 +14,15 @@ use Rattle.nv_pmem.specs.Steps as lines
 use Rattle.nv_pmem.proofs.ImageLaws.{image_of_now}
 use Rattle.nv_pmem.specs.declared.picker.Pick.{Pick}
 use Rattle.nv_store.specs.Steps as stores
-use Rattle.nv_store.specs.Store.{IsWholeStore, Store}
+use Rattle.nv_store.specs.Store.{IsQuietStore, IsWholeStore, Store}
+use Rattle.nv_store.proofs.RowReads.{length_now}
 use Rattle.nv_bench.specs.Benches.{BenchState, with_faults}
 use Rattle.nv_bench.specs.Holding.{Holding, IsQuietHolding, NamedStore, is_named, named_stores, store_of}
 use Rattle.nv_bench.specs.Laws.{AreWholeStores, PowerLeavesAnImage}
 use Rattle.nv_bench.specs.Naming.{AreDistinct, names_of}
-use Rattle.nv_bench.specs.Powered.{powered}
+use Rattle.nv_bench.specs.Powered.{powered, powered_parts}
+use Rattle.nv_pmem.specs.Draws.{draws_of}
+use Rattle.std.proofs.lemmas.List.{length-map}
 use Rattle.nv_header.specs.Heads.{first_names}
 use Rattle.nv_header.specs.Regions.{HasEmptyLog, IsAtRest}
 use Rattle.nv_recover.specs.Standing.{AreQuietStores, AreStoreImages, ReadableStandsForRecovered, files_of}
@@ -31,7 +34,8 @@ use Rattle.nv_recover.proofs.EmptyLaws.{empty_none}
 use Rattle.nv_open.specs.Held.{IsRecovered, files_named, header_names}
 use Rattle.nv_open.specs.Lending.{stores_named, without_stores}
 use Rattle.nv_open.specs.Unopened.{HasHeader, InEachImage, StandsAsBefore, TellsOf, names_in}
-use Rattle.nv_open.proofs.Homes.{back_again}
+use Rattle.nv_open.proofs.Homes.{back_again, in_front, not_given, others_again}
+use Rattle.nv_open.proofs.Openings.{store_of_others}
 use Rattle.nv_open.proofs.Returns.{named_quiet}
 use Rattle.nv_open.proofs.Stands.{durable_images, names_read, own_images}
 use Rattle.nv_trace.specs.Reading.{ending_of, Whole}
@@ -40,7 +44,7 @@ use Rattle.nv_trace.specs.declared.trace.Form.TheVariants as forms
 use Rattle.nv_trace.specs.Traced.{Traced}
 use Rattle.nv_top.specs.declared.words.Command.{Command}
 use Rattle.nv_top.specs.declared.words.Command.TheVariants.{Run, Sched, Recover, Look, Gen}
-use Rattle.nv_open.proofs.GivenBack.{still_stands}
+use Rattle.nv_open.proofs.GivenBack.{still_stands, still_untouched}
 use Rattle.nv_runner.specs.Faithful.{Basis}
 use Rattle.nv_runner.specs.Histories.{PlacedCall}
 use Rattle.nv_runner.specs.Lives.{LeaveLife, RecoversBehind}
@@ -52,7 +56,13 @@ use Rattle.nv_top.specs.Ready.{IsRunnable}
 use Rattle.nv_top.specs.declared.words.RunOptions.{RunOptions}
 use Rattle.nv_top.proofs.CommandLemmas.{if_told, told_at}
 use Rattle.nv_top.proofs.HomeLemmas.{any_images}
+use Rattle.nv_top.proofs.PoweredHomes.{found_powered, powered_many}
 use Rattle.nv_top.proofs.RowLemmas.{all_tell, present}
+
+-- ---- stores that are found
+
+quiet_found : (name : List ℕ) (stores : List NamedStore) → All (λ (named : NamedStore). IsQuietStore named.store) stores → IsQuietStore (store_of name stores)
+quiet_found name stores still = All-head IsQuietStore (store_of name stores) [] (named_quiet (name ∷ []) stores still)
 
 -- ---- whole stores
 
@@ -86,11 +96,11 @@ module _ (basis : Basis) (trace : Traced) where
       every bytes (subst (λ stores. AreStoreImages stores bytes) same (subst (λ names. AreStoreImages (stores_named names all) bytes) read are))
 
   pub lived_home : {X Y : Type 0} (history : X → lines.PartHistory) (held : Y → stores.StoreHistory)
-      (parts : List X) (backing : List Y) (told : Option Holding) (home : List NamedStore) (whole : (holding : Holding) → told ≡ Some holding → AreWholeStores holding) → AreLeftSo history held basis trace parts backing
+      (parts : List X) (backing : List Y) (many : ℕ) (as_many : length parts ≡ many) (told : Option Holding) (home : List NamedStore) (whole : (holding : Holding) → told ≡ Some holding → AreWholeStores holding) → AreLeftSo history held basis trace parts backing
       → ((disks : List Store) → AreNow (map held backing) disks → stores_named basis.names (home ++ named_stores basis.names disks) ≡ disks)
       → ((now : List Part) (disks : List Store) → AreNow (map history parts) now → AreNow (map held backing) disks → told ≡ Some (record { parts = now; stores = home ++ named_stores basis.names disks }))
-      → HasLived basis trace told
-  lived_home history held parts backing told home whole left same gives =
+      → HasLived basis trace many home told
+  lived_home history held parts backing many as_many told home whole left same gives =
       let now = present (map history parts) left.parts_tell in
       let disks = present (map held backing) left.stores_tell in
       let all = home ++ named_stores basis.names disks.states in
@@ -102,9 +112,14 @@ module _ (basis : Basis) (trace : Traced) where
         images = record {
           now = record { parts = now.states; stores = all };
           told_is = told_is;
-          is_so =
-              images_home (map history parts) (map held backing) left.life now.states disks.states all now.are disks.are
-              (subst (All IsWholeStore) here (all_whole basis.names all (whole (record { parts = now.states; stores = all }) told_is))) here;
+          is_so = (
+            images_home (map history parts) (map held backing) left.life now.states disks.states all now.are disks.are
+                (subst (All IsWholeStore) here (all_whole basis.names all (whole (record { parts = now.states; stores = all }) told_is))) here,
+            record {
+              many_are = length_now (map history parts) now.states now.are ∙ length-map parts history ∙ as_many;
+              others = λ name other. in_front name home (named_stores basis.names disks.states) (not_given name basis.names disks.states other);
+            },
+          );
         };
       }
 
@@ -117,9 +132,9 @@ module _ (basis : Basis) (trace : Traced) where
       λ part line word. one (slice_index_or parts part []) (image part) line word ((quiet.each part).lines line) (is.each part) in
       λ i part line word. same part line word i
 
-  pub lived_powered : QuietPartHasOneImage → PowerLeavesAnImage → (pick : Pick) (home off : Option Holding) → ((holding : Holding) → home ≡ Some holding → AreWholeStores holding) → off ≡ option_map (powered pick) home
-      → HasLived basis trace home → HasLived basis trace off
-  lived_powered one power pick home off whole powers lived =
+  pub lived_powered : QuietPartHasOneImage → PowerLeavesAnImage → (pick : Pick) (many : ℕ) (stores : List NamedStore) → All (λ (named : NamedStore). IsQuietStore named.store) stores → (home off : Option Holding) → ((holding : Holding) → home ≡ Some holding → AreWholeStores holding) → off ≡ option_map (powered pick) home
+      → HasLived basis trace many stores home → HasLived basis trace many stores off
+  lived_powered one power pick many stores still home off whole powers lived =
       let before = lived.images.now in
       let after = powered pick before in
       let both = power pick before (whole before lived.images.told_is) in
@@ -129,20 +144,28 @@ module _ (basis : Basis) (trace : Traced) where
         images = record {
           now = after;
           told_is = powers ∙ ap (option_map (powered pick)) lived.images.told_is;
-          is_so = λ image bytes is are.
-              let same = one_image one after.parts image both.1.parts is in
-              let names = names_in image in
-              let here = quiet_image (stores_named names after.stores) bytes (named_quiet names after.stores both.1.stores) are in
-              lived.images.is_so image bytes (subst (λ (image : Image). IsRowImage before.parts image) (sym same) both.0.parts)
-              (subst (λ (files : Files). AreStoreImages (stores_named names before.stores) files) (sym here) (any_images names before after both.0));
+          is_so = (
+            λ image bytes is are.
+                let same = one_image one after.parts image both.1.parts is in
+                let names = names_in image in
+                let here = quiet_image (stores_named names after.stores) bytes (named_quiet names after.stores both.1.stores) are in
+                lived.images.is_so.0 image bytes (subst (λ (image : Image). IsRowImage before.parts image) (sym same) both.0.parts)
+                (subst (λ (files : Files). AreStoreImages (stores_named names before.stores) files) (sym here) (any_images names before after both.0)),
+            record {
+              many_are = powered_many (draws_of pick) before.parts ∙ lived.images.is_so.1.many_are;
+              others = λ name other.
+                  let found = lived.images.is_so.1.others name other in
+                  found_powered (powered_parts (draws_of pick) before.parts).1 name before.stores (whole before lived.images.told_is) (subst IsQuietStore (sym found) (quiet_found name stores still)) ∙ found;
+            },
+          );
         };
       }
 
   -- ---- a recovery
 
-  pub lived_recovered : QuietPartHasOneImage → (was : Option Holding) (told : Option Holding) → IfSome was IsQuietHolding → (lived : HasLived basis trace was) → (HasHeader lived.images.now.parts → TellsOf (StandsAsBefore lived.images.now) told)
-      → HasLived basis trace told
-  lived_recovered one was told quiet lived stands =
+  pub lived_recovered : QuietPartHasOneImage → (was : Option Holding) (told : Option Holding) → IfSome was IsQuietHolding → (many : ℕ) (stores : List NamedStore) (lived : HasLived basis trace many stores was) → (HasHeader lived.images.now.parts → TellsOf (StandsAsBefore lived.images.now) told)
+      → HasLived basis trace many stores told
+  lived_recovered one was told quiet many stores lived stands =
       let before = lived.images.now in
       let still : IsQuietHolding before = subst (λ (one : Option Holding). IfSome one IsQuietHolding) lived.images.told_is quiet in
       let first = row_words before.parts in
@@ -150,7 +173,7 @@ module _ (basis : Basis) (trace : Traced) where
       let base = files_of (stores_named names before.stores) in
       let read = names_read before.parts in
       let here : RecoversBehind basis trace lived.history first base =
-      lived.images.is_so first base (record { each = λ i. image_of_now (slice_index_or before.parts i []) })
+      lived.images.is_so.0 first base (record { each = λ i. image_of_now (slice_index_or before.parts i []) })
       (subst (λ names. AreStoreImages (stores_named names before.stores) base) read (own_images (stores_named names before.stores) (named_quiet names before.stores still.stores))) in
       let after = stands here.readable in
       record {
@@ -159,27 +182,52 @@ module _ (basis : Basis) (trace : Traced) where
         images = record {
           now = after.now;
           told_is = after.told_is;
-          is_so = λ image bytes is are.
-              let same = after.is_so.same_names image is in
-              let place = after.is_so.stands image bytes is (subst (λ names. AreStoreImages (stores_named names after.now.stores) bytes) same are) in
-              let stand = place.files here.fits in
-              record {
-                readable = place.header.readable;
-                names_are = same ∙ read ∙ here.names_are;
-                fits = stand.fits;
-                kept = here.kept;
-                of_trace = here.of_trace;
-                own_lines = here.own_lines;
-                files = stand.recovers ∙ here.files;
-              };
+          is_so = (
+            λ image bytes is are.
+                let same = after.is_so.same_names image is in
+                let place = after.is_so.stands image bytes is (subst (λ names. AreStoreImages (stores_named names after.now.stores) bytes) same are) in
+                let stand = place.files here.fits in
+                record {
+                  readable = place.header.readable;
+                  names_are = same ∙ read ∙ here.names_are;
+                  fits = stand.fits;
+                  kept = here.kept;
+                  of_trace = here.of_trace;
+                  own_lines = here.own_lines;
+                  files = stand.recovers ∙ here.files;
+                },
+            record {
+              many_are = after.is_so.rest.many_are ∙ lived.images.is_so.1.many_are;
+              others = λ name other. after.is_so.rest.others name (subst (λ names. ¬ (Contains names name)) (sym (read ∙ here.names_are)) other) ∙ lived.images.is_so.1.others name other;
+            },
+          );
         };
       }
+
+  -- ---- by what the bench held before the stores were lent
+
+  pub lived_on : (many made : ℕ) (stores : List NamedStore) (told : Option Holding) → many ≡ made → HasLived basis trace many (without_stores basis.names stores) told → HasLived basis trace made stores told
+  lived_on many made stores told same lived = record {
+    history = lived.history;
+    is = lived.is;
+    images = record {
+      now = lived.images.now;
+      told_is = lived.images.told_is;
+      is_so = (
+        lived.images.is_so.0,
+        record {
+          many_are = lived.images.is_so.1.many_are ∙ same;
+          others = λ name other. lived.images.is_so.1.others name other ∙ store_of_others name basis.names stores other;
+        },
+      );
+    };
+  }
 
 -- ---- what a recovery leaves that was finished
 
 module _ (stand_so : ReadableStandsForRecovered) (was : Holding) (page entries next : ℕ) (names : List (List ℕ)) (found : recover.Recovered) (now : List Part) (held : List Store)
     (recovered_so : IsRecovered was.parts page entries names next found) (rest : IsAtRest version_1 page entries names next now) (files_are : files_of held ≡ files_named was.parts names was.stores) (quiet : AreQuietStores held)
-    (distinct : AreDistinct (names_of was.stores)) (long : length names ≡ length held) (differ : (i j : ℕ) → i < j → j < length names → slice_index_or names i [] ≢ slice_index_or names j []) where
+    (distinct : AreDistinct (names_of was.stores)) (many : length now ≡ length was.parts) (long : length names ≡ length held) (differ : (i j : ℕ) → i < j → j < length names → slice_index_or names i [] ≢ slice_index_or names j []) where
   abbrev back : Holding
   back = record { parts = now; stores = without_stores names was.stores ++ named_stores names held }
 
@@ -193,6 +241,7 @@ module _ (stand_so : ReadableStandsForRecovered) (was : Holding) (page entries n
       let there : stores_named (header_names was.parts) back.stores ≡ held = subst (λ names. stores_named names back.stores ≡ held) same (back_again names was.stores held distinct long differ) in
       record {
         same_names = λ image is. (rest.empty image is).header.names_are ∙ same;
+        rest = record { many_are = many; others = λ name other. others_again name names was.stores held (subst (λ these. ¬ (Contains these name)) (sym same) other) };
         stands = λ image bytes is are.
             let empty = rest.empty image is in
             let none = empty_none page entries names next image empty in
@@ -270,7 +319,10 @@ left_same history held basis trace parts was backing before same_parts same_stor
 -- a run of a bench of which nothing was lent
 pub still_run : (old new : BenchState) (options : RunOptions) (trace : Traced) → QuietPartHasOneImage → new ≡ with_faults new.faults old → IfSome old.told IsQuietHolding → IfSome old.told (λ was. LeavesRun options was trace new.told)
 still_run old new options trace one is quiet =
-    if_told old.told (λ was. LeavesRun options was trace new.told) (λ was told stand. inl (still_left old new was trace.names one is told quiet stand))
+    if_told old.told (λ was. LeavesRun options was trace new.told) (λ was told. record {
+      stands = λ stand. inl (inl (still_left old new was trace.names one is told quiet stand));
+      untouched = λ kept bad. still_untouched old new was is told;
+    })
 
 -- ---- by the input
 
@@ -310,6 +362,6 @@ schedule_unopened options left old new one is quiet = trace_unopened forms.Sched
 pub life_unread : (command : Command) (left : Option (List ℕ)) (old new : BenchState) → QuietPartHasOneImage → new ≡ with_faults new.faults old → IfSome old.told IsQuietHolding → IfSome old.told (λ was. LeavesLife command left was new.told)
 life_unread (Run options) left old new one is quiet = life_unopened options left old new one is quiet
 life_unread (Sched options) left old new one is quiet = schedule_unopened options left old new one is quiet
-life_unread Recover left old new one is quiet = if_told old.told (λ was. LeavesLife Recover left was new.told) (λ was told readable. still_stands old new was is told quiet readable)
+life_unread Recover left old new one is quiet = if_told old.told (λ was. LeavesLife Recover left was new.told) (λ was told. record { stands = λ readable. still_stands old new was is told quiet readable; untouched = λ bad. still_untouched old new was is told })
 life_unread (Look files) left old new one is quiet = if_told old.told (λ was. LeavesLife (Look files) left was new.told) (λ was told. tt)
 life_unread (Gen load) left old new one is quiet = still_run old new load_options (generated load) one is quiet

@@ -1,5 +1,5 @@
 -- Powered homes: what a power failure leaves of the stores of other names, and of what the cells of a run kept.
-use Rattle.std.proofs.Common.{◌≡◌, ◌<◌, ◌≤◌, ◌+◌, ℕ, Bool, true, false, zero, suc, All, List, [], ◌∷◌, ◌++◌, Some, length, map, drop, get_or, replicate, refl, sym, ap, subst, ◌∙◌, arith}
+use Rattle.std.proofs.Common.{◌≡◌, ◌<◌, ◌≤◌, ◌+◌, ℕ, Bool, true, false, zero, suc, All, List, [], ◌∷◌, ◌++◌, Some, length, map, drop, get_or, replicate, refl, sym, ap, ◌∙◌, arith}
 use Rattle.std.specs.Prelude.{if◌then◌else◌, nat_eq}
 use Rattle.std.specs.Cmp.Lexicographic.{other_text}
 use Rattle.std.proofs.lemmas.List.{append-nil, ext_get_or, get_or-replicate, length-drop, length-map, length-replicate}
@@ -9,14 +9,14 @@ use Rattle.nv_pmem.specs.Draws.{Draws}
 use Rattle.nv_pmem.specs.Part.{Part}
 use Rattle.nv_pmem.specs.Picked.{picked}
 use Rattle.nv_pmem.specs.Room.{Room}
-use Rattle.nv_pmem.specs.RowStates.{AreNow, IsNow}
+use Rattle.nv_pmem.specs.RowStates.{IsNow}
 use Rattle.nv_pmem.specs.Steps.{PartHistory}
 use Rattle.nv_store.specs.Images.{IsStoreImage}
 use Rattle.nv_store.specs.Picked.{draws_after, picked_image}
 use Rattle.nv_store.specs.Steps.{StoreHistory}
 use Rattle.nv_store.specs.Store.{IsQuietStore, IsWholeStore, Store, quiet_store}
 use Rattle.nv_store.proofs.ImageLaws.{image_of_quiet, picked_is_image}
-use Rattle.nv_bench.specs.Holding.{NamedStore, is_named, named_stores, without_store}
+use Rattle.nv_bench.specs.Holding.{NamedStore, is_named, named_stores, store_of, without_store}
 use Rattle.nv_bench.specs.Powered.{powered_parts, powered_stores, stores_left}
 use Rattle.nv_bench.proofs.StoreLaws.{named_left}
 use Rattle.nv_core.specs.content.StorePages.{store_of_value}
@@ -114,6 +114,19 @@ others_left draws names home stores long away whole still =
     let behind = powered_behind draws home given (all_left IsSound home given whole) still in
     ap (without_stores names) (behind.1 ∙ ap (λ these. home ++ these) (sym (named_left behind.0 names stores)))
     ∙ all_without names home (stores_left behind.0 stores).0 (long ∙ sym (left_many behind.0 stores)) away
+
+-- so is a store that a name finds
+pub found_powered : (draws : Draws) (name : List ℕ) (stores : List NamedStore) → All IsSound stores → IsQuietStore (store_of name stores) → store_of name (powered_stores draws stores) ≡ store_of name stores
+unfolding powered_stores
+found_powered draws name [] whole quiet = refl
+found_powered draws name (first ∷ rest) whole quiet = by (is_named name first) quiet (found_powered (draws_after first.store draws) name rest (All-tail IsSound first rest whole))
+  where
+    by : (is : Bool) → IsQuietStore (if is then first.store else store_of name rest)
+        → (IsQuietStore (store_of name rest) → store_of name (powered_stores (draws_after first.store draws) rest) ≡ store_of name rest)
+        → (if is then quiet_store (picked_image first.store draws) else store_of name (powered_stores (draws_after first.store draws) rest)) ≡ (if is then first.store else store_of name rest)
+    by true quiet again =
+        quiet_again first.store (picked_image first.store draws) (All-head IsSound first rest whole) quiet (picked_is_image first.store draws (All-head IsSound first rest whole))
+    by false quiet again = again quiet
 
 -- ---- what cells show of devices that tell
 

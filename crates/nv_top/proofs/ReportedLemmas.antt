@@ -16,7 +16,8 @@ use Rattle.nv_open.specs.Causes.{ErrorHasCause}
 use Rattle.nv_open.specs.Held.{told_after}
 use Rattle.nv_open.specs.Lending.{all_lent}
 use Rattle.nv_open.specs.Looking.{names_until, told_by}
-use Rattle.nv_open.specs.Unopened.{InEachImage, RestsUnopened, StandForFiles, StandsWithSome, TellsOf}
+use Rattle.nv_bench.specs.Opening.{is_blank}
+use Rattle.nv_open.specs.Unopened.{IsGood, IsUntouched, RestsUnopened, StandForFiles, StandsUnopened, TellsOf}
 use Rattle.nv_open.specs.declared.error.OpenError.{OpenError}
 use Rattle.nv_open.specs.declared.error.OpenError.TheVariants as open_errors
 use Rattle.nv_open.specs.declared.error.Refusal.{Refusal}
@@ -31,7 +32,7 @@ use Rattle.nv_trace.specs.declared.trace.Form.TheVariants as forms
 use Rattle.nv_top.specs.Commands.{HasRunOn, IsBasis, IsGivenBack, IsNotRun, RestsNotRun}
 use Rattle.nv_top.specs.Endings.{IsTrace}
 use Rattle.nv_top.specs.Headline.{HasInput, IsArmedByAll, IsArmedBySome, IsCommandRefused, IsLeftAfter, IsLeftBy, IsRunRefused, IsShown, IsUnhindered, UsesTurns, expected_faults, form_by, form_of}
-use Rattle.nv_top.specs.Lives.{LeavesLife, LeavesRun}
+use Rattle.nv_top.specs.Lives.{HasMadeNoCall, LeavesLife, LeavesRun}
 use Rattle.nv_top.specs.Ready.{IsAtHome, IsReady, IsRunnable}
 use Rattle.nv_top.specs.Reported.{HasReported, HasRunTrace}
 use Rattle.nv_top.specs.Scheduling.{IsBackPowered}
@@ -464,10 +465,20 @@ module _ (options : RunOptions) (wanted names : List (List ℕ)) (old new : Benc
       })
 
   -- and the files stand as before
-  pub refused_life : (trace : Traced) → names ≡ trace.names → IfSome old.told (λ was. StandForFiles was.parts → TellsOf (InEachImage (StandsWithSome was wanted)) new.told) → IfSome old.told (λ was. LeavesRun options was trace new.told)
-  refused_life trace are standing =
-      if_told old.told (λ was. LeavesRun options was trace new.told) (λ was told stand.
-      inl (subst (λ names. TellsOf (InEachImage (StandsWithSome was names)) new.told) (same ∙ are) (told_at old.told (λ was. StandForFiles was.parts → TellsOf (InEachImage (StandsWithSome was wanted)) new.told) was told standing stand)))
+  pub refused_life : (trace : Traced) → names ≡ trace.names → (sizes : Geometry) → sizes.page ≡ options.page → sizes.entries ≡ options.entries
+      → IfSome old.told (λ was. StandForFiles was.parts → TellsOf (StandsUnopened was sizes wanted) new.told)
+      → IfSome old.told (λ was. is_blank was.parts ≡ false → ¬ (IsGood was.parts) → TellsOf (IsUntouched was) new.told) → IfSome old.told (λ was. LeavesRun options was trace new.told)
+  refused_life trace are sizes page_is entries_are standing untouched =
+      if_told old.told (λ was. LeavesRun options was trace new.told) (λ was told. record {
+        untouched = told_at old.told (λ was. is_blank was.parts ≡ false → ¬ (IsGood was.parts) → TellsOf (IsUntouched was) new.told) was told untouched;
+        stands = λ stand.
+            let left = told_at old.told (λ was. StandForFiles was.parts → TellsOf (StandsUnopened was sizes wanted) new.told) was told standing stand in
+            let Unrun : List (List ℕ) → Type 0 = λ names. HasMadeNoCall options was names new.told in
+            inl (subst Unrun (same ∙ are) (elim left.is_so.either [
+              | inl own ↦ inl (record { now = left.now; told_is = left.told_is; is_so = own })
+              | inr made ↦ inr (record { geometry = sizes; page_is = page_is; entries_are = entries_are; left = record { now = left.now; told_is = left.told_is; is_so = made } })
+            ]));
+      })
 
 -- what a bench came home to from which all was lent
 module _ (k : ℕ) (names : List (List ℕ)) (old mid new : BenchState) (home : IsAtHome old) (lent : mid ≡ with_faults mid.faults (all_lent names old)) where

@@ -1,15 +1,13 @@
 -- What is said of what a command came to.
-use Rattle.std.proofs.Common.{◌≡◌, ◌≢◌, ◌⊎◌, ◌≤◌, ℕ, List, Option, Result, Ok, Err, inl, inr, refl, sym, ◌∙◌, arith}
+use Rattle.std.proofs.Common.{◌≡◌, ◌≢◌, ◌⊎◌, ◌≤◌, ℕ, List, Option, Ok, Err, inl, inr, refl, sym, ◌∙◌, arith}
 use Rattle.std.proofs.lemmas.Bool.{cases_eq}
 use Rattle.std.specs.Prelude.{IsOk}
-use Rattle.std.specs.Global.{Vec}
 use Rattle.nv_plain.specs.Faults.{Rose}
 use Rattle.nv_trace.specs.Streams.{Appends}
 use Rattle.nv_trace.specs.declared.bad_line.BadLine.{BadLine as Bad}
 use Rattle.nv_open.specs.declared.error.Refusal.{Refusal}
 use Rattle.nv_top.specs.Endings.{AppendsFront}
-use Rattle.nv_top.specs.Said.{Outcome, IsSaid, IsToldBy, GoWith, LineTakesMemory, StatusesTellWhatCame, said_status}
-use Rattle.nv_top.specs.declared.ending.Stop.{Stop}
+use Rattle.nv_top.specs.Said.{Outcome, IsSaid, GoWith, StatusesTellWhatCame, said_status}
 use Rattle.nv_top.specs.declared.ending.Stop.TheVariants.{Usage, BadLine, InputLong, Read, Device, Region, NoMemory, Turns}
 use Rattle.nv_top.specs.declared.ending.TheConstants.{DONE, USAGE, BAD_INPUT, READ_FAULT, WRITE_FAULT, DEVICE_FAULT, NO_MEMORY, BAD_REGION, TURNS_USED}
 

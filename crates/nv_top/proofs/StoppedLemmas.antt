@@ -9,12 +9,12 @@ use Rattle.nv_pmem.specs.Part.{Part}
 use Rattle.nv_pmem.specs.Rows.{row_words}
 use Rattle.nv_recover.specs.Recovering.{HasFoundAll}
 use Rattle.nv_recover.specs.declared.recovering.Recovered as recover
-use Rattle.nv_core.specs.state.Passes.{Control, Fault, Idle, IsOneOf, Pass}
+use Rattle.nv_core.specs.state.Passes.{Control, Fault, Idle, IsOneOf}
 use Rattle.nv_table.specs.invariant.Idle.{IsIdle}
 use Rattle.nv_table.specs.passes.Seats.{past_of}
 use Rattle.nv_table.specs.state.Opened.{Opened, state_of}
 use Rattle.nv_table.specs.state.States.{PassState}
-use Rattle.nv_table.specs.state.Views.{Past, PassView, past_pass, pass_of}
+use Rattle.nv_table.specs.state.Views.{Past, past_pass}
 use Rattle.nv_mount.specs.WholeWrites.{at_hand, faults_then, flights_then}
 use Rattle.nv_mount.specs.declared.fds.Fd.{Fd}
 use Rattle.nv_trace.specs.declared.trace.Descriptor.{Descriptor}

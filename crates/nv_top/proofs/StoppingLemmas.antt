@@ -1,10 +1,9 @@
 -- A run that was stopped, after power went off and the region was recovered: its report is faithful.
 use Rattle.std.proofs.Common.{◌<◌, ◌≡◌, ◌^◌, ℕ, ◌+◌, ◌≤◌, All, List, [], ◌∷◌, ◌++◌, get_or, Option, Some, None, IfSome, Result, Ok, Err, option_map, map, length, sum_by, true, refl, sym, ap, subst, ◌∙◌, arith, IsPermutation}
-use Rattle.std.specs.Prelude.{MatchOption}
 use Rattle.std.specs.List.{flat_map}
 use Rattle.std.specs.List.Sorted.{IsStrictlyIncreasing}
 use Rattle.std.proofs.lemmas.List.{get_or_default, length-map}
-use Rattle.std.proofs.lemmas.List.Elements.{All-nil, All-cons, All-head, All-tail, All-weaker}
+use Rattle.std.proofs.lemmas.List.Elements.{All-nil, All-cons, All-head, All-tail}
 use Rattle.std.proofs.lemmas.List.Sorted.{All-permutation}
 use Rattle.nv_plain.specs.Faults.{Rose, saturated}
 use Rattle.nv_plain.specs.Files.{Files}
@@ -56,21 +55,19 @@ use Rattle.nv_mount.specs.declared.fds.Fd.{Fd}
 use Rattle.nv_calls.specs.histories.Faults.{OpenWrite, open_in}
 use Rattle.nv_trace.specs.Shape.{IsCallWithin, IsWellFormed}
 use Rattle.nv_trace.specs.Traced.{Traced, lines_in}
-use Rattle.nv_trace.specs.declared.report.Refusal.{Refusal}
-use Rattle.nv_trace.specs.declared.report.Refusal.TheVariants as shown
 use Rattle.nv_trace.specs.declared.trace.Descriptor.{Descriptor}
 use Rattle.nv_trace.specs.declared.trace_call.TracedCall.{TracedCall}
 use Rattle.nv_runner.specs.declared.plan.Plan.{Plan}
 use Rattle.nv_runner.specs.declared.sorted.Open.{Open}
 use Rattle.nv_runner.specs.declared.sorted.SortedCalls.{SortedCalls}
 use Rattle.nv_runner.specs.EndedRuns.{HasOutcome, IsClosedBy, batch_of}
-use Rattle.nv_runner.specs.Faithful.{Basis, IsAllowedRefusal, IsFaithful, IsLeftOpen, WasRefused, after_open, barred, descriptors_in, drawing_calls, file_call, files_shown, history_of, named, open_calls_of, placed_in}
+use Rattle.nv_runner.specs.Faithful.{Basis, IsFaithful, after_open, descriptors_in, file_call, files_shown, history_of, named, placed_in}
 use Rattle.nv_runner.specs.FaithfulRuns.{IsMountOf, RunsAreFaithful, RunsAreNumbered, ShowsCalls, as_fd}
 use Rattle.nv_runner.specs.Histories.{AreHistory, CallsOnFiles, ThreadsAreLegal}
 use Rattle.nv_runner.specs.KeptCalls.{OpenCallsAreKeptWhole}
 use Rattle.nv_runner.specs.OpenRuns.{LeftOpenAreKept, open_of}
 use Rattle.nv_runner.specs.OpenWrites.{kept_open}
-use Rattle.nv_runner.specs.Reports.{OpenCall, Report, ShownRefusal}
+use Rattle.nv_runner.specs.Reports.{OpenCall, Report}
 use Rattle.nv_runner.specs.Sorted.{OpenedCall, opened_call, placed_call, refused_call}
 use Rattle.nv_runner.specs.Told.{AreTold, DescriptorsSayFiles, RunsAreTold}
 use Rattle.nv_top.specs.Fates.{fated, fated_report}

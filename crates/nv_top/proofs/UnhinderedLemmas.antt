@@ -1,5 +1,5 @@
 -- Unhindered commands: a plain one is.
-use Rattle.std.proofs.Common.{◌≡◌, ◌≤◌, Bool, true, false, List, [], Some, length, refl, sym, ap, subst, ◌∙◌, arith}
+use Rattle.std.proofs.Common.{◌≡◌, ◌≤◌, Bool, true, false, List, [], length, refl, sym, ap, subst, ◌∙◌, arith}
 use Rattle.std.specs.Prelude.{not}
 use Rattle.std.proofs.lemmas.List.Filters.{length-filter_both}
 use Rattle.nv_plain.specs.Layouts.{version_1}
@@ -12,7 +12,6 @@ use Rattle.nv_open.specs.declared.error.Refusal.TheVariants.{Truncated, BadMagic
 use Rattle.nv_trace.specs.Lines.{parts_between}
 use Rattle.nv_trace.specs.Reading.{Whole, after_lines, ending_of}
 use Rattle.nv_trace.specs.Traced.{Traced, empty_trace}
-use Rattle.nv_trace.specs.declared.trace.Form.{Form}
 use Rattle.nv_trace.specs.declared.trace.Form.TheVariants as forms
 use Rattle.nv_top.specs.Commands.{IsNotRun}
 use Rattle.nv_top.specs.Endings.{IsTrace}

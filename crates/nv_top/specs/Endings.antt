@@ -1,5 +1,5 @@
 -- How a program ends: the line that says why.
-use Rattle.std.specs.Prelude.{◌≡◌, ℕ, List, [], ◌∷◌, ◌++◌, codes, take, Contains, Option, Some, None}
+use Rattle.std.specs.Prelude.{◌≡◌, ℕ, List, [], ◌∷◌, ◌++◌, codes, take, Option, Some, None}
 use Rattle.std.specs.Fmt.{decimal}
 use Rattle.nv_open.specs.declared.error.Refusal.{Refusal}
 use Rattle.nv_top.specs.Ready.{IsRunnable}

@@ -1,5 +1,5 @@
 -- Next commands: what a command asks of a bench, and that one that ended with status 0 leaves it so for the next.
-use Rattle.std.specs.Prelude.{◌≡◌, ◌⊎◌, ℕ, ◌+◌, ◌^◌, ◌<◌, ◌≤◌, Bool, false, List, [], ◌∷◌, ◌++◌, length, Option, Some, IfSome}
+use Rattle.std.specs.Prelude.{◌≡◌, ◌⊎◌, ℕ, ◌^◌, ◌<◌, ◌≤◌, Bool, false, List, [], ◌∷◌, ◌++◌, length, Option, Some, IfSome}
 use Rattle.std.specs.List.{flat_map}
 use Rattle.nv_plain.specs.declared.call.Reply.TheVariants.{Count}
 use Rattle.nv_plain.specs.Faults.{Rose}

@@ -15,7 +15,6 @@ use Rattle.nv_mount.specs.WholeRuns.{history_then}
 use Rattle.nv_mount.specs.WholeWrites.{flights_then}
 use Rattle.nv_calls.specs.histories.Faults.{OpenWrite, open_in}
 use Rattle.nv_trace.specs.Traced.{Traced}
-use Rattle.nv_trace.specs.declared.report.Fate.{Fate}
 use Rattle.nv_trace.specs.declared.trace.Descriptor.{Descriptor}
 use Rattle.nv_runner.specs.DrawnNumbers.{DrewInARow}
 use Rattle.nv_runner.specs.Entries.{entries_taken}

@@ -18,7 +18,7 @@ use Rattle.nv_top.specs.declared.words.WordsError.{WordsError}
 use Rattle.nv_top.specs.declared.words.WordsError.TheVariants as words_errors
 use Rattle.nv_top.specs.declared.ending.Stop.{Stop}
 use Rattle.nv_top.specs.declared.ending.Stop.TheVariants.{Usage, BadLine, InputLong, Read, Device, Region, NoMemory, Turns}
-use Rattle.nv_top.specs.declared.ending.TheConstants.{USAGE, BAD_INPUT, READ_FAULT, WRITE_FAULT, DEVICE_FAULT, NO_MEMORY, BAD_REGION, TURNS_USED}
+use Rattle.nv_top.specs.declared.ending.TheConstants.{USAGE, BAD_INPUT, READ_FAULT, DEVICE_FAULT, NO_MEMORY, BAD_REGION, TURNS_USED}
 use Rattle.nv_top.specs.Endings.{usage_line, bad_line, long_line, read_line, device_line, memory_line, region_line, turns_line}
 
 abbrev pub stop_status : Stop → ℕ

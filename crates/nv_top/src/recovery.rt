@@ -5,7 +5,7 @@ ghost use Rattle.nv_store.specs.Store.{Store};
 ghost use Rattle.nv_recover.specs.Standing.{files_of};
 ghost use Rattle.nv_open.specs.Held.{told_after};
 ghost use Rattle.nv_open.specs.Refusals.{IsRefusedFor};
-ghost use Rattle.nv_open.specs.Unopened.{HasHeader, StandsAsBefore, TellsOf};
+ghost use Rattle.nv_open.specs.Unopened.{HasHeader, IsGood, IsUntouched, StandsAsBefore, TellsOf};
 ghost use Rattle.nv_top.specs.Commands.{HasRecovered, IsGivenBack};
 ghost use Rattle.nv_top.specs.Ready.{IsAtHome};
 ghost use Rattle.nv_runner.specs.Faithful.{named};
@@ -32,6 +32,7 @@ pub(crate) fn recover<T: Bench>(alloc: Global, bench: &mut T) -> Result<Vec<u8>,
     ensures refused { (why : _) → result ≡ Err (stops.Region why) → IfSome (T.state bench.old).told (λ holding. IsRefusedFor holding.parts why) }
     ensures unwritten { (why : _) → result ≡ Err (stops.Region why) → (T.state bench.new).told ≡ told_after why (T.state bench.old).told }
     ensures standing { IfSome (T.state bench.old).told (λ was. HasHeader was.parts → TellsOf (StandsAsBefore was) (T.state bench.new).told) }
+    ensures untouched { IfSome (T.state bench.old).told (λ was. ¬ (IsGood was.parts) → TellsOf (IsUntouched was) (T.state bench.new).told) }
     ensures cause { CountHasCause (T.state bench.old).faults (T.state bench.new).faults result }
 {
     images_stand_for_files();

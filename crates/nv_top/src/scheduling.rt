@@ -124,7 +124,7 @@ fn schedule_region<T: Bench>(
         → (T.state bench.old).told ≡ None }
     ensures turns { result ≡ Err stops.Turns → (T.state bench.new).picked ≡ options.image ∷ (T.state bench.old).picked }
     ensures life { (parts : List Part) (now : List Store) → AreNow (map T.Part.history opened.region.parts.items) parts → AreNow (map T.Store.history opened.stores.items) now
-        → IfSome (T.state bench.old).told (λ home. IsAway opened.region.names home → HasLived (basis_over opened.region options.pages (files_of now)) trace.now (T.state bench.new).told) }
+        → IfSome (T.state bench.old).told (λ home. IsAway opened.region.names home → HasLived (basis_over opened.region options.pages (files_of now)) trace.now (length opened.region.parts.items) home.stores (T.state bench.new).told) }
     ensures used { result ≡ Err stops.Turns → (parts : List Part) (now : List Store)
         → AreNow (map T.Part.history opened.region.parts.items) parts → AreNow (map T.Store.history opened.stores.items) now
         → IfSome (T.state bench.old).told (λ home. IsAway opened.region.names home
@@ -189,7 +189,7 @@ fn schedule_mount<T: Bench>(
         → basis.names ≡ (T.state bench.old).lent → (T.state bench.old).told ≡ None }
     ensures turns { result ≡ Err stops.Turns → (T.state bench.new).picked ≡ options.image ∷ (T.state bench.old).picked }
     ensures life { (basis : Basis) → BeginsMount basis trace.now mount pass → basis.names ≡ (T.state bench.old).lent
-        → IfSome (T.state bench.old).told (λ home. IsAway basis.names home → HasLived basis trace.now (T.state bench.new).told) }
+        → IfSome (T.state bench.old).told (λ home. IsAway basis.names home → HasLived basis trace.now (1 + mount.board.opened.sizes.entries + length pass.spare) home.stores (T.state bench.new).told) }
     ensures used { result ≡ Err stops.Turns → (basis : Basis) → BeginsMount basis trace.now mount pass → basis.names ≡ (T.state bench.old).lent
         → IfSome (T.state bench.old).told (λ home. IsAway basis.names home
         → HasUsedTurns (Rose (saturated ((T.state bench.old).faults + failed_before pass)) (T.state bench.new).faults)

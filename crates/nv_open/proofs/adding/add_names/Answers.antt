@@ -35,6 +35,9 @@ loop-name-preserved g c = record {
   faults = c.in-Ok.ensures.cause ∙ c.loop-name.invariant.faults;
 }
 
+pub returns-in-Err-clause-as_many : goal.returns-in-Err-clause-as_many
+returns-in-Err-clause-as_many g c = as_many g.L.Lines.device c.loop-name.region.parts.items c.in-Err.parts.items c.in-Err.ensures.changed.devices ∙ c.loop-name.invariant.many
+
 pub returns-in-Err-clause-left : goal.returns-in-Err-clause-left
 returns-in-Err-clause-left g c tell =
     let region = c.loop-name.region in

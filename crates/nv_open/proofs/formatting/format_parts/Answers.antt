@@ -33,6 +33,9 @@ returns-in-Ok-clause-tell g c tell = did_tells _ (map g.L.Lines.history c.args.p
 pub returns-in-Ok-clause-many : goal.returns-in-Ok-clause-many
 returns-in-Ok-clause-many g c = as_many g.L.Lines.device c.args.parts.items c.in-Ok.region.parts.items c.in-Ok.ensures.changed.devices
 
+pub returns-clause-as_many : goal.returns-clause-as_many
+returns-clause-as_many g c = as_many g.L.Lines.device c.args.parts.items c.in-Err-format.parts.items c.in-Err-format.ensures.changed.devices
+
 pub returns-in-Err-clause-left : goal.returns-in-Err-clause-left
 returns-in-Err-clause-left g c tell =
     let row = map g.L.Lines.history c.args.parts.items in

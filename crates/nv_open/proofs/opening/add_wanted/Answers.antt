@@ -16,12 +16,15 @@ use Rattle.std.proofs.Common.{[], refl, take}
 use Rattle.nv_pmem.specs.Rows.{InEachRowImage}
 use Rattle.nv_pmem.specs.Steps as lines
 use Rattle.nv_recover.specs.Telling.{AllTell}
-use Rattle.nv_open.specs.Unopened.{GivesBack, HasFirstNames, HasSome, InEachImage, IsAtRestWith, TellRow}
+use Rattle.nv_open.specs.Unopened.{GivesBack, HasFirstNames, HasRest, HasSome, InEachImage, IsAtRestWith, TellRow}
+use Rattle.nv_open.specs.declared.error.OpenError.{OpenError}
+use Rattle.std.specs.Prelude.{Vec}
+use Rattle.nv_open.proofs.Beginnings.{if_err_both}
 use Rattle.nv_open.proofs.GivenBack.{if_err_each, rest_back}
 use Rattle.nv_open.proofs.Openings.{opened_none}
 use Rattle.nv_open.proofs.PartlyBack.{added_back, alone_are, rest_left, some_are}
 use Rattle.std.proofs.Common.{◌+◌}
-use Rattle.nv_open.proofs.Layers.{is_added, never_by_bench, never_by_memory, not_added}
+use Rattle.nv_open.proofs.Layers.{as_many, is_added, never_by_bench, never_by_memory, not_added}
 use Rattle.nv_open.proofs.opening.add_wanted.Goals as goal
 
 pub open_stores-requires-clause-names : goal.open_stores-requires-clause-names
@@ -115,16 +118,18 @@ returns-clause-given_up g c =
     omega (arith, length-append known new, ap length is, c.if-len-gt-FILE_LIMIT.false, c.len.ensures, c.len-2.ensures, ap length c.names-2.ensures) in
     let all = all_are_names known wanted region.is_region.names_are c.requires.wanted few in
     let row : List lines.PartHistory = map history region.parts.items in
+    let Left : Vec _ _ × OpenError → Type 0 = λ failed. TellRow (InEachRowImage (HasFirstNames region.geometry.page region.geometry.entries known missing region.next)) (map history failed.0.items) in
+    let Many : Vec _ _ × OpenError → Type 0 = λ failed. length failed.0.items ≡ length region.parts.items in
     if_err_each c.add_names.result
-    (λ failed. TellRow (InEachRowImage (HasFirstNames region.geometry.page region.geometry.entries known missing region.next)) (map history failed.0.items))
+    (λ failed. Left failed × Many failed)
     (λ failed. IfSome state.told (λ holding. AllTell row
-    → GivesBack history store_history (InEachImage (HasSome (length known) (all_names known wanted) (files_behind files new holding.stores))) then failed.0.items stores))
+    → GivesBack history store_history (λ now. InEachImage (HasSome (length known) (all_names known wanted) (files_behind files new holding.stores)) now × HasRest (length region.parts.items) known holding.stores now) then failed.0.items stores))
     (λ failed left.
     added_back history store_history state then row failed.0.items c.args.stores.now.items stores opened.stores known wanted missing region.geometry.page region.geometry.entries region.next files
     (g.met.T.Bench.named c.args.bench.now) c.requires.names (subst (λ (these : List (List ℕ)). AreFileNames version_1 (known ++ these)) (sym is) all) c.requires.one_each holds c.requires.synced
-    opened.behind opened.lent opened.told
-    (λ tell. subst (λ names. TellRow (InEachRowImage (HasFirstNames region.geometry.page region.geometry.entries known names region.next)) (map history failed.0.items)) is (left tell)))
-    (λ tell. c.add_names.ensures.left tell))
+    opened.behind opened.lent opened.told (length region.parts.items)
+    (λ tell. (subst (λ names. TellRow (InEachRowImage (HasFirstNames region.geometry.page region.geometry.entries known names region.next)) (map history failed.0.items)) is (left tell).0, (left tell).1)))
+    (λ tell. if_err_both Left Many (λ failed. Left failed × Many failed) c.add_names.result (λ failed left many. (left, many)) (c.add_names.ensures.left tell) c.add_names.ensures.as_many))
 
 pub returns-in_default-clause-given_up : goal.returns-in_default-clause-given_up
 returns-in_default-clause-given_up g c = record {
@@ -143,8 +148,8 @@ returns-in_default-clause-given_up g c = record {
       let row : List lines.PartHistory = map history region.parts.items in
       let same : map history back ≡ row = ap (λ parts. map history parts.items) c.into_parts.ensures.parts in
       added_back history store_history state state row back stores stores none.stores known c.args.wanted.now [] region.geometry.page region.geometry.entries region.next files (g.met.T.Bench.named c.args.bench.now) c.requires.names
-      (alone_are known region.is_region.names_are) c.requires.one_each holds c.requires.synced none.behind none.lent none.told
-      (λ tell. rest_left (map history back) region.geometry.page region.geometry.entries known new region.next c.rows_have_states.ensures.some (subst AllTell (sym same) tell) c.into_parts.ensures.region.tells);
+      (alone_are known region.is_region.names_are) c.requires.one_each holds c.requires.synced none.behind none.lent none.told (length region.parts.items)
+      (λ tell. (rest_left (map history back) region.geometry.page region.geometry.entries known new region.next c.rows_have_states.ensures.some (subst AllTell (sym same) tell) c.into_parts.ensures.region.tells, as_many history back region.parts.items same));
 }
 
 pub returns-then-len-gt-FILE_LIMIT-clause-given_up : goal.returns-then-len-gt-FILE_LIMIT-clause-given_up
@@ -180,8 +185,8 @@ returns-then-len-gt-FILE_LIMIT-clause-given_up g c = record {
       let row : List lines.PartHistory = map history region.parts.items in
       let same : map history back ≡ row = ap (λ parts. map history parts.items) c.into_parts-then-len-gt-FILE_LIMIT.ensures.parts in
       added_back history store_history state state row back stores stores none.stores known c.args.wanted.now [] region.geometry.page region.geometry.entries region.next files (g.met.T.Bench.named c.args.bench.now) c.requires.names
-      (alone_are known region.is_region.names_are) c.requires.one_each holds c.requires.synced none.behind none.lent none.told
-      (λ tell. rest_left (map history back) region.geometry.page region.geometry.entries known new region.next c.rows_have_states.ensures.some (subst AllTell (sym same) tell) c.into_parts-then-len-gt-FILE_LIMIT.ensures.region.tells);
+      (alone_are known region.is_region.names_are) c.requires.one_each holds c.requires.synced none.behind none.lent none.told (length region.parts.items)
+      (λ tell. (rest_left (map history back) region.geometry.page region.geometry.entries known new region.next c.rows_have_states.ensures.some (subst AllTell (sym same) tell) c.into_parts-then-len-gt-FILE_LIMIT.ensures.region.tells, as_many history back region.parts.items same));
 }
 
 pub returns-in-Err-clause-given_up : goal.returns-in-Err-clause-given_up
@@ -209,6 +214,6 @@ returns-in-Err-clause-given_up g c = record {
       let same : map history back ≡ row = ap (λ parts. map history parts.items) c.into_parts-in-Err.ensures.parts in
       added_back history store_history state (g.T.Bench.state c.open_stores.new.bench) row back c.args.stores.now.items c.open_stores.new.stores.items opened.stores known wanted more region.geometry.page region.geometry.entries region.next files
       (g.met.T.Bench.named c.args.bench.now) c.requires.names (some_are begun.number known missing (subst (λ (these : List (List ℕ)). AreFileNames version_1 (known ++ these)) (sym is) all)) c.requires.one_each holds c.requires.synced
-      opened.behind opened.lent opened.told
-      (λ tell. rest_left (map history back) region.geometry.page region.geometry.entries known new region.next c.rows_have_states.ensures.some (subst AllTell (sym same) tell) c.into_parts-in-Err.ensures.region.tells);
+      opened.behind opened.lent opened.told (length region.parts.items)
+      (λ tell. (rest_left (map history back) region.geometry.page region.geometry.entries known new region.next c.rows_have_states.ensures.some (subst AllTell (sym same) tell) c.into_parts-in-Err.ensures.region.tells, as_many history back region.parts.items same));
 }

@@ -2,7 +2,7 @@ use Rattle.std.proofs.Common.{◌≡◌, ◌++◌, List, [], true, false, length
 use Rattle.std.specs.Prelude.{All, IfSome}
 use Rattle.std.specs.List.{AllZip}
 use Rattle.nv_pmem.specs.Room.{Keeps}
-use Rattle.nv_pmem.specs.RowStates.{row_tells_from}
+use Rattle.nv_pmem.specs.RowStates.{row_tells_at, row_tells_from}
 use Rattle.nv_pmem.specs.Rows.{RowTells}
 use Rattle.nv_pmem.specs.Steps as lines
 use Rattle.nv_bench.specs.Opening.{is_blank}
@@ -20,14 +20,20 @@ use Rattle.nv_open.proofs.Returns.{written_back, unwritten_by}
 use Rattle.nv_header.specs.Regions.{IsBlankOrFormatted}
 use Rattle.nv_pmem.specs.Rows.{InEachRowImage}
 use Rattle.nv_recover.specs.Telling.{AllTell}
-use Rattle.nv_open.specs.Unopened.{GivesBack, InEachImage, StandForFiles, StandsWithSome, TellRow}
+use Rattle.nv_open.specs.Unopened.{GivesBack, IsGood, IsUntouched, StandForFiles, StandsOpening, TellRow}
+use Rattle.nv_open.specs.declared.error.OpenError.{OpenError}
+use Rattle.std.specs.Prelude.{Vec}
+use Rattle.std.proofs.lemmas.List.{length-map}
 use Rattle.nv_pmem.specs.RowStates.{AreNow}
 use Rattle.nv_open.specs.Lending.{stores_named}
-use Rattle.nv_open.proofs.GivenBack.{if_err_each, read_back}
+use Rattle.nv_open.proofs.GivenBack.{if_err_any, if_err_each, none_of_header, read_back, read_untouched}
 use Rattle.nv_open.proofs.PartlyBack.{blank_back, read_left}
-use Rattle.nv_open.proofs.Layers.{formatted_begins, never_by_fault, not_formatted, not_recovered_begins, recovered_begins}
+use Rattle.nv_open.proofs.Layers.{formatted_begins, never_bad, never_by_fault, not_blank, not_formatted, not_recovered_begins, recovered_begins}
 use Rattle.nv_pmem.specs.Rows.{AreQuiet}
 use Rattle.nv_open.proofs.opening.begin.Goals as goal
+
+true_is_kept : true ≡ false → ⊥
+true_is_kept is = cc
 
 pub format_parts-requires-clause-blank : goal.format_parts-requires-clause-blank
 format_parts-requires-clause-blank g c =
@@ -119,11 +125,17 @@ returns-in-Ok-true-clause-given_up g c =
     (row_tells_from row (λ told. map store_history c.args.stores.now.items ≡ []) (λ told are. ap (map store_history) c.requires.none)))
     (c.format_parts.ensures.header why) (c.format_parts.ensures.kept why))
     (λ wanted.
+    let Left : Vec _ _ × OpenError → Type 0 = λ failed. TellRow (InEachRowImage (IsBlankOrFormatted version_1 geometry.page geometry.entries)) (map history failed.0.items) in
+    let Many : Vec _ _ × OpenError → Type 0 = λ failed. length failed.0.items ≡ length back in
     if_err_each c.format_parts.result
-    (λ failed. TellRow (InEachRowImage (IsBlankOrFormatted version_1 geometry.page geometry.entries)) (map history failed.0.items))
-    (λ failed. IfSome state.told (λ holding. RowTells row (λ told. StandForFiles told → GivesBack history store_history (InEachImage (StandsWithSome (record { parts = told; stores = holding.stores }) wanted)) state failed.0.items stores)))
-    (λ failed left. blank_back history store_history state state row failed.0.items stores wanted geometry.page geometry.entries c.requires.given.home none.lent c.requires.none blank c.requires.given.tell left)
-    (λ tell. c.format_parts.ensures.left (subst AllTell (sym same) tell)))
+    (λ failed. Left failed × Many failed)
+    (λ failed. IfSome state.told (λ holding. RowTells row (λ told. StandForFiles told → GivesBack history store_history (StandsOpening (length told) (record { parts = told; stores = holding.stores }) wanted) state failed.0.items stores)))
+    (λ failed left. blank_back history store_history state state row failed.0.items stores wanted geometry.page geometry.entries c.requires.given.home none.lent c.requires.none blank c.requires.given.tell
+    (λ tell. (let both = left tell in (both.0, both.1 ∙ sym (length-map back history) ∙ ap length same))))
+    (λ tell. if_err_both Left Many (λ failed. Left failed × Many failed) c.format_parts.result (λ failed left many. (left, many)) (c.format_parts.ensures.left (subst AllTell (sym same) tell)) c.format_parts.ensures.as_many))
+    (if_err_any c.format_parts.result
+    (λ failed. never_bad state.told row (λ holding told. GivesBack history store_history (IsUntouched (record { parts = told; stores = holding.stores })) state failed.0.items stores)
+    (row_tells_from row (λ told. is_blank told ≡ false → ¬ (IsGood told) → ⊥) (λ told are kept not_good. true_is_kept (sym (row_tells_at row (λ told. is_blank told ≡ true) told are blank) ∙ kept)))))
 
 pub returns-in-Ok-clause-begun : goal.returns-in-Ok-clause-begun
 returns-in-Ok-clause-begun g c =
@@ -174,4 +186,8 @@ returns-in-Err-clause-given_up g c =
       standing = λ wanted.
           read_left history store_history state state row back stores wanted c.images_follow_calls.ensures.quiet named c.requires.given.home none.lent c.requires.none same c.requires.given.quiet c.requires.given.synced
           (read_back history store_history state state items back stores named c.requires.given.home c.requires.given.quiet c.requires.given.synced [] same none.lent are);
+      untouched =
+          not_blank state.told row (λ holding told. GivesBack history store_history (IsUntouched (record { parts = told; stores = holding.stores })) state back stores)
+          (read_untouched history store_history state state items back stores named c.requires.given.home c.requires.given.quiet c.requires.given.synced [] same none.lent are
+          (none_of_header history store_history state state items back stores named c.requires.given.home c.requires.given.quiet c.requires.given.synced));
     }

@@ -5,20 +5,20 @@ use Rattle.nv_pmem.specs.RowStates.{AreNow}
 use Rattle.nv_store.specs.Store.{IsQuietStore}
 use Rattle.nv_bench.specs.Benches.{BenchState}
 use Rattle.nv_bench.specs.Holding.{Holding, IsQuietHolding, NamedStore}
-use Rattle.nv_bench.specs.Opening.{opened}
+use Rattle.nv_bench.specs.Opening.{is_blank, opened}
 use Rattle.nv_open.specs.Begun.{IsRegionOpened, IsNotOpened}
 use Rattle.nv_open.proofs.HeadLaws.{error_is}
 use Rattle.nv_open.proofs.AsHeld.{given_long, given_kept, some_map, opened_before, not_opened_before}
 use Rattle.nv_open.proofs.LogLaws.{states_many}
 use Rattle.nv_open.proofs.Regions.{given_quiet, given_spare, given_tell, lent_told, quiet_parts, some_stores, stores_after, still_untold, returned_told}
-use Rattle.nv_open.proofs.Sized.{quiet_opened}
-use Rattle.std.proofs.Common.{Option, [], ap}
+use Rattle.nv_open.proofs.Sized.{opened_kept, quiet_opened}
+use Rattle.std.proofs.Common.{Option, [], ap, false, inl, subst}
 use Rattle.std.specs.Prelude.{All, option_map}
 use Rattle.nv_pmem.specs.Rows.{RowTells}
 use Rattle.nv_pmem.specs.RowStates.{row_tells_at}
-use Rattle.nv_open.specs.Unopened.{GivesBack, InEachImage, RestsUnopened, StandForFiles, StandsWithSome, TellsOf}
-use Rattle.nv_open.proofs.GivenBack.{at_some, if_err_any, if_some, told_so}
-use Rattle.nv_open.proofs.PartlyBack.{before_made, gives_more, made_stand, rests_before, still_left}
+use Rattle.nv_open.specs.Unopened.{GivesBack, IsGood, IsUntouched, RestsUnopened, StandForFiles, StandsOpening, StandsUnopened, TellsOf}
+use Rattle.nv_open.proofs.GivenBack.{at_some, if_err_any, if_some, still_untouched, told_so}
+use Rattle.nv_open.proofs.PartlyBack.{gives_more, made_stand, rests_before, still_left, unopened_made}
 use Rattle.nv_open.proofs.opening.open.Goals as goal
 
 pub open_parts-requires-clause-given : goal.open_parts-requires-clause-given
@@ -105,8 +105,9 @@ returns-in_err-parts-clause-standing g c =
     let new = g.T.Bench.state c.open_region.new.self in
     let wanted = c.args.wanted.now in
     if_err_any c.from_residual.result (λ why.
-    if_some old.told (λ was. StandForFiles was.parts → TellsOf (InEachImage (StandsWithSome was wanted)) new.told)
-    (λ was told stand. still_left old new was wanted c.images_follow_calls.ensures.quiet c.in_err-parts.ensures.kept told c.requires.quiet stand))
+    if_some old.told (λ was. StandForFiles was.parts → TellsOf (StandsUnopened was c.args.geometry wanted) new.told)
+    (λ was told stand. let left = still_left old new was wanted c.images_follow_calls.ensures.quiet c.in_err-parts.ensures.kept told c.requires.quiet stand in
+    record { now = left.now; told_is = left.told_is; is_so = record { either = inl left.is_so } }))
 
 pub returns-in-Err-clause-standing : goal.returns-in-Err-clause-standing
 returns-in-Err-clause-standing g c =
@@ -121,18 +122,46 @@ returns-in-Err-clause-standing g c =
     let then = (g.T.Bench.state c.give_back.new.self).told in
     let geometry = c.args.geometry in
     let wanted = c.args.wanted.now in
-    if_some old.told (λ was. StandForFiles was.parts → TellsOf (InEachImage (StandsWithSome was wanted)) then) (λ was told stand.
+    if_some old.told (λ was. StandForFiles was.parts → TellsOf (StandsUnopened was geometry wanted) then) (λ was told stand.
     let made = opened (Some geometry) was.parts in
     let left : Holding = record { parts = []; stores = was.stores } in
     let mid_told : mid.told ≡ Some left = lent_told old mid c.in_ok-parts.ensures.lent ∙ ap (λ (one : Option Holding). option_map (λ (these : Holding). record { parts = []; stores = these.stores }) one) told in
     let Of : List Part → Holding = λ parts. record { parts = parts; stores = was.stores } in
-    let gives = row_tells_at (map history parts) (λ told. StandForFiles told → GivesBack history store_history (InEachImage (StandsWithSome (Of told) wanted)) new back stores) made
+    let gives = row_tells_at (map history parts) (λ told. StandForFiles told → GivesBack history store_history (StandsOpening (length told) (Of told) wanted) new back stores) made
     (at_some old.told (λ holding. AreNow (map history parts) (opened (Some geometry) holding.parts)) was told c.in_ok-parts.ensures.told)
-    (at_some mid.told (λ holding. RowTells (map history parts) (λ told. StandForFiles told → GivesBack history store_history (InEachImage (StandsWithSome (record { parts = told; stores = holding.stores }) wanted)) new back stores)) left mid_told
+    (at_some mid.told (λ holding. RowTells (map history parts) (λ told. StandForFiles told → GivesBack history store_history (StandsOpening (length told) (record { parts = told; stores = holding.stores }) wanted) new back stores)) left mid_told
     c.in-Err.ensures.given_up.standing) (made_stand geometry was.parts stand) in
-    told_so history store_history (InEachImage (StandsWithSome was wanted)) new back stores then
-    (gives_more history store_history (InEachImage (StandsWithSome (Of made) wanted)) (InEachImage (StandsWithSome was wanted)) new back stores
-    (λ holding each image bytes is are. before_made geometry was wanted image bytes (each image bytes is are)) gives)
+    told_so history store_history (StandsUnopened was geometry wanted) new back stores then
+    (gives_more history store_history (StandsOpening (length made) (Of made) wanted) (StandsUnopened was geometry wanted) new back stores (unopened_made geometry was wanted) gives)
+    c.give_back.ensures.told)
+
+pub returns-in_err-parts-clause-untouched : goal.returns-in_err-parts-clause-untouched
+returns-in_err-parts-clause-untouched g c =
+    let old = g.T.Bench.state c.args.bench.now in
+    let new = g.T.Bench.state c.open_region.new.self in
+    if_err_any c.from_residual.result (λ why.
+    if_some old.told (λ was. is_blank was.parts ≡ false → ¬ (IsGood was.parts) → TellsOf (IsUntouched was) new.told) (λ was told kept not_good. still_untouched old new was c.in_err-parts.ensures.kept told))
+
+pub returns-in-Err-clause-untouched : goal.returns-in-Err-clause-untouched
+returns-in-Err-clause-untouched g c =
+    let history = g.T.Part.Lines.history in
+    let store_history = g.T.Store.Backing.history in
+    let old = g.T.Bench.state c.args.bench.now in
+    let mid = g.T.Bench.state c.open_region.new.self in
+    let new = g.T.Bench.state c.open_parts.new.bench in
+    let parts = c.in_ok-parts.parts.items in
+    let stores = c.open_parts.new.stores.items in
+    let back = c.in-Err.parts.items in
+    let then = (g.T.Bench.state c.give_back.new.self).told in
+    let geometry = c.args.geometry in
+    if_some old.told (λ was. is_blank was.parts ≡ false → ¬ (IsGood was.parts) → TellsOf (IsUntouched was) then) (λ was told kept not_good.
+    let left : Holding = record { parts = []; stores = was.stores } in
+    let mid_told : mid.told ≡ Some left = lent_told old mid c.in_ok-parts.ensures.lent ∙ ap (λ (one : Option Holding). option_map (λ (these : Holding). record { parts = []; stores = these.stores }) one) told in
+    let Untouched : Holding → List Part → Type 0 = λ holding told. is_blank told ≡ false → ¬ (IsGood told) → GivesBack history store_history (IsUntouched (record { parts = told; stores = holding.stores })) new back stores in
+    told_so history store_history (IsUntouched was) new back stores then
+    (row_tells_at (map history parts) (Untouched left) was.parts
+    (subst (λ (made : List Part). AreNow (map history parts) made) (opened_kept geometry was.parts kept) (at_some old.told (λ holding. AreNow (map history parts) (opened (Some geometry) holding.parts)) was told c.in_ok-parts.ensures.told))
+    (at_some mid.told (λ holding. RowTells (map history parts) (Untouched holding)) left mid_told c.in-Err.ensures.given_up.untouched) kept not_good)
     c.give_back.ensures.told)
 
 pub returns-in-Err-clause-rests : goal.returns-in-Err-clause-rests

@@ -2,7 +2,7 @@ use Rattle.std.proofs.Common.{◌≡◌, ◌++◌, List, [], Err, length, map, t
 use Rattle.std.specs.Prelude.{All, IfSome}
 use Rattle.std.specs.List.{AllZip}
 use Rattle.nv_pmem.specs.Room.{Keeps}
-use Rattle.nv_pmem.specs.RowStates.{AreNow, row_tells_from}
+use Rattle.nv_pmem.specs.RowStates.{AreNow, row_tells_at, row_tells_from}
 use Rattle.nv_pmem.specs.Rows.{RowTells}
 use Rattle.nv_pmem.specs.Steps as lines
 use Rattle.nv_header.specs.Laws.{HasSpare}
@@ -11,17 +11,18 @@ use Rattle.nv_recover.specs.Standing.{AreQuietStores}
 use Rattle.nv_open.specs.Held.{header_names}
 use Rattle.nv_open.specs.Lending.{stores_named}
 use Rattle.nv_open.specs.Refusals.{IsRefusedFor, IsBadHeader, IsBadLog}
-use Rattle.nv_open.proofs.Layers.{is_recovered, never_by_bench, not_recovered}
+use Rattle.nv_open.proofs.Beginnings.{if_err_both}
+use Rattle.nv_open.proofs.Layers.{as_many, is_recovered, never_by_bench, not_recovered}
 use Rattle.nv_open.proofs.LineCounts.{kept_spare}
 use Rattle.nv_open.proofs.Openings.{opened_none, some_nil}
 use Rattle.nv_open.proofs.Returns.{written_back, lent_quiet, opened_alone, files_passed, opened_by_header, opened_by_log, refused_alone, unwritten_by}
 use Rattle.nv_bench.specs.Holding.{Holding}
 use Rattle.nv_recover.specs.Telling.{AllTell}
 use Rattle.nv_open.proofs.Tells.{telling_with}
-use Rattle.std.proofs.lemmas.Result.{IfErr-weaker}
 use Rattle.nv_pmem.specs.Part.{Part}
-use Rattle.nv_open.specs.Unopened.{StandAsBefore}
-use Rattle.nv_open.proofs.GivenBack.{read_back, stood_back, at_some}
+use Rattle.nv_open.specs.Unopened.{IsGood, StandAsBefore}
+use Rattle.nv_open.proofs.GivenBack.{all_of_header, at_some, first_of_header, none_of_header, read_back, read_untouched, stood_back, untouched_back}
+use Rattle.std.proofs.lemmas.Result.{IfErr-weaker}
 use Rattle.nv_plain.specs.Layouts.{version_1}
 use Rattle.nv_header.specs.FileNames.{AreFileNames}
 use Rattle.nv_pmem.specs.Rows.{AreQuiet}
@@ -102,6 +103,10 @@ returns-in-Err-clause-given_up g c =
       standing =
           read_back history store_history state state items back c.args.stores.now.items (g.met.T.Bench.named c.args.bench.now) c.requires.given.home c.requires.given.quiet c.requires.given.synced [] same
           none.lent (subst (λ these. IfSome state.told (λ holding. AreNow (map store_history these) (stores_named [] holding.stores))) (sym c.requires.none) (some_nil state.told));
+      untouched =
+          read_untouched history store_history state state items back c.args.stores.now.items (g.met.T.Bench.named c.args.bench.now) c.requires.given.home c.requires.given.quiet c.requires.given.synced [] same
+          none.lent (subst (λ these. IfSome state.told (λ holding. AreNow (map store_history these) (stores_named [] holding.stores))) (sym c.requires.none) (some_nil state.told))
+          (none_of_header history store_history state state items back c.args.stores.now.items (g.met.T.Bench.named c.args.bench.now) c.requires.given.home c.requires.given.quiet c.requires.given.synced);
     }
 
 pub returns-in-Err-open_stores-clause-given_up : goal.returns-in-Err-open_stores-clause-given_up
@@ -125,6 +130,13 @@ returns-in-Err-open_stores-clause-given_up g c =
           c.requires.given.quiet c.requires.given.synced names same opened.lent
           (subst (λ these. IfSome state.told (λ holding. AreNow (map store_history these) (stores_named names holding.stores)))
           (opened_alone c.args.stores.now.items c.open_stores.new.stores.items opened.stores c.requires.none opened.behind) opened.told);
+      untouched =
+          read_untouched history store_history state (g.T.Bench.state c.open_stores.new.bench) items back c.open_stores.new.stores.items (g.met.T.Bench.named c.args.bench.now) c.requires.given.home
+          c.requires.given.quiet c.requires.given.synced names same opened.lent
+          (subst (λ these. IfSome state.told (λ holding. AreNow (map store_history these) (stores_named names holding.stores)))
+          (opened_alone c.args.stores.now.items c.open_stores.new.stores.items opened.stores c.requires.none opened.behind) opened.told)
+          (first_of_header (map history items) begun.number c.in-Ok.head.names
+          (subst (λ these. RowTells (map history these) (λ parts. header_names parts ≡ c.in-Ok.head.names)) c.deref_mut.ensures.value c.in-Ok.ensures.names));
     }
 
 pub returns-clause-recovered : goal.returns-clause-recovered
@@ -175,13 +187,29 @@ returns-clause-given_up g c =
     (opened_by_log row why names says (subst (λ these. RowTells these (λ parts. IsRefusedFor parts why × IsBadLog why)) same (c.recover_log.ensures.refused why is)))
     (c.recover_log.ensures.unwritten why is ∙ same) opened.lent lent
     (subst (λ these. RowTells these (λ parts. map store_history c.recover_log.new.stores.items ≡ map store_history c.open_stores.new.stores.items)) same (c.recover_log.ensures.stores_kept why is)))
-    (IfErr-weaker c.recover_log.result
+    (if_err_both
     (λ failed. (told : List Part) (was : List _) → AreNow (map history back) told → AreNow (map store_history c.open_stores.new.stores.items) was
     → StandAsBefore told was (map history failed.0.items) (map store_history c.recover_log.new.stores.items))
-    (λ failed. IfSome state.told (λ holding. RowTells (map history items) (λ told. _)))
-    (λ failed stands.
+    (λ failed. length failed.0.items ≡ length back)
+    (λ failed. IfSome state.told (λ holding. RowTells (map history items) (λ told. _))) c.recover_log.result
+    (λ failed stands many.
     stood_back history store_history state then items failed.0.items c.recover_log.new.stores.items (g.met.T.Bench.named c.args.bench.now) c.requires.given.home c.requires.given.quiet c.requires.given.synced names
-    says c.in-Ok.ensures.limits.names (c.recover_log.ensures.count ∙ sym (ap length alone) ∙ opened.count) opened.lent
+    says c.in-Ok.ensures.limits.names (c.recover_log.ensures.count ∙ sym (ap length alone) ∙ opened.count) (many ∙ as_many history back items same) opened.lent
     (λ holding told_is told told_are. stands told (stores_named names holding.stores) (subst (λ (row : List lines.PartHistory). AreNow row told) (sym same) told_are)
     (at_some state.told (λ holding. AreNow (map store_history c.open_stores.new.stores.items) (stores_named names holding.stores)) holding told_is lent)))
-    c.recover_log.ensures.standing)
+    c.recover_log.ensures.standing c.recover_log.ensures.as_many)
+    (IfErr-weaker c.recover_log.result
+    (λ failed. RowTells (map history back) (λ told. ¬ (IsGood told)
+    → (map history failed.0.items ≡ map history back) × (map store_history c.recover_log.new.stores.items ≡ map store_history c.open_stores.new.stores.items)))
+    (λ failed. IfSome state.told (λ holding. RowTells (map history items) (λ told. _)))
+    (λ failed unfit.
+    untouched_back history store_history state then items failed.0.items c.recover_log.new.stores.items (g.met.T.Bench.named c.args.bench.now) c.requires.given.home c.requires.given.quiet c.requires.given.synced names
+    opened.lent (all_of_header (map history items) names says)
+    (λ holding told_is told told_are not_good.
+    let both = row_tells_at (map history back) (λ told. ¬ (IsGood told)
+    → (map history failed.0.items ≡ map history back) × (map store_history c.recover_log.new.stores.items ≡ map store_history c.open_stores.new.stores.items)) told
+    (subst (λ (row : List lines.PartHistory). AreNow row told) (sym same) told_are) unfit not_good in (
+      subst (λ (row : List lines.PartHistory). AreNow row told) (sym (both.0 ∙ same)) told_are,
+      subst (λ row. AreNow row (stores_named names holding.stores)) (sym both.1) (at_some state.told (λ holding. AreNow (map store_history c.open_stores.new.stores.items) (stores_named names holding.stores)) holding told_is lent),
+    )))
+    c.recover_log.ensures.unfit)

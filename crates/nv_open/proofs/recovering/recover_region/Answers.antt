@@ -15,8 +15,8 @@ use Rattle.std.specs.Prelude.{All, option_map}
 use Rattle.nv_bench.specs.Benches.{BenchState}
 use Rattle.nv_pmem.specs.Rows.{RowTells}
 use Rattle.nv_pmem.specs.RowStates.{row_tells_at}
-use Rattle.nv_open.specs.Unopened.{HasHeader, GivesBack, StandsAsBefore, TellsOf}
-use Rattle.nv_open.proofs.GivenBack.{at_some, if_err_any, if_some, still_stands, told_so}
+use Rattle.nv_open.specs.Unopened.{HasHeader, GivesBack, IsGood, IsUntouched, StandsAsBefore, TellsOf}
+use Rattle.nv_open.proofs.GivenBack.{at_some, if_err_any, if_some, still_stands, still_untouched, told_so}
 use Rattle.nv_open.proofs.recovering.recover_region.Goals as goal
 
 pub recover_parts-requires-clause-given : goal.recover_parts-requires-clause-given
@@ -80,6 +80,32 @@ returns-in_err-parts-clause-standing g c =
     let new = g.T.Bench.state c.open_region.new.self in
     if_err_any c.from_residual.result (λ why.
     if_some old.told (λ was. HasHeader was.parts → TellsOf (StandsAsBefore was) new.told) (λ was told readable. still_stands old new was c.in_err-parts.ensures.kept told c.requires.quiet readable))
+
+pub returns-in_err-parts-clause-untouched : goal.returns-in_err-parts-clause-untouched
+returns-in_err-parts-clause-untouched g c =
+    let old = g.T.Bench.state c.args.bench.now in
+    let new = g.T.Bench.state c.open_region.new.self in
+    if_err_any c.from_residual.result (λ why.
+    if_some old.told (λ was. ¬ (IsGood was.parts) → TellsOf (IsUntouched was) new.told) (λ was told not_good. still_untouched old new was c.in_err-parts.ensures.kept told))
+
+pub returns-in-Err-clause-untouched : goal.returns-in-Err-clause-untouched
+returns-in-Err-clause-untouched g c =
+    let history = g.T.Part.Lines.history in
+    let store_history = g.T.Store.Backing.history in
+    let old = g.T.Bench.state c.args.bench.now in
+    let mid = g.T.Bench.state c.open_region.new.self in
+    let new = g.T.Bench.state c.recover_parts.new.bench in
+    let parts = c.in_ok-parts.parts.items in
+    let then = (g.T.Bench.state c.give_back.new.self).told in
+    if_some old.told (λ was. ¬ (IsGood was.parts) → TellsOf (IsUntouched was) then) (λ was told not_good.
+    let left : Holding = record { parts = []; stores = was.stores } in
+    let mid_told : mid.told ≡ Some left = lent_told old mid c.in_ok-parts.ensures.lent ∙ ap (λ (one : Option Holding). option_map (λ (these : Holding). record { parts = []; stores = these.stores }) one) told in
+    let Untouched : Holding → List Part → Type 0 = λ holding told. ¬ (IsGood told)
+    → GivesBack history store_history (IsUntouched (record { parts = told; stores = holding.stores })) new c.in-Err.parts.items c.recover_parts.new.stores.items in
+    told_so history store_history (IsUntouched was) new c.in-Err.parts.items c.recover_parts.new.stores.items then
+    (row_tells_at (map history parts) (Untouched left) was.parts (at_some old.told (λ holding. AreNow (map history parts) holding.parts) was told c.in_ok-parts.ensures.told)
+    (at_some mid.told (λ holding. RowTells (map history parts) (Untouched holding)) left mid_told c.in-Err.ensures.given_up.untouched) not_good)
+    c.give_back.ensures.told)
 
 pub returns-in-Err-clause-standing : goal.returns-in-Err-clause-standing
 returns-in-Err-clause-standing g c =

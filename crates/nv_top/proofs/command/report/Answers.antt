@@ -7,7 +7,8 @@ use Rattle.nv_top.specs.Reported.{HasReported}
 use Rattle.nv_top.specs.Stops.{stop_of_words}
 use Rattle.nv_top.specs.declared.words.Command.{Command}
 use Rattle.nv_top.specs.declared.words.Command.TheVariants.{Recover, Look, Gen}
-use Rattle.nv_top.proofs.CommandLemmas.{if_told}
+use Rattle.nv_open.specs.Unopened.{HasHeader, IsGood, IsUntouched, StandsAsBefore, TellsOf}
+use Rattle.nv_top.proofs.CommandLemmas.{if_told, told_at}
 use Rattle.nv_top.proofs.CompleteLemmas.{look_settled, look_unarmed}
 use Rattle.nv_top.proofs.HeadlineLemmas.{load_limits, recovery_refused, run_limits, schedule_limits, stop_possible}
 use Rattle.nv_top.proofs.LifeLemmas.{life_unread}
@@ -70,7 +71,12 @@ returns-in-Recover g c =
     let made = c.recover.ensures in
     subst (λ over. HasReported over given given faults faults old new c.recover.result) (sym (c.in_ok-command.ensures.command ∙ ap Some c.in-Recover.is))
     (counted_reported Recover given given faults old new c.recover.result c.requires.ready made.back (ap (λ (state : BenchState). state.settled) made.back) (ap (λ (state : BenchState). state.arms) made.back) made.cause
-    refl tt (λ why is. recovery_refused given old new why (made.refused why is) (made.unwritten why is)) made.standing made.recovered)
+    refl tt (λ why is. recovery_refused given old new why (made.refused why is) (made.unwritten why is))
+    (if_told old.told (λ was. LeavesLife Recover given was new.told) (λ was told. record {
+      stands = told_at old.told (λ was. HasHeader was.parts → TellsOf (StandsAsBefore was) new.told) was told made.standing;
+      untouched = told_at old.told (λ was. ¬ (IsGood was.parts) → TellsOf (IsUntouched was) new.told) was told made.untouched;
+    }))
+    made.recovered)
 
 pub returns-in-Look : goal.returns-in-Look
 returns-in-Look g c =

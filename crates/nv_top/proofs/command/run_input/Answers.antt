@@ -1,4 +1,4 @@
-use Rattle.std.proofs.Common.{◌≡◌, Err, refl, sym, subst, ap}
+use Rattle.std.proofs.Common.{Err, refl, sym, subst, ap}
 use Rattle.std.specs.Prelude.{IfSome, Some}
 use Rattle.std.proofs.lemmas.Result.{IfOk-weaker}
 use Rattle.nv_trace.specs.declared.trace.Form.TheVariants as forms

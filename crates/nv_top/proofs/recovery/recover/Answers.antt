@@ -25,7 +25,7 @@ use Rattle.nv_top.proofs.NameLemmas.{each_allowed, names_plain}
 use Rattle.nv_top.proofs.RowLemmas.{present}
 use Rattle.std.proofs.lemmas.List.{length-map}
 use Rattle.nv_open.specs.Held.{HoldFiles, IsRecovered}
-use Rattle.nv_open.specs.Unopened.{HasHeader, StandsAsBefore, TellsOf}
+use Rattle.nv_open.specs.Unopened.{HasHeader, IsGood, IsUntouched, StandsAsBefore, TellsOf}
 use Rattle.nv_open.proofs.LogLaws.{states_many}
 use Rattle.nv_top.proofs.CommandLemmas.{back_is}
 use Rattle.nv_top.proofs.HeadlineLemmas.{home_distinct}
@@ -98,6 +98,15 @@ returns-clause-recovered g c =
     }))
     c.show-report.ensures.text
 
+pub returns-clause-untouched : goal.returns-clause-untouched
+returns-clause-untouched g c =
+    let old = g.T.Bench.state c.args.bench.now in
+    let then = (g.T.Bench.state c.give_back.new.self).told in
+    let region = c.in_ok-opened.opened.region in
+    if_told old.told (λ was. ¬ (IsGood was.parts) → TellsOf (IsUntouched was) then) (λ was told bad.
+    let recovery = told_at old.told (λ holding. IsRecovered holding.parts region.geometry.page region.geometry.entries region.names region.next c.in_ok-opened.found) was told c.in_ok-opened.ensures.recovered in
+    absurd (bad (record { readable = recovery.readable; long = recovery.long; fits = recovery.log.fits })))
+
 pub returns-clause-standing : goal.returns-clause-standing
 returns-clause-standing g c =
     let history = g.T.Part.Lines.history in
@@ -123,6 +132,8 @@ returns-clause-standing g c =
       is_so =
           recovered_stands c.images_stand_for_files.ensures.files was region.geometry.page region.geometry.entries region.next region.names c.in_ok-opened.found now.states files.held recovery
           (row_tells_at (map history back) (IsAtRest version_1 region.geometry.page region.geometry.entries region.names region.next) now.states now_are c.into_parts.ensures.region.tells) files.files_are files.quiet
-          (home_distinct old was (g.met.T.Bench.named c.args.bench.now) told c.requires.at_home.home) (sym (states_many (map held backing) files.held files.are ∙ length-map backing held ∙ made.one_each))
+          (home_distinct old was (g.met.T.Bench.named c.args.bench.now) told c.requires.at_home.home)
+          (states_many (map history region.parts.items) now.states now.are ∙ length-map region.parts.items history ∙ told_at old.told (λ holding. length region.parts.items ≡ length holding.parts) was told made.many)
+          (sym (states_many (map held backing) files.held files.are ∙ length-map backing held ∙ made.one_each))
           c.into_parts.ensures.region.names_are.distinct readable;
     })

@@ -16,7 +16,7 @@ use Rattle.std.proofs.Common.{Err}
 use Rattle.nv_open.specs.declared.error.OpenError.TheVariants.{Refused}
 use Rattle.nv_top.specs.Stops.{stop_of_opening}
 use Rattle.nv_top.specs.declared.ending.Stop.TheVariants.{Region}
-use Rattle.nv_top.proofs.ReportedLemmas.{opened_basis, run_refused}
+use Rattle.nv_top.proofs.ReportedLemmas.{opened_basis, refused_life, run_refused}
 use Rattle.nv_top.proofs.StopLemmas.{err_has, opening_refused}
 use Rattle.std.proofs.Common.{inr}
 use Rattle.std.proofs.lemmas.List.{length-map}
@@ -26,7 +26,9 @@ use Rattle.nv_open.proofs.LogLaws.{states_many}
 use Rattle.nv_top.specs.Lives.{LeavesRun}
 use Rattle.nv_top.proofs.CommandLemmas.{back_is}
 use Rattle.nv_top.proofs.HeadlineLemmas.{home_distinct}
-use Rattle.nv_top.proofs.LifeLemmas.{lived_home, still_run}
+use Rattle.nv_bench.specs.Opening.{opened as opened_parts}
+use Rattle.nv_open.proofs.Layers.{good_begun}
+use Rattle.nv_top.proofs.LifeLemmas.{lived_home, lived_on, still_run}
 use Rattle.nv_top.proofs.run.run_to_end.Goals as goal
 
 pub run_region-parts-requires-clause-known : goal.run_region-parts-requires-clause-known
@@ -100,19 +102,24 @@ returns-then-faults-before-clause-life g c =
     let region = c.in_ok-region.field-0.region in
     let stores = c.in_ok-region.field-0.stores.items in
     let ended = c.run_region-parts.result in
-    if_told old.told (λ was. LeavesRun c.args.options was trace after_it.told) (λ holding told stand.
+    if_told old.told (λ was. LeavesRun c.args.options was trace after_it.told) (λ holding told.
     let opened = told_at old.told _ holding told made.opened in
     let parts = present (map history region.parts.items) (told_at old.told _ holding told made.tell) in
     let basis = basis_over region c.args.options.pages (files_of opened.files.held) in
     let left = c.run_region-parts.ensures.life parts.states opened.files.held parts.are opened.files.are in
-    inr (record {
-      basis = basis;
-      begun = opened_basis c.args.options holding _ _ trace.names _ _ _ _ _ opened refl refl (c.in_ok-wanted.ensures ∙ c.names.ensures);
-      lived = lived_home basis trace history held ended.parts.items ended.stores.items after_it.told (without_stores region.names holding.stores) (λ holding is. g.met.T.Bench.whole c.give_back.new.self holding is) left
-          (λ disks are. back_again region.names holding.stores disks (home_distinct old holding (g.met.T.Bench.named c.args.bench.now) told c.requires.at_home.home)
-          (sym (states_many (map held ended.stores.items) disks are ∙ length-map ended.stores.items held ∙ c.run_region-parts.ensures.count ∙ made.one_each)) region.is_region.names_are.distinct)
-          (λ now disks now_are disks_are. c.give_back.ensures.told now disks now_are disks_are ∙ back_is old mid region.names holding made.lent c.requires.at_home.home told now disks);
-    }))
+    let begun = opened_basis c.args.options holding _ _ trace.names _ _ _ _ _ opened refl refl (c.in_ok-wanted.ensures ∙ c.names.ensures) in
+    record {
+      untouched = λ kept bad. absurd (bad (good_begun holding.parts _ _ _ _ _ opened.begun kept));
+      stands = λ stand. inr (record {
+        basis = basis;
+        begun = begun;
+        lived = lived_on basis trace (length region.parts.items) (length (opened_parts (Some begun.geometry) holding.parts)) holding.stores after_it.told (told_at old.told _ holding told made.many)
+            (lived_home basis trace history held ended.parts.items ended.stores.items (length region.parts.items) c.run_region-parts.ensures.many after_it.told (without_stores region.names holding.stores) (λ holding is. g.met.T.Bench.whole c.give_back.new.self holding is) left
+            (λ disks are. back_again region.names holding.stores disks (home_distinct old holding (g.met.T.Bench.named c.args.bench.now) told c.requires.at_home.home)
+            (sym (states_many (map held ended.stores.items) disks are ∙ length-map ended.stores.items held ∙ c.run_region-parts.ensures.count ∙ made.one_each)) region.is_region.names_are.distinct)
+            (λ now disks now_are disks_are. c.give_back.ensures.told now disks now_are disks_are ∙ back_is old mid region.names holding made.lent c.requires.at_home.home told now disks));
+      });
+    })
 
 pub returns-clause-life : goal.returns-clause-life
 returns-clause-life g c =
@@ -126,16 +133,26 @@ returns-clause-life g c =
     let region = c.in_ok-region.field-0.region in
     let stores = c.in_ok-region.field-0.stores.items in
     let ended = c.run_region-parts.result in
-    if_told old.told (λ was. LeavesRun c.args.options was trace after_it.told) (λ holding told stand.
+    if_told old.told (λ was. LeavesRun c.args.options was trace after_it.told) (λ holding told.
     let opened = told_at old.told _ holding told made.opened in
     let parts = present (map history region.parts.items) (told_at old.told _ holding told made.tell) in
     let basis = basis_over region c.args.options.pages (files_of opened.files.held) in
     let left = c.run_region-parts.ensures.life parts.states opened.files.held parts.are opened.files.are in
-    inr (record {
-      basis = basis;
-      begun = opened_basis c.args.options holding _ _ trace.names _ _ _ _ _ opened refl refl (c.in_ok-wanted.ensures ∙ c.names.ensures);
-      lived = lived_home basis trace history held ended.parts.items ended.stores.items after_it.told (without_stores region.names holding.stores) (λ holding is. g.met.T.Bench.whole c.give_back.new.self holding is) left
-          (λ disks are. back_again region.names holding.stores disks (home_distinct old holding (g.met.T.Bench.named c.args.bench.now) told c.requires.at_home.home)
-          (sym (states_many (map held ended.stores.items) disks are ∙ length-map ended.stores.items held ∙ c.run_region-parts.ensures.count ∙ made.one_each)) region.is_region.names_are.distinct)
-          (λ now disks now_are disks_are. c.give_back.ensures.told now disks now_are disks_are ∙ back_is old mid region.names holding made.lent c.requires.at_home.home told now disks);
-    }))
+    let begun = opened_basis c.args.options holding _ _ trace.names _ _ _ _ _ opened refl refl (c.in_ok-wanted.ensures ∙ c.names.ensures) in
+    record {
+      untouched = λ kept bad. absurd (bad (good_begun holding.parts _ _ _ _ _ opened.begun kept));
+      stands = λ stand. inr (record {
+        basis = basis;
+        begun = begun;
+        lived = lived_on basis trace (length region.parts.items) (length (opened_parts (Some begun.geometry) holding.parts)) holding.stores after_it.told (told_at old.told _ holding told made.many)
+            (lived_home basis trace history held ended.parts.items ended.stores.items (length region.parts.items) c.run_region-parts.ensures.many after_it.told (without_stores region.names holding.stores) (λ holding is. g.met.T.Bench.whole c.give_back.new.self holding is) left
+            (λ disks are. back_again region.names holding.stores disks (home_distinct old holding (g.met.T.Bench.named c.args.bench.now) told c.requires.at_home.home)
+            (sym (states_many (map held ended.stores.items) disks are ∙ length-map ended.stores.items held ∙ c.run_region-parts.ensures.count ∙ made.one_each)) region.is_region.names_are.distinct)
+            (λ now disks now_are disks_are. c.give_back.ensures.told now disks now_are disks_are ∙ back_is old mid region.names holding made.lent c.requires.at_home.home told now disks));
+      });
+    })
+
+pub returns-in_err-region-clause-life : goal.returns-in_err-region-clause-life
+returns-in_err-region-clause-life g c =
+    let made = c.in_err-region.ensures in
+    refused_life c.args.options _ c.args.trace.now.names (g.T.Bench.state c.args.bench.now) (g.T.Bench.state c.open.new.bench) (c.in_ok-wanted.ensures ∙ c.names.ensures) c.args.trace.now refl _ refl refl made.standing made.untouched

@@ -23,13 +23,15 @@ use Rattle.nv_top.specs.declared.ending.Stop.TheVariants.{Region}
 use Rattle.nv_top.proofs.CommandLemmas.{if_told, mid_told, told_at}
 use Rattle.nv_top.proofs.HeadlineLemmas.{home_distinct, quiet_left}
 use Rattle.nv_top.proofs.NameLemmas.{wanted_known}
-use Rattle.nv_top.proofs.ReportedLemmas.{opened_basis, run_refused}
+use Rattle.nv_top.proofs.ReportedLemmas.{opened_basis, refused_life, run_refused}
 use Rattle.nv_top.proofs.RowLemmas.{present}
 use Rattle.nv_top.proofs.SchedulingLemmas.{all_from_lent, armed_none, from_lent, used_from_lent}
 use Rattle.nv_top.proofs.StopLemmas.{err_has, opening_refused}
 use Rattle.std.proofs.Common.{inr}
 use Rattle.nv_top.specs.Lives.{HasLived, LeavesRun}
-use Rattle.nv_top.proofs.LifeLemmas.{still_run}
+use Rattle.nv_bench.specs.Opening.{opened as opened_parts}
+use Rattle.nv_open.proofs.Layers.{good_begun}
+use Rattle.nv_top.proofs.LifeLemmas.{lived_on, still_run}
 use Rattle.nv_top.proofs.scheduling.schedule.Goals as goal
 
 -- a bench that tells isn't one that doesn't
@@ -171,18 +173,23 @@ returns-clause-life g c =
     let trace = c.args.trace.now in
     let made = c.in_ok-opened.ensures in
     let region = c.in_ok-opened.opened.region in
-    if_told old.told (λ was. LeavesRun c.args.options was trace new.told) (λ holding told stand.
+    if_told old.told (λ was. LeavesRun c.args.options was trace new.told) (λ holding told.
     let opened = told_at old.told _ holding told made.opened in
     let parts = present (map history region.parts.items) (told_at old.told _ holding told made.tell) in
     let basis = basis_over region c.args.options.pages (files_of opened.files.held) in
     let left : Holding = record { parts = []; stores = without_stores region.names holding.stores } in
-    inr (record {
-      basis = basis;
-      begun = opened_basis c.args.options holding _ _ trace.names _ _ _ _ _ opened refl refl (c.in_ok-wanted.ensures ∙ c.names.ensures);
-      lived = told_at mid.told (λ left. IsAway region.names left → HasLived basis trace new.told) left (mid_told old mid region.names holding made.lent c.requires.ready.at_home.home told)
-          (c.schedule_region.ensures.life parts.states opened.files.held parts.are opened.files.are)
-          (all_away region.names holding.stores (home_distinct old holding (g.met.T.Bench.named c.args.bench.now) told c.requires.ready.at_home.home));
-    }))
+    let begun = opened_basis c.args.options holding _ _ trace.names _ _ _ _ _ opened refl refl (c.in_ok-wanted.ensures ∙ c.names.ensures) in
+    record {
+      untouched = λ kept bad. absurd (bad (good_begun holding.parts _ _ _ _ _ opened.begun kept));
+      stands = λ stand. inr (record {
+        basis = basis;
+        begun = begun;
+        lived = lived_on basis trace (length region.parts.items) (length (opened_parts (Some begun.geometry) holding.parts)) holding.stores new.told (told_at old.told _ holding told made.many)
+            (told_at mid.told (λ left. IsAway region.names left → HasLived basis trace (length region.parts.items) left.stores new.told) left (mid_told old mid region.names holding made.lent c.requires.ready.at_home.home told)
+            (c.schedule_region.ensures.life parts.states opened.files.held parts.are opened.files.are)
+            (all_away region.names holding.stores (home_distinct old holding (g.met.T.Bench.named c.args.bench.now) told c.requires.ready.at_home.home)));
+      });
+    })
 
 pub returns-clause-used : goal.returns-clause-used
 returns-clause-used g c is =
@@ -212,3 +219,8 @@ returns-clause-used g c is =
           (ap (λ (s : BenchState). s.arms) made.lent) (ap (λ (s : BenchState). s.armed) made.lent) (ap (λ (s : BenchState). s.picked) made.lent)
           (subst (λ many. Over old.faults many left.stores mid) (told_at old.told _ holding told made.many) (subst (λ count. Over count (length region.parts.items) left.stores mid) same used));
     })
+
+pub returns-in_err-opened-clause-life : goal.returns-in_err-opened-clause-life
+returns-in_err-opened-clause-life g c =
+    let made = c.in_err-opened.ensures in
+    refused_life c.args.options _ c.args.trace.now.names (g.T.Bench.state c.args.bench.now) (g.T.Bench.state c.open.new.bench) (c.in_ok-wanted.ensures ∙ c.names.ensures) c.args.trace.now refl _ refl refl made.standing made.untouched

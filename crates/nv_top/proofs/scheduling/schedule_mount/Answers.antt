@@ -24,7 +24,6 @@ use Rattle.nv_top.proofs.StoppingLemmas.{HasClosedOver, at_some, failed_same, ho
 use Rattle.nv_top.proofs.UnrefusedLemmas.{never_refused}
 use Rattle.nv_top.specs.Lives.{HasLived}
 use Rattle.nv_top.proofs.ScheduleLifeLemmas.{scheduled_home, scheduled_recovered}
-use Rattle.nv_top.proofs.SchedulingLemmas.{IfSome-weaker}
 use Rattle.nv_top.proofs.scheduling.schedule_mount.Goals as goal
 
 pub show_outcome-requires-clause-at_home : goal.show_outcome-requires-clause-at_home
@@ -268,10 +267,12 @@ returns-then-has_failed-clause-life g c basis begins named =
     let came = c.run_schedule-closed.result.closed in
     let ran = c.run_schedule-closed.ensures.ran in
     let many = length-map came.stores.items g.T.Store.Backing.history ∙ ran.2.many_stores in
+    let made = 1 + c.args.mount.board.opened.sizes.entries + length c.args.pass.spare in
+    let as_many = parts_counted _ came.parts.items (1 + c.args.mount.board.opened.sizes.entries) c.args.pass.spare ran.2.many_parts (ran.2.same_spare ∙ ran.1.spare) in
     let scheduled =
     of_trace c.args.mount trace c.args.options.batch c.args.pass ran.0 start armed outcome c.tokens.result.now c.calls.result.now c.tokens.ensures.tokens c.calls.ensures.calls ran.1 in
     scheduled_home g.T.Part.Lines.history g.T.Store.Backing.history trace c.args.mount c.args.pass ran.0 _ _ came.parts.items came.stores.items _ came.placed came.tail c.args.options.batch start armed outcome home.told c.schedules_leave_lives.ensures
-    c.requires.trace.well_formed c.requires.trace.lines c.requires.no_rounds c.requires.new scheduled ran.3 many c.requires.names c.run_schedule-closed.ensures.armed c.give_back.ensures.told (λ holding is. g.met.T.Bench.whole c.give_back.new.self holding is)
+    c.requires.trace.well_formed c.requires.trace.lines c.requires.no_rounds c.requires.new scheduled ran.3 many made as_many c.requires.names c.run_schedule-closed.ensures.armed c.give_back.ensures.told (λ holding is. g.met.T.Bench.whole c.give_back.new.self holding is)
     basis begins named
 
 pub returns-in_err-power-clause-life : goal.returns-in_err-power-clause-life
@@ -285,13 +286,15 @@ returns-in_err-power-clause-life g c basis begins named =
     let came = c.run_schedule-closed.result.closed in
     let ran = c.run_schedule-closed.ensures.ran in
     let many = length-map came.stores.items g.T.Store.Backing.history ∙ ran.2.many_stores in
+    let made = 1 + c.args.mount.board.opened.sizes.entries + length c.args.pass.spare in
+    let as_many = parts_counted _ came.parts.items (1 + c.args.mount.board.opened.sizes.entries) c.args.pass.spare ran.2.many_parts (ran.2.same_spare ∙ ran.1.spare) in
     let scheduled =
     of_trace c.args.mount trace c.args.options.batch c.args.pass ran.0 start armed outcome c.tokens.result.now c.calls.result.now c.tokens.ensures.tokens c.calls.ensures.calls ran.1 in
     let lived =
     scheduled_home g.T.Part.Lines.history g.T.Store.Backing.history trace c.args.mount c.args.pass ran.0 _ _ came.parts.items came.stores.items _ came.placed came.tail c.args.options.batch start armed outcome home.told c.schedules_leave_lives.ensures
-    c.requires.trace.well_formed c.requires.trace.lines c.requires.no_rounds c.requires.new scheduled ran.3 many c.requires.names c.run_schedule-closed.ensures.armed c.give_back.ensures.told (λ holding is. g.met.T.Bench.whole c.give_back.new.self holding is)
+    c.requires.trace.well_formed c.requires.trace.lines c.requires.no_rounds c.requires.new scheduled ran.3 many made as_many c.requires.names c.run_schedule-closed.ensures.armed c.give_back.ensures.told (λ holding is. g.met.T.Bench.whole c.give_back.new.self holding is)
     basis begins named in
-    subst (λ told. IfSome start.told (λ left. IsAway basis.names left → HasLived basis trace told)) (sym (ap (λ (s : BenchState). s.told) c.in_err-power.ensures.memory)) lived
+    subst (λ told. IfSome start.told (λ left. IsAway basis.names left → HasLived basis trace made left.stores told)) (sym (ap (λ (s : BenchState). s.told) c.in_err-power.ensures.memory)) lived
 
 pub returns-clause-life : goal.returns-clause-life
 returns-clause-life g c basis begins named =
@@ -304,17 +307,20 @@ returns-clause-life g c basis begins named =
     let came = c.run_schedule-closed.result.closed in
     let ran = c.run_schedule-closed.ensures.ran in
     let many = length-map came.stores.items g.T.Store.Backing.history ∙ ran.2.many_stores in
+    let made = 1 + c.args.mount.board.opened.sizes.entries + length c.args.pass.spare in
+    let as_many = parts_counted _ came.parts.items (1 + c.args.mount.board.opened.sizes.entries) c.args.pass.spare ran.2.many_parts (ran.2.same_spare ∙ ran.1.spare) in
     let scheduled =
     of_trace c.args.mount trace c.args.options.batch c.args.pass ran.0 start armed outcome c.tokens.result.now c.calls.result.now c.tokens.ensures.tokens c.calls.ensures.calls ran.1 in
     let off = state c.power.new.self in
     let last = state c.show_outcome.new.bench in
     let lived =
     scheduled_home g.T.Part.Lines.history g.T.Store.Backing.history trace c.args.mount c.args.pass ran.0 _ _ came.parts.items came.stores.items _ came.placed came.tail c.args.options.batch start armed outcome home.told c.schedules_leave_lives.ensures
-    c.requires.trace.well_formed c.requires.trace.lines c.requires.no_rounds c.requires.new scheduled ran.3 many c.requires.names c.run_schedule-closed.ensures.armed c.give_back.ensures.told (λ holding is. g.met.T.Bench.whole c.give_back.new.self holding is)
+    c.requires.trace.well_formed c.requires.trace.lines c.requires.no_rounds c.requires.new scheduled ran.3 many made as_many c.requires.names c.run_schedule-closed.ensures.armed c.give_back.ensures.told (λ holding is. g.met.T.Bench.whole c.give_back.new.self holding is)
     basis begins named in
-    IfSome-weaker start.told (λ left. IsAway basis.names left → HasLived basis trace home.told) (λ left. IsAway basis.names left → HasLived basis trace last.told) (λ left on away.
-    scheduled_recovered basis trace c.args.options.image home.told off.told last.told c.images_follow_calls.ensures.quiet c.power_leaves_an_image.ensures (λ holding is. g.met.T.Bench.whole c.give_back.new.self holding is)
-    (ap (λ (s : BenchState). s.told) c.in_ok-power.ensures.off) c.show_outcome.ensures.standing (on away)) lived
+    let Home : Holding → Type 0 = λ left. IsAway basis.names left → HasLived basis trace made left.stores home.told in
+    if_some start.told (λ left. IsAway basis.names left → HasLived basis trace made left.stores last.told) (λ left told_is away.
+    scheduled_recovered basis trace c.args.options.image made left.stores (at_some start.told IsQuietHolding left told_is c.requires.quiet).stores home.told off.told last.told c.images_follow_calls.ensures.quiet c.power_leaves_an_image.ensures (λ holding is. g.met.T.Bench.whole c.give_back.new.self holding is)
+    (ap (λ (s : BenchState). s.told) c.in_ok-power.ensures.off) c.show_outcome.ensures.standing (at_some start.told Home left told_is lived away))
 
 pub returns-clause-used : goal.returns-clause-used
 returns-clause-used g c is basis begins named =

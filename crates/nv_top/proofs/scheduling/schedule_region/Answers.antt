@@ -1,4 +1,4 @@
-use Rattle.std.proofs.Common.{◌≡◌, ◌+◌, ◌≤◌, ℕ, List, IfSome, map, subst, sum_by, sym, ap, arith}
+use Rattle.std.proofs.Common.{◌≡◌, ◌+◌, ℕ, List, IfSome, map, subst, sum_by, sym, ap, arith}
 use Rattle.std.proofs.lemmas.Result.{IfOk-weaker}
 use Rattle.nv_plain.specs.Faults.{Rose, saturated}
 use Rattle.nv_pmem.specs.Part.{Part}
@@ -68,7 +68,12 @@ returns-in-Err-clause-cuts g c =
 
 pub returns-in-Ok-clause-life : goal.returns-in-Ok-clause-life
 returns-in-Ok-clause-life g c parts now parts_are now_are =
-    c.schedule_mount.ensures.life (basis_over c.args.opened.region c.args.options.pages (files_of now)) (c.in-Ok.ensures.begins parts now parts_are now_are) (sym c.requires.lent)
+    let region = c.args.opened.region in
+    let start = g.T.Bench.state c.args.bench.now in
+    let last = g.T.Bench.state c.schedule_mount.new.bench in
+    let basis = basis_over region c.args.options.pages (files_of now) in
+    subst (λ many. IfSome start.told (λ left. IsAway region.names left → HasLived basis c.args.trace.now many left.stores last.told)) c.in-Ok.ensures.parts
+    (c.schedule_mount.ensures.life basis (c.in-Ok.ensures.begins parts now parts_are now_are) (sym c.requires.lent))
 
 pub returns-in-Err-clause-life : goal.returns-in-Err-clause-life
 returns-in-Err-clause-life g c parts now parts_are now_are =
@@ -82,8 +87,8 @@ returns-in-Err-clause-life g c parts now parts_are now_are =
     let basis = basis_over region c.args.options.pages (files_of now) in
     let rest = rest_lives history held basis trace region.parts.items stores parts now region.geometry.page region.geometry.entries region.next parts_are now_are region.is_region.tells (quiet_stores held stores now now_are c.requires.synced) refl in
     let left_so : AreLeftSo history held basis trace c.in-Err.field-0.parts.items c.in-Err.field-0.stores.items = left_same history held basis trace c.in-Err.field-0.parts.items region.parts.items c.in-Err.field-0.stores.items stores c.in-Err.ensures.same_parts c.in-Err.ensures.same_stores rest in
-    if_some start.told (λ left. IsAway region.names left → HasLived basis trace home.told) (λ left told_is away.
-    lived_home basis trace history held c.in-Err.field-0.parts.items c.in-Err.field-0.stores.items home.told left.stores (λ holding is. g.met.T.Bench.whole c.give_back.new.self holding is) left_so
+    if_some start.told (λ left. IsAway region.names left → HasLived basis trace (length region.parts.items) left.stores home.told) (λ left told_is away.
+    lived_home basis trace history held c.in-Err.field-0.parts.items c.in-Err.field-0.stores.items (length region.parts.items) c.in-Err.ensures.many home.told left.stores (λ holding is. g.met.T.Bench.whole c.give_back.new.self holding is) left_so
     (λ disks are. all_behind region.names left.stores (named_stores region.names disks) away
     ∙ own_stores region.names disks (sym (length_now (map held c.in-Err.field-0.stores.items) disks are ∙ ap length (c.in-Err.ensures.same_stores) ∙ length-map stores held ∙ c.requires.stores)) region.is_region.names_are.distinct)
     (λ back disks back_are disks_are. c.give_back.ensures.told back disks back_are disks_are

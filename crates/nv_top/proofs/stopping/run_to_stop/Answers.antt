@@ -29,6 +29,9 @@ use Rattle.nv_top.proofs.CauseLemmas.{error_grows}
 use Rattle.nv_top.proofs.CommandLemmas.{if_told, mid_told, told_at}
 use Rattle.nv_top.proofs.HeadlineLemmas.{home_distinct, quiet_left}
 use Rattle.nv_top.proofs.NameLemmas.{wanted_known}
+use Rattle.nv_bench.specs.Opening.{opened as opened_parts}
+use Rattle.nv_open.proofs.Layers.{good_begun}
+use Rattle.nv_top.proofs.LifeLemmas.{lived_on}
 use Rattle.nv_top.proofs.ReportedLemmas.{by_error, counted_not_turns, counted_settled, home_powered, home_unarmed, opened_basis, opening_counted, refused_life, region_of, run_refused, unopened_run}
 use Rattle.nv_top.proofs.RowLemmas.{present}
 use Rattle.nv_top.proofs.StopLemmas.{opening_refused}
@@ -77,7 +80,7 @@ returns-in_err-opened g c =
       cause = counted_settled {T = Vec ℕ} old.faults new.faults new.settled (Err (stop_of_opening error)) low cause;
       turns = counted_not_turns {T = Vec ℕ} old.faults new.faults (Err (stop_of_opening error)) cause;
       never_falls = error_grows old.faults new.faults error made.cause;
-      life = refused_life options _ trace.names old new same trace refl made.standing;
+      life = refused_life options _ trace.names old new same trace refl _ refl refl made.standing made.untouched;
       ran = tt;
       refused = λ why is.
           let error_is = opening_refused error why (region_of (stop_of_opening error) why is) in
@@ -137,17 +140,22 @@ returns g c =
       ];
       turns = stopped.turns;
       never_falls = omega (arith, same, stopped.never_falls);
-      life = if_told old.told (λ was. LeavesRun options was trace new.told) (λ holding told stand.
+      life = if_told old.told (λ was. LeavesRun options was trace new.told) (λ holding told.
           let opened = told_at old.told _ holding told made.opened in
           let parts = present (map history region.parts.items) (told_at old.told _ holding told made.tell) in
           let basis = basis_over region options.pages (files_of opened.files.held) in
           let left : Holding = record { parts = []; stores = without_stores region.names holding.stores } in
-          inr (record {
-            basis = basis;
-            begun = opened_basis options holding _ _ trace.names _ _ _ _ _ opened refl refl (c.in_ok-wanted.ensures ∙ c.names.ensures);
-            lived = told_at mid.told (λ left. IsAway region.names left → HasLived basis trace new.told) left (mid_told old mid region.names holding made.lent at_home.home told)
-                (stopped.life parts.states opened.files.held parts.are opened.files.are) (all_away region.names holding.stores (distinct holding told));
-          }));
+          let begun = opened_basis options holding _ _ trace.names _ _ _ _ _ opened refl refl (c.in_ok-wanted.ensures ∙ c.names.ensures) in
+          record {
+            untouched = λ kept bad. absurd (bad (good_begun holding.parts _ _ _ _ _ opened.begun kept));
+            stands = λ stand. inr (record {
+              basis = basis;
+              begun = begun;
+              lived = lived_on basis trace (length region.parts.items) (length (opened_parts (Some begun.geometry) holding.parts)) holding.stores new.told (told_at old.told _ holding told made.many)
+                  (told_at mid.told (λ left. IsAway region.names left → HasLived basis trace (length region.parts.items) left.stores new.told) left (mid_told old mid region.names holding made.lent at_home.home told)
+                  (stopped.life parts.states opened.files.held parts.are opened.files.are) (all_away region.names holding.stores (distinct holding told)));
+            });
+          });
       ran = IfOk-weaker result
           (λ text. (parts : List Part) (now : List Store) → AreNow (map history region.parts.items) parts → AreNow (map held backing) now
           → IfSome mid.told (λ left. IsAway region.names left → HasStoppedOn (Rose lent new.faults) options.worker options.image mid.picked (basis_over region options.pages (files_of now)) trace (length region.parts.items) left.stores new text.items))

@@ -81,6 +81,8 @@ returns-clause-standing g c =
       is_so =
           recovered_stands c.images_stand_for_files.ensures.files was region.geometry.page region.geometry.entries region.next region.names c.in_ok-opened.found now.states files.held recovery
           (row_tells_at (map history back) (IsAtRest version_1 region.geometry.page region.geometry.entries region.names region.next) now.states now_are c.into_parts.ensures.region.tells) files.files_are files.quiet
-          (home_distinct old was (g.met.T.Bench.named c.args.bench.now) told c.requires.at_home.home) (sym (states_many (map held backing) files.held files.are ∙ length-map backing held ∙ made.one_each))
+          (home_distinct old was (g.met.T.Bench.named c.args.bench.now) told c.requires.at_home.home)
+          (states_many (map history region.parts.items) now.states now.are ∙ length-map region.parts.items history ∙ at_some old.told (λ holding. length region.parts.items ≡ length holding.parts) was told made.many)
+          (sym (states_many (map held backing) files.held files.are ∙ length-map backing held ∙ made.one_each))
           c.into_parts.ensures.region.names_are.distinct readable;
     })
