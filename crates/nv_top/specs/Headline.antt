@@ -3,6 +3,7 @@ use Rattle.std.specs.Prelude.{◌≡◌, ◌⊎◌, ◌≤◌, ℕ, Bool, List, 
 use Rattle.std.specs.Option.{option_and_then}
 use Rattle.nv_plain.specs.Faults.{Rose}
 use Rattle.nv_plain.specs.Layouts.{version_1}
+use Rattle.nv_pmem.specs.Part.{Part}
 use Rattle.nv_pmem.specs.declared.picker.Pick.{Pick}
 use Rattle.nv_bench.specs.Benches.{BenchState}
 use Rattle.nv_bench.specs.Holding.{Holding}
@@ -10,6 +11,7 @@ use Rattle.nv_bench.specs.Opening.{is_blank, opened}
 use Rattle.nv_open.specs.Held.{told_after}
 use Rattle.nv_open.specs.Lending.{without_stores}
 use Rattle.nv_open.specs.Refusals.{IsRefusedFor}
+use Rattle.nv_open.specs.Unopened.{IsGood}
 use Rattle.nv_open.specs.declared.error.Refusal.{Refusal}
 use Rattle.nv_open.specs.declared.error.Refusal.TheVariants as refusals
 use Rattle.nv_trace.specs.Reading.{ending_of, Whole}
@@ -163,6 +165,10 @@ abbrev pub ShownIsNotRefused : Type 0
 ShownIsNotRefused =
     (command : Command) (input : Option (List ℕ)) (old new : BenchState) (holding : Holding) (text : List ℕ)
     → HasInput command input → IsShown command input old new holding text → (why : Refusal) → ¬ (HasRefusal command input holding why)
+
+-- A region that is refused for its bytes isn't good.
+abbrev pub RefusedIsNotGood : Type 0
+RefusedIsNotGood = (parts : List Part) (why : Refusal) → IsRefusedFor parts why → ¬ (IsGood parts)
 
 -- A region that was refused is as it was, unless it was refused for its files.
 abbrev pub IsRegionUnwritten : (old new : BenchState) → Refusal → Type 0

@@ -53,7 +53,7 @@ pub record HasReported (over : Option Command) (given left : Option (List ℕ)) 
   -- Whatever it comes to, the count of the bench's faults is no lower than it was.
   pub never_falls : old.faults ≤ new.faults
   -- Whatever it comes to, a bench that stood for files stands for them still, or for those after a legal history of calls of the trace and some other calls, each whole, in whatever state power leaves it; and where the words or the input
-  -- stopped it, it is as it was.
+  -- stopped it, it is as it was. It has as many parts as before, or as were made of a blank region, and its other stores are as they were; and a region that is refused for its bytes is as it was.
   pub life : (command : Command) → over ≡ Some command → IfSome old.told (λ was. LeavesLife command given was new.told)
   pub unopened : IfErr result (λ stop. ComesBeforeOpening stop → new ≡ old)
   -- The report is what the command shows, and the bench holds what it shows.

@@ -2,7 +2,7 @@
 ghost use Rattle.std.specs.Prelude.{[]};
 ghost use Rattle.nv_trace.specs.declared.trace.Form.TheVariants as forms;
 ghost use Rattle.nv_top.specs.Endings.{IsTrace};
-ghost use Rattle.nv_top.specs.Headline.{PlainIsUnhindered, ShownIsNotRefused};
+ghost use Rattle.nv_top.specs.Headline.{PlainIsUnhindered, RefusedIsNotGood, ShownIsNotRefused};
 ghost use Rattle.nv_top.specs.Loads.{NewBenchesAreFresh};
 ghost use Rattle.nv_top.specs.NextCommands.{NextBeginsBehind, NextBeginsBehindRecovery, NextBeginsBehindSchedule, NextBeginsBehindStop, NextFindsLooked, NextFindsRecovered, NextFindsRun, NextFindsScheduled, NextFindsShown, NextFindsStopped, NextIsReady, RunsHaveOneHistory};
 ghost use Rattle.nv_top.specs.Readings.{OneNumber, OneReading, OneRecoveryReading};
@@ -44,9 +44,11 @@ pub fn a_next_command_may_follow()
 {}
 
 /// A command that shows what it does wasn't refused by the region of its bench: one that is refused for its bytes, or for too many
-/// files, shows nothing.
+/// files, shows nothing. One that is refused for its bytes isn't good, so whatever a command comes to, it is as it was (`untouched` of
+/// the outcome's `life`).
 pub fn a_refused_region_shows_nothing()
-    ensures { ShownIsNotRefused }
+    ensures shown { ShownIsNotRefused }
+    ensures bad { RefusedIsNotGood }
 {
     images_stand_for_files();
     a_header_has_one_answer();

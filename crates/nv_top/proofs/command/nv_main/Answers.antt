@@ -13,7 +13,7 @@ returns-in-Ok-clause-unrefused g c is command over has =
     let new = g.B.Bench.state c.report.new.bench in
     let text = c.in-Ok.text.items in
     if_told old.told (λ holding. (why : Refusal) → ¬ (HasRefusal command left holding why)) (λ holding told.
-    c.a_refused_region_shows_nothing.ensures command left old new holding text has
+    c.a_refused_region_shows_nothing.ensures.shown command left old new holding text has
     (told_at old.told (λ holding. IsShown command left old new holding text) holding told (c.in-Ok.ensures.report command over)))
 
 pub returns-in-Ok-clause-came : goal.returns-in-Ok-clause-came
