@@ -2,127 +2,91 @@
 //! folder, which the first word names, and read them back; then the log is carried to the file, and the mount is closed.
 #![tactic(auto)]
 
-ghost use Rattle.std.specs.Prelude.{◌≡◌, ◌<◌, [], false, true, length, All, IfOk, IfSome};
-ghost use Rattle.nv_plain.specs.Layouts.{version_1};
-ghost use Rattle.nv_pmem.specs.Moments.{Tells};
-ghost use Rattle.nv_store.specs.Store.{IsQuietStore};
-ghost use Rattle.nv_bench.specs.Holding.{IsQuietHolding};
-ghost use Rattle.nv_open.specs.Adding.{AreWanted};
-ghost use Rattle.nv_table.specs.passes.Alone.{IsAlone};
-ghost use Rattle.nv_table.specs.state.Views.{made_of};
-ghost use Rattle.nv_example.specs.Ready.{IsReady};
-
-mod calls;
-
-use anyhow::Context;
-use calls::{clean, keep_both, show};
-use nv_bench::{Bench, FolderBench};
-use nv_header::{Names, Region};
-use nv_mount::{Fds, Mount};
-use nv_open::{Opened, open};
-use nv_plain::{Bytes, Mode, NoMemory};
-use nv_pmem::{Geometry, Lines};
-use nv_store::Backing;
-use nv_table::{
-    Pass, Workspace, a_pass_is_alone_again, join_pass, passes_stay_between_calls, split_pass,
+use anyhow::{Context, bail};
+use nv_session::{
+    Backing, Bench, Bytes, Fds, FirstSession, FolderBench, Geometry, Lines, Mode, Mounted, Names,
+    Session, Work, open, open_fd,
 };
 use std::alloc::Global;
 use std::env;
 use std::sync::Wait;
 use std::thread::Threads;
 
+/// Records, with their places in the file.
+type Records = [(u64, [u8; 6]); 3];
+
+const ANN: Records = [(0, *b"ann 1\n"), (6, *b"ann 2\n"), (12, *b"ann 3\n")];
+
+const BOB: Records = [(18, *b"bob 1\n"), (24, *b"bob 2\n"), (30, *b"bob 3\n")];
+
+/// What one of them keeps, and what comes of it.
+#[derive(Drop)]
+struct Keeping {
+    fd: u64,
+    records: Records,
+    kept: anyhow::Result<()>,
+}
+
+impl<R: Wait, L: Lines + Drop, B: Backing + Drop> Work<R, L, B> for Keeping {
+    fn work<M: Mounted>(&mut self, rt: &R, session: &mut Session<'_, M, L, B>) {
+        self.kept = keep(rt, session, self.fd, self.records);
+    }
+}
+
+// Writes records, each at its place in the file, and reads each back.
+fn keep<R: Wait, M: Mounted, L: Lines + Drop, B: Backing + Drop>(
+    rt: &R,
+    session: &mut Session<'_, M, L, B>,
+    fd: u64,
+    records: Records,
+) -> anyhow::Result<()> {
+    for (at, record) in records {
+        session.write(rt, fd, at, &record)?;
+        let mut back = [0; 6];
+        session.read(rt, fd, at, &mut back)?;
+        if back != record {
+            bail!("a record was not read as it was written");
+        }
+    }
+    Ok(())
+}
+
+// Ann and Bob keep their records at the same time; then the first thread shows them, and empties the log.
+fn call<R: Threads + Wait + Print + Sync, T: Bench>(
+    rt: &R,
+    alloc: Global,
+    first: &mut FirstSession<T>,
+    fd: u64,
+) -> anyhow::Result<()> {
+    let mut works = Vec::new(alloc);
+    for records in [ANN, BOB] {
+        let kept = Ok(());
+        works.push(Keeping { fd, records, kept })?;
+    }
+    first.run(rt, alloc, &mut works)?;
+    for work in works {
+        work.kept?;
+    }
+    let mut all = [0; 36];
+    let done = first.read(rt, fd, 0, &mut all)?;
+    println!(rt; "{} bytes, read behind {} calls", done.len, done.place)?;
+    print!(rt; "{}", str::from_utf8(&all)?)?;
+    let cleaned = first.clean(16)?;
+    println!(rt; "{} entries cleaned", cleaned.retired)?;
+    Ok(first.clean_all(rt, 16)?)
+}
+
 fn main(rt: HostRuntime) -> anyhow::Result<()> {
     let alloc = rt.alloc();
     let folder = env::args(&rt)?.nth(1).context("usage: nv_example FOLDER")?;
     let mut bench = FolderBench::new(rt, alloc, folder.as_str())?;
-    run(&rt, alloc, &mut bench)
-}
-
-// Opens the region of a bench, with the file `records`, and a mount over it; and ends both.
-fn run<R: Threads + Wait + Print + Sync, T: Bench>(
-    rt: &R,
-    alloc: Global,
-    bench: &mut T,
-) -> anyhow::Result<()>
-    requires closed { (T.state bench.old).is_open ≡ false }
-    requires home { (T.state bench.old).lent ≡ [] }
-    requires quiet { IfSome (T.state bench.old).told IsQuietHolding }
-{
-    let names = names_of(alloc)?;
-    let Opened { region, stores } = open(alloc, bench, Geometry::new(4096, 64)?, &names)?;
-    hold(rt, alloc, bench, region, stores)
-}
-
-// The name of its file.
-fn names_of(alloc: Global) -> Result<Names, NoMemory>
-    ensures { IfOk result (AreWanted version_1) }
-{
     let mut names = Names::new(alloc);
     names.push(Bytes::from_vec(Vec::from_slice(alloc, b"records")?))?;
-    Ok(names)
-}
-
-// Its descriptor, in a region of these files.
-fn fd_of(alloc: Global, names: &Names) -> anyhow::Result<(Fds, u64)>
-    ensures { IfOk result (λ made. All (λ fd. fd.file < length names.now) made.0) }
-{
-    let mut known = names.as_slice().iter();
-    let file = known.position(|name| name.as_slice() == b"records".as_slice());
+    let opened = open(alloc, &mut bench, Geometry::new(4096, 64)?, &names)?;
     let mut fds = Fds::new(alloc);
-    let fd = fds.open(file.context("the file isn't there")? as u64, Mode::Rw)?;
-    Ok((fds, fd))
-}
-
-// Opens a mount over a region that is lent, has Ann call, and gives all back.
-fn hold<R: Threads + Wait + Print + Sync, T: Bench>(
-    rt: &R,
-    alloc: Global,
-    bench: &mut T,
-    region: Region<T::Part>,
-    stores: Vec<T::Store>,
-) -> anyhow::Result<()>
-    requires open { (T.state bench.old).is_open ≡ true }
-    requires lent { (T.state bench.old).lent ≡ region.names }
-    requires stores { length stores.items ≡ length region.names }
-    requires quiet { All (λ store. Tells (T.Store.history store) IsQuietStore) stores.items }
-{
-    let (fds, fd) = fd_of(alloc, region.names())?;
-    let (mount, mut ann) = match Mount::open(alloc, region, stores, fds, 16, 8) {
-        Ok(made) => made,
-        Err(unopened) => return Err(unopened.error.into()),
-    };
-    let result = call(rt, alloc, &mount, &mut ann, fd);
-    ann.bare_is_still();
-    match mount.close(ann) {
-        Ok(closed) => bench.give_back(closed.parts, closed.stores),
-        Err(_passes_are_out) => unreachable!(),
-    }
+    let fd = open_fd(&opened, &mut fds, b"records", Mode::Rw)?;
+    let mut first = FirstSession::open(alloc, bench, opened, fds, 16, 8)?;
+    let result = call(&rt, alloc, &mut first, fd);
+    drop(first.close());
     result
-}
-
-// Ann calls by pass 0, which makes a pass for Bob and takes it in.
-fn call<R: Threads + Wait + Print + Sync, L: Lines + Drop + Send, B: Backing + Drop + Send>(
-    rt: &R,
-    alloc: Global,
-    mount: &Mount<L, B>,
-    ann: &mut Pass<L, B>,
-    fd: u64,
-) -> anyhow::Result<()>
-    requires ready { IsReady mount.now.board ann.old }
-    requires alone { IsAlone ann.old.view }
-    requires few { made_of ann.old.view < 10 }
-    ensures ready { IsReady mount.now.board ann.new }
-    ensures alone { IsAlone ann.new.view }
-{
-    passes_stay_between_calls();
-    a_pass_is_alone_again();
-    let mut ann_desk = Workspace::new(alloc, mount.board().layout())?;
-    let mut bob_desk = Workspace::new(alloc, mount.board().layout())?;
-    let mut bob = split_pass(alloc, mount.board(), ann)?;
-    let kept = keep_both(rt, mount, ann, &mut ann_desk, &mut bob, &mut bob_desk, fd);
-    bob.bare_is_still();
-    join_pass(mount.board(), ann, bob);
-    kept?;
-    show(rt, mount, ann, fd)?;
-    clean(rt, mount, ann)
 }

@@ -1,2 +1,0 @@
--- Ready: what each call asks of its pass, and leaves so.
-pub mod Ready
