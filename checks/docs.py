@@ -4,8 +4,9 @@
 - README.md has at most 140 lines, of at most 100 characters; those of the pages of docs/, examples/ and bench/ have at most 110. What
   can't be broken may be longer: a row of a table, a line of a block of code, a word with what it hangs on.
 - Each link leads to a file that is there, and to a heading of it. Each file or folder of this repository that stands in backticks is there.
-- The Rust of README.md and of docs/library.md is the examples': each of its lines stands in the sources of crates/nv_example or nv_four,
-  or in those of the part over a file.
+- The Rust of README.md and of docs/library.md is the examples': each of its lines stands in the sources of crates/nv_example, nv_four or
+  nv_keys, or in those of the part over a file.
+- docs/calling.md is what calling.py makes of the sources.
 - Each function, type or trait that README.md's table and the first table of docs/promises.md name is public in some crate.
 - The files that docs/trusted.md lists in its table begin with a line that says `Trusted edge`, and no others do.
 - The pictures are what docs/pictures/make.py draws.
@@ -145,11 +146,11 @@ def missing_files(page):
 
 def foreign_code(page):
     """Lines of Rust that the example doesn't have, but for comments."""
-    sources = [file for name in ("nv_example", "nv_four") for file in (TOP / "crates" / name / "src").glob("*.rt")]
+    sources = [file for name in ("nv_example", "nv_four", "nv_keys") for file in (TOP / "crates" / name / "src").glob("*.rt")]
     sources.append(TOP / "crates/nv_pmem/src/file_part.rt")
     known = {line.strip() for file in sources for line in file.read_text().split("\n")}
     for block in re.findall(r"^```(?:rust)?\n(.*?)^```", page.read_text(), re.M | re.S):
-        if "let " not in block and "join_mut" not in block:
+        if "let " not in block and "fn " not in block:
             continue
         for line in block.split("\n"):
             if line.strip() not in known and not line.strip().startswith("//"):
@@ -184,6 +185,11 @@ def drawn():
     yield from made.stdout.splitlines() if made.returncode else []
 
 
+def made_anew():
+    made = subprocess.run([sys.executable, TOP / "checks/calling.py", "--check"], stderr=subprocess.PIPE, text=True)
+    yield from made.stderr.splitlines()[-1:] if made.returncode else []
+
+
 def cases():
     for page in PAGES:
         yield page, "lines", too_long(page)
@@ -195,6 +201,7 @@ def cases():
         yield TOP / name, "names of contracts", unknown_names(TOP / name)
     yield TOP / "docs/trusted.md", "marked files", edges(TOP / "docs/trusted.md")
     yield TOP / "docs/pictures/make.py", "pictures", drawn()
+    yield TOP / "docs/calling.md", "the sources", made_anew()
 
 
 def main():
