@@ -27,7 +27,9 @@ pub mod RunRefusalLaws
 pub mod PassLaws
 pub mod RoundLaws
 pub mod RoundLists
+pub mod OwnerLaws
 pub mod ServedLaws
+pub mod ListedLaws
 pub mod ShiftLaws
 pub mod NewcomerLaws
 pub mod TraceLaws

@@ -1,7 +1,7 @@
 -- Lists: the calls of a pass, one more of them at a time.
-use Rattle.std.proofs.Common.{◌≡◌, ◌≢◌, ℕ, ◌+◌, ◌<◌, cond, List, [], ◌∷◌, ◌++◌, length, drop, get_or, refl, sym, ap, subst, ◌∙◌, eq-eqb, ne_eqb}
+use Rattle.std.proofs.Common.{◌≡◌, ◌≢◌, ℕ, List, [], ◌∷◌, ◌++◌, length, refl, sym, ap, subst, ◌∙◌}
 use Rattle.std.specs.Prelude.{Option, Result, Ok, Err, OnOk, OnErr}
-use Rattle.std.proofs.lemmas.List.{append_assoc, append-nil, at_drop_more, map-append}
+use Rattle.std.proofs.lemmas.List.{append_assoc, append-nil, map-append}
 use Rattle.nv_plain.specs.Histories.{Answered}
 use Rattle.nv_core.specs.invariant.OneHistory.{IsPrefix}
 use Rattle.nv_table.specs.state.Views.{pass_of}
@@ -13,7 +13,6 @@ use Rattle.nv_runner.specs.declared.answer.Answer.{Answer}
 use Rattle.nv_runner.specs.declared.answer.Answer.TheVariants.{Placed, Refused, Open}
 use Rattle.nv_runner.specs.Calls.{IsAnswered, Tells}
 use Rattle.nv_runner.specs.Lists.{AllWereMade, AreMade, FirstWereMade, MadeCall, SomeWereMade, PlacedAreMine, PlacedStand, Stand, StandsAs, as_placed, calls_made, placed, placed_by, placed_on}
-use Rattle.nv_runner.specs.Shifts.{calls_of_thread}
 
 -- one more call was made behind the others
 pub made_on : (fds : List Fd) (worker : Option ℕ) (made : List MadeCall) (m : MadeCall) (start old new : PassState) → AreMade fds worker made start old
@@ -21,32 +20,18 @@ pub made_on : (fds : List Fd) (worker : Option ℕ) (made : List MadeCall) (m : 
 made_on fds worker [] m start old new before told = (new, subst (λ (p : PassState). IsAnswered fds worker m.call.call p new m.answer) before told, refl)
 made_on fds worker (first ∷ made) m start old new before told = (before.0, before.1, made_on fds worker made m before.0 old new before.2 told)
 
--- the next of all calls is the thread's, or another one's
-pub next_own : (thread : ℕ) (calls : List TracedCall) (i : ℕ) (call : TracedCall) → i < length calls → call ≡ get_or calls i call → call.thread ≡ thread
-    → calls_of_thread thread (drop i calls) ≡ call ∷ calls_of_thread thread (drop (i + 1) calls)
-next_own thread calls i call within is here =
-    let rest = calls_of_thread thread (drop (i + 1) calls) in
-    at_drop_more (calls_of_thread thread) calls i call within ∙ ap (λ c. calls_of_thread thread (c ∷ drop (i + 1) calls)) (sym is) ∙ ap (λ b. cond b (call ∷ rest) rest) (eq-eqb call.thread thread here)
+-- one more of some calls was made, and those behind it are left
+pub listed_on : (made : List MadeCall) (call : TracedCall) (answer : Answer) (all left behind : List TracedCall) → calls_made made ++ left ≡ all → left ≡ call ∷ behind
+    → calls_made (made ++ record { call = call; answer = answer } ∷ []) ++ behind ≡ all
+listed_on made call answer all left behind before first =
+    ap (λ l. l ++ behind) (map-append (λ (m : MadeCall). m.call) made (record { call = call; answer = answer } ∷ [])) ∙ append_assoc (calls_made made) (call ∷ []) behind
+    ∙ ap (λ l. calls_made made ++ l) (sym first) ∙ before
 
-pub next_past : (thread : ℕ) (calls : List TracedCall) (i : ℕ) (call : TracedCall) → i < length calls → call ≡ get_or calls i call → call.thread ≢ thread
-    → calls_of_thread thread (drop i calls) ≡ calls_of_thread thread (drop (i + 1) calls)
-next_past thread calls i call within is other =
-    let rest = calls_of_thread thread (drop (i + 1) calls) in
-    at_drop_more (calls_of_thread thread) calls i call within ∙ ap (λ c. calls_of_thread thread (c ∷ drop (i + 1) calls)) (sym is) ∙ ap (λ b. cond b (call ∷ rest) rest) (ne_eqb call.thread thread other)
-
--- one more of a thread's calls was made, of all those from one on
-pub listed_on : (thread : ℕ) (calls : List TracedCall) (i : ℕ) (call : TracedCall) (made : List MadeCall) (answer : Answer) → i < length calls → call ≡ get_or calls i call → call.thread ≡ thread
-    → calls_made made ++ calls_of_thread thread (drop i calls) ≡ calls_of_thread thread calls
-    → calls_made (made ++ record { call = call; answer = answer } ∷ []) ++ calls_of_thread thread (drop (i + 1) calls) ≡ calls_of_thread thread calls
-listed_on thread calls i call made answer within is here before =
-    let rest = calls_of_thread thread (drop (i + 1) calls) in
-    ap (λ l. l ++ rest) (map-append (λ (m : MadeCall). m.call) made (record { call = call; answer = answer } ∷ [])) ∙ append_assoc (calls_made made) (call ∷ []) rest
-    ∙ ap (λ l. calls_made made ++ l) (sym (next_own thread calls i call within is here)) ∙ before
-
--- or none, where it is another's
-pub listed_past : (thread : ℕ) (calls : List TracedCall) (i : ℕ) (call : TracedCall) (done : List TracedCall) → i < length calls → call ≡ get_or calls i call → call.thread ≢ thread
-    → done ++ calls_of_thread thread (drop i calls) ≡ calls_of_thread thread calls → done ++ calls_of_thread thread (drop (i + 1) calls) ≡ calls_of_thread thread calls
-listed_past thread calls i call done within is other before = ap (λ l. done ++ l) (sym (next_past thread calls i call within is other)) ∙ before
+-- where some are left the first of them is the next one
+pub some_made : (fds : List Fd) (worker : Option ℕ) (all left : List TracedCall) (made : List MadeCall) (start now : PassState) → left ≢ [] → calls_made made ++ left ≡ all → AreMade fds worker made start now
+    → SomeWereMade fds worker all made start now
+some_made fds worker all [] made start now some listed each = absurd (some refl)
+some_made fds worker all (next ∷ left) made start now some listed each = record { next = next; left = left; some = listed; each = each }
 
 -- whatever became of memory, some first ones were made
 pub first_made : {T E : Type 0} (fds : List Fd) (worker : Option ℕ) (calls : List TracedCall) (made : List MadeCall) (start now : PassState) (result : Result T E) → OnOk result (AllWereMade fds worker calls made start now)

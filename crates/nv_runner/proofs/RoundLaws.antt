@@ -28,7 +28,7 @@ rises_front front rest rise k below =
     omega (arith, pair, get_or_append_left front rest 0 k (omega arith), get_or_append_left front rest 0 (k + 1) below)
 
 -- a part of some calls that stand in the order of their lines does too
-lines_within : (before front later : List TracedCall) → AreInLineOrder (before ++ (front ++ later)) → AreInLineOrder front
+pub lines_within : (before front later : List TracedCall) → AreInLineOrder (before ++ (front ++ later)) → AreInLineOrder front
 lines_within before front later order =
     let lines : TracedCall → ℕ = λ call. call.line in
     rises_front (map lines front) (map lines later)

@@ -1,11 +1,12 @@
 -- Served: what the workers of a round have done since their passes were made.
-use Rattle.std.proofs.Common.{◌≡◌, ℕ, suc, ◌<◌, ◌≤◌, ◌==◌, inl, inr, Bool, true, cond, List, [], ◌∷◌, ◌++◌, length, take, drop, refl, sym, ap, subst, ◌∙◌, arith, append-nil, length-append, ne_eqb}
-use Rattle.std.specs.Prelude.{All, IsPermutation, Option, slice_index_or}
+use Rattle.std.proofs.Common.{◌≡◌, ℕ, suc, ◌<◌, ◌≤◌, ◌==◌, inl, inr, Bool, true, false, cond, List, [], ◌∷◌, ◌++◌, length, take, drop, refl, sym, ap, subst, ◌∙◌, arith, append-nil, length-append, ne_eqb}
+use Rattle.std.specs.Prelude.{All, IsPermutation, Option, Some, None, is_some, slice_index_or}
 use Rattle.std.specs.List.{flat_map, sum_by}
 use Rattle.std.proofs.lemmas.List.{at_drop_all, length-map, map-append, take-append-drop, take-append-le}
 use Rattle.std.proofs.lemmas.List.Elements.{All-filter, All-head, All-tail, All-weaker}
+use Rattle.std.proofs.lemmas.List.Concat.{length-flat_map}
 use Rattle.std.proofs.lemmas.List.Sums.{sum_by-cons}
-use Rattle.std.proofs.lemmas.List.Sorted.{IsPermutation-append, IsPermutation-append_comm, IsPermutation-map, IsPermutation-refl, IsPermutation-trans}
+use Rattle.std.proofs.lemmas.List.Sorted.{IsPermutation-map, IsPermutation-trans, length_permutation}
 use Rattle.nv_core.specs.state.Passes.{IsOneOf}
 use Rattle.nv_table.specs.state.States.{PassState}
 use Rattle.nv_table.specs.state.Views.{AreDistinctNumbers, Past, PassView}
@@ -15,10 +16,11 @@ use Rattle.nv_mirror.specs.Answers.{IsUnplaced}
 use Rattle.nv_trace.specs.declared.trace_call.TracedCall.{TracedCall}
 use Rattle.nv_runner.specs.Lists.{AreMade, MadeCall, calls_made}
 use Rattle.nv_runner.specs.OpenWrites.{KeepsFaults}
-use Rattle.nv_runner.specs.Rounds.{AreMoreOf}
+use Rattle.nv_runner.specs.Owners.{if_owner}
+use Rattle.nv_runner.specs.Rounds.{AreCallsOf}
 use Rattle.nv_runner.specs.Shifts.{calls_of_thread}
-use Rattle.nv_runner.specs.Workers.{HasCleaned, HasDonePart, HasMadeAll, HasServed, HasWorked, IsNewWorker, WorkerState, crew_of, threads_of}
-use Rattle.nv_runner.proofs.HistoryMembers.{of_each, of_one, one_either, one_left, one_mapped, one_moved, one_of_joined}
+use Rattle.nv_runner.specs.Workers.{HasCleaned, HasDonePart, HasMadeAll, HasServed, HasShare, HasWorked, IsNewWorker, IsReady, WorkerState, crew_of, threads_of}
+use Rattle.nv_runner.proofs.HistoryMembers.{of_each, of_one, one_left, one_mapped, one_moved, one_of_joined}
 use Rattle.nv_runner.proofs.ShiftRuns.{on_none}
 use Rattle.nv_runner.proofs.TryLaws.{no_batch}
 use Rattle.nv_runner.proofs.RoundLists.{all_calls, calls_of, few_calls, in_crew}
@@ -53,13 +55,13 @@ module _ {L B : Type 0} (mount : MountState) (batch : Option ℕ) (ended : List 
     number = refl;
   }
 
-  pub served_worked : (old new : WorkerState L B) → IsNewWorker mount ended old → HasWorked mount batch calls old new → HasServed mount batch ended calls new
-  served_worked old new is worked = record {
+  pub served_worked : (old new : WorkerState L B) → IsNewWorker mount ended old → HasShare calls old → HasWorked mount batch old new → HasServed mount batch ended calls new
+  served_worked old new is share worked = record {
     ready = worked.ready;
     start = old.pass;
     newcomer = is.newcomer;
     left = worked.some.left;
-    some = worked.some.some ∙ ap (λ thread. calls_of_thread thread calls) (sym worked.thread);
+    some = worked.some.some ∙ share ∙ ap (λ thread. calls_of_thread thread calls) (sym worked.thread);
     last = new.pass;
     each = worked.some.each;
     behind = inr refl;
@@ -114,14 +116,10 @@ module _ {L B : Type 0} (mount : MountState) (batch : Option ℕ) (ended : List 
       (subst (λ l. IsOneOf l m.call) served.some (one_left (calls_made worker.made) served.left m.call (one_mapped (λ (m : MadeCall). m.call) worker.made m one)))
 
   -- and so are those of all workers
-  pub served_within : (workers : List (WorkerState L B)) (before now : List MadeCall) → All (HasServed mount batch ended calls) workers
-      → IsPermutation now (flat_map (λ (w : WorkerState L B). w.made) workers ++ before) → AreMoreOf calls before now
-  served_within workers before now all listed m one =
-      elim (one_either (flat_map (λ (w : WorkerState L B). w.made) workers) before m (one_moved now (flat_map (λ (w : WorkerState L B). w.made) workers ++ before) m listed one)) [
-        | inl new ↦ (let found = one_of_joined (λ (w : WorkerState L B). w.made) workers m new in
-            inr (its_within found.0 (of_one (HasServed mount batch ended calls) workers found.0 all found.1) m found.2))
-        | inr old ↦ inl old
-      ]
+  pub served_within : (workers : List (WorkerState L B)) (made : List MadeCall) → All (HasServed mount batch ended calls) workers → IsPermutation made (flat_map (λ (w : WorkerState L B). w.made) workers) → AreCallsOf calls made
+  served_within workers made all listed m one =
+      let found = one_of_joined (λ (w : WorkerState L B). w.made) workers m (one_moved made (flat_map (λ (w : WorkerState L B). w.made) workers) m listed one) in
+      its_within found.0 (of_one (HasServed mount batch ended calls) workers found.0 all found.1) m found.2
 
   -- ---- all of them
 
@@ -130,9 +128,9 @@ module _ {L B : Type 0} (mount : MountState) (batch : Option ℕ) (ended : List 
 
 -- ---- workers that have done their parts
 
-module _ {L B : Type 0} (mount : MountState) (batch : Option ℕ) (calls : List TracedCall) where
+module _ {L B : Type 0} (mount : MountState) (batch : Option ℕ) where
   abbrev AllDid : List (WorkerState L B) → List (WorkerState L B) → Type 0
-  AllDid old new = (i : ℕ) (d : WorkerState L B) → i < length old → HasDonePart mount batch calls (slice_index_or old i d) (slice_index_or new i d)
+  AllDid old new = (i : ℕ) (d : WorkerState L B) → i < length old → HasDonePart mount batch (slice_index_or old i d) (slice_index_or new i d)
 
   pub threads_stay : (old new : List (WorkerState L B)) → length new ≡ length old → AllDid old new → threads_of new ≡ threads_of old
   threads_stay [] [] long did = refl
@@ -142,11 +140,16 @@ module _ {L B : Type 0} (mount : MountState) (batch : Option ℕ) (calls : List 
       ap (λ thread. thread ∷ threads_of more) (did 0 old (omega arith)).thread
       ∙ ap (λ l. old.thread ∷ l) (threads_stay others more (omega (arith, long)) (λ i d less. did (suc i) d (omega (arith, less))))
 
-  pub all_did_serve : (ended : List Past) (old new : List (WorkerState L B)) → length new ≡ length old → AllDid old new → All (IsNewWorker mount ended) old → All (HasServed mount batch ended calls) new
-  all_did_serve ended old new long did is k d inside = (did k d (omega (arith, long, inside))).served ended (is k d (omega (arith, long, inside)))
+  pub all_still_ready : (old new : List (WorkerState L B)) → length new ≡ length old → AllDid old new → All (IsReady mount) new
+  all_still_ready old new long did k d inside = (did k d (omega (arith, long, inside))).ready
 
-  pub all_did_all : (old new : List (WorkerState L B)) → length new ≡ length old → AllDid old new → All (λ worker. worker.done ≡ true → HasMadeAll calls worker) new
-  all_did_all old new long did k d inside = (did k d (omega (arith, long, inside))).all
+  pub all_did_serve : (ended : List Past) (calls : List TracedCall) (old new : List (WorkerState L B)) → length new ≡ length old → AllDid old new → All (IsNewWorker mount ended) old → All (HasShare calls) old
+      → All (HasServed mount batch ended calls) new
+  all_did_serve ended calls old new long did is share k d inside =
+      (did k d (omega (arith, long, inside))).served ended calls (is k d (omega (arith, long, inside))) (share k d (omega (arith, long, inside)))
+
+  pub all_did_all : (calls : List TracedCall) (old new : List (WorkerState L B)) → length new ≡ length old → AllDid old new → All (HasShare calls) old → All (λ worker. worker.done ≡ true → HasMadeAll calls worker) new
+  all_did_all calls old new long did share k d inside = (did k d (omega (arith, long, inside))).all calls (share k d (omega (arith, long, inside)))
 
 -- what a vector has whose slice was written
 pub written : {X : Type 0} (count : ℕ) (items new : List X) → length new ≡ length items → count ≡ length items → take count (new ++ drop (length new) items) ≡ new
@@ -172,16 +175,26 @@ cleaned_done mount batch old new done cleaned =
     }
 
 -- no call is its
-none_of_thread : (thread : ℕ) (calls : List TracedCall) → All (λ call. call.thread < thread) calls → calls_of_thread thread calls ≡ []
+pub none_of_thread : (thread : ℕ) (calls : List TracedCall) → All (λ call. call.thread < thread) calls → calls_of_thread thread calls ≡ []
 none_of_thread thread [] below = refl
 none_of_thread thread (call ∷ more) below =
     let less = All-head (λ (c : TracedCall). c.thread < thread) call more below in
     let rest = calls_of_thread thread more in
     ap (λ b. cond b (call ∷ rest) rest) (ne_eqb call.thread thread (λ is. omega (arith, less, is))) ∙ none_of_thread thread more (All-tail (λ (c : TracedCall). c.thread < thread) call more below)
 
-pub cleaner_all : {L B : Type 0} (calls : List TracedCall) (worker : WorkerState L B) → All (λ call. call.thread < 8) calls → worker.thread ≡ 8 → worker.made ≡ [] → HasMadeAll calls worker
-cleaner_all calls worker below is none =
-    ap calls_made none ∙ sym (none_of_thread 8 calls below) ∙ ap (λ thread. calls_of_thread thread calls) (sym is)
+-- one that had no calls left, and made none, has made all
+pub cleaner_all : {L B : Type 0} (calls : List TracedCall) (old new : WorkerState L B) → HasShare calls old → old.left ≡ [] → new.thread ≡ old.thread → new.made ≡ [] → HasMadeAll calls new
+cleaner_all calls old new share none thread made =
+    ap calls_made made ∙ sym none ∙ share ∙ ap (λ number. calls_of_thread number calls) (sym thread)
+
+-- an owner that isn't there has none
+pub no_owner : {X Y : Type 0} (list : X → List Y) (owner : Option X) → is_some owner ≡ false → if_owner list owner ≡ []
+no_owner list None none = refl
+no_owner list (Some owner) none = absurd (cc)
+
+-- one that made all the calls that it had left made all of its share
+pub worker_all : {L B : Type 0} (calls : List TracedCall) (old new : WorkerState L B) → HasShare calls old → new.thread ≡ old.thread → calls_made new.made ≡ old.left → HasMadeAll calls new
+worker_all calls old new share thread all = all ∙ share ∙ ap (λ number. calls_of_thread number calls) (sym thread)
 
 -- ---- how many calls they made, and which
 
@@ -206,15 +219,17 @@ module _ {L B : Type 0} (calls : List TracedCall) where
       → sum_by (λ (w : WorkerState L B). length w.made) workers ≤ length calls
   room_for_all mount batch ended workers served distinct = omega (arith, few_made mount batch ended workers served, few_calls (threads_of workers) calls distinct)
 
+  -- so are they in whatever list of them
+  pub few_listed : (mount : MountState) (batch : Option ℕ) (ended : List Past) (workers : List (WorkerState L B)) (made : List MadeCall) → All (HasServed mount batch ended calls) workers → AreDistinctNumbers (threads_of workers)
+      → IsPermutation made (flat_map (λ (w : WorkerState L B). w.made) workers) → length made ≤ length calls
+  few_listed mount batch ended workers made served distinct listed =
+      omega (arith, room_for_all mount batch ended workers served distinct, length_permutation made (flat_map (λ (w : WorkerState L B). w.made) workers) listed, length-flat_map (λ (w : WorkerState L B). w.made) workers)
+
 -- all calls of the round are made then
-pub all_made : {L B : Type 0} (count : ℕ) (batch : Option ℕ) (calls : List TracedCall) (workers : List (WorkerState L B)) (made then_ : List MadeCall) → All (λ call. call.thread < count) calls
+pub all_made : {L B : Type 0} (count : ℕ) (batch : Option ℕ) (calls : List TracedCall) (workers : List (WorkerState L B)) (made : List MadeCall) → All (λ call. call.thread < count) calls
     → threads_of workers ≡ crew_of count batch → AreDistinctNumbers (threads_of workers) → All (HasMadeAll calls) workers
-    → IsPermutation then_ (flat_map (λ (w : WorkerState L B). w.made) workers ++ made) → IsPermutation (calls_made then_) (calls_made made ++ calls)
-all_made {L = L} {B = B} count batch calls workers made then_ below crew distinct all listed =
+    → IsPermutation made (flat_map (λ (w : WorkerState L B). w.made) workers) → IsPermutation (calls_made made) calls
+all_made {L = L} {B = B} count batch calls workers made below crew distinct all listed =
     let ours = flat_map (λ (w : WorkerState L B). w.made) workers in
     let theirs : IsPermutation (calls_made ours) calls = subst (λ l. IsPermutation l calls) (sym (made_calls_are calls workers all)) (all_calls (threads_of workers) calls distinct (λ call one. subst (λ l. IsOneOf l call.thread) (sym crew) (in_crew count batch call.thread (of_one (λ (c : TracedCall). c.thread < count) calls call below one)))) in
-    IsPermutation-trans (calls_made then_) (calls_made (ours ++ made)) (calls_made made ++ calls) (IsPermutation-map (λ (m : MadeCall). m.call) then_ (ours ++ made) listed)
-    (subst (λ l. IsPermutation l (calls_made made ++ calls)) (sym (map-append (λ (m : MadeCall). m.call) ours made))
-    (IsPermutation-trans (calls_made ours ++ calls_made made) (calls ++ calls_made made) (calls_made made ++ calls)
-    (IsPermutation-append (calls_made ours) calls (calls_made made) (calls_made made) theirs (IsPermutation-refl (calls_made made)))
-    (IsPermutation-append_comm calls (calls_made made))))
+    IsPermutation-trans (calls_made made) (calls_made ours) calls (IsPermutation-map (λ (m : MadeCall). m.call) made ours listed) theirs

@@ -11,7 +11,9 @@ use Rattle.nv_core.specs.state.Words.{HEAD}
 use Rattle.nv_table.specs.invariant.BetweenSteps.{KnowsTaken}
 use Rattle.nv_table.specs.invariant.Idle.{IsIdle}
 use Rattle.nv_table.specs.passes.Alone.{IsAlone}
+use Rattle.nv_table.specs.state.Opened.{Opened}
 use Rattle.nv_table.specs.state.States.{PassState}
+use Rattle.nv_table.specs.state.Views.{AreDistinctNumbers, first_view, numbers}
 use Rattle.nv_mount.specs.ClosedAtRest.{HasEmptiedLog, RestsWhereEmpty}
 use Rattle.nv_mount.specs.LoneWords.{word_then}
 use Rattle.nv_mount.specs.OneHistories.{HasOneHistory}
@@ -38,9 +40,10 @@ use Rattle.nv_runner.specs.RunNumbers.{HaveDrawn}
 use Rattle.nv_runner.specs.RunRefusals.{IsRefusedWhile, calls_that_drew}
 use Rattle.nv_runner.specs.Runs.{OnlyMakesPasses}
 use Rattle.nv_runner.specs.Shifts.{HasRun}
-use Rattle.nv_runner.specs.Rounds.{AreCallsOf}
+use Rattle.nv_runner.specs.Rounds.{AreCallsOf, AreInLineOrder, AreInRoundOrder}
 use Rattle.nv_runner.specs.Sorted.{AreSortedOut, HaveOwnLines, OpenedCall, opened_calls}
 use Rattle.nv_runner.specs.Tries.{HasRunBatches}
+use Rattle.nv_runner.specs.Workers.{IsZeroStill}
 
 -- the entries of a batch, where a worker runs any
 abbrev pub batch_of : Plan → Option ℕ
@@ -93,6 +96,16 @@ pub record HasOutcome (fds : List Fd) (plan : Plan) (calls : List TracedCall) (s
   pub counted : word_then zero.view HEAD ≡ zero.view.opened.next + entries_of_calls zero.view.opened.sizes.page (calls_that_drew made)
   pub small : zero.view.opened.next + entries_of_calls zero.view.opened.sizes.page (calls_that_drew made) ≤ 2 ^ 60
   pub room : plan.worker ≡ false → entries_of_calls zero.view.opened.sizes.page (calls_that_drew made) ≤ zero.view.opened.sizes.entries
+
+-- Pass 0 of a mount was new at the start. Since then these of some calls were made, round by round in the order of their lines; it has taken in all passes that made them, and did nothing else.
+pub record HaveRunRounds (fds : List Fd) (worker : Option ℕ) (opened : Opened) (calls : List TracedCall) (made : List MadeCall) (start zero : PassState) : Type 0 where
+  pub new : start.view ≡ first_view opened
+  pub still : IsZeroStill start zero
+  pub run : HasRun fds worker made zero
+  pub distinct : AreDistinctNumbers (numbers zero.view.ended)
+  pub within : AreCallsOf calls made
+  pub line_order : AreInLineOrder calls
+  pub round_order : AreInRoundOrder calls
 
 -- What is answered of a run that came to this: its error; or its calls, sorted out, or that memory was wanting for that.
 abbrev pub IsOutcomeOf : {T : Type 0} → Result T RunError → List MadeCall → Result SortedCalls RunError → Type 0

@@ -6,6 +6,7 @@ pub mod Lists
 pub mod OpenWrites
 pub mod Cleaned
 pub mod Shifts
+pub mod Owners
 pub mod Rounds
 pub mod Workers
 pub mod Histories

@@ -1,9 +1,12 @@
 -- Rounds: the calls of one round among those of a trace.
-use Rattle.std.specs.Prelude.{◌≡◌, ◌⊎◌, ℕ, ◌<◌, ◌≤◌, List, length, map, take, drop, slice_index_or, All}
+use Rattle.std.specs.Prelude.{◌≡◌, ◌⊎◌, ℕ, ◌<◌, ◌≤◌, List, ◌++◌, length, map, Option, take, drop, slice_index_or, All}
 use Rattle.std.specs.List.Sorted.{IsNonDecreasingBy, IsStrictlyIncreasing}
 use Rattle.nv_core.specs.state.Passes.{IsOneOf}
+use Rattle.nv_table.specs.state.States.{PassState}
+use Rattle.nv_mount.specs.declared.fds.Fd.{Fd}
 use Rattle.nv_trace.specs.declared.trace_call.TracedCall.{TracedCall}
 use Rattle.nv_runner.specs.Lists.{MadeCall}
+use Rattle.nv_runner.specs.Shifts.{HasRun}
 
 -- calls stand in the order of their lines
 abbrev pub AreInLineOrder : List TracedCall → Type 0
@@ -28,6 +31,12 @@ AreCallsOf calls made = (m : MadeCall) → IsOneOf made m → IsOneOf calls m.ca
 -- each was made before, or is one of these
 abbrev pub AreMoreOf : List TracedCall → (before now : List MadeCall) → Type 0
 AreMoreOf calls before now = (m : MadeCall) → IsOneOf now m → IsOneOf before m ⊎ IsOneOf calls m.call
+
+-- So many calls of a round were made, behind those of the rounds before it: each is one of these, and with the others they are those of shifts that pass 0 has taken in.
+pub record HasRunRound (fds : List Fd) (worker : Option ℕ) (calls : List TracedCall) (before made : List MadeCall) (zero : PassState) : Type 0 where
+  pub run : HasRun fds worker (made ++ before) zero
+  pub within : AreCallsOf calls made
+  pub few : length made ≤ length calls
 
 -- so many first ones of some calls are of one round, and the others of later ones
 pub record IsRoundLong (calls : List TracedCall) (count : ℕ) : Type 0 where

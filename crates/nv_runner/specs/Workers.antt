@@ -19,12 +19,13 @@ use Rattle.nv_runner.specs.Runs.{GoesOn, OnlyMakesPasses}
 use Rattle.nv_runner.specs.Shifts.{calls_of_thread}
 use Rattle.nv_runner.specs.Tries.{HasRunBatches}
 
--- whose it is, its pass, what its calls work in, the calls that it made, and whether it has done its part
+-- whose it is, its pass, what its calls work in, the calls that it made, those that it has left, and whether it has done its part
 pub record WorkerState (L B : Type 0) : Type 0 where
   pub thread : ℕ
   pub pass : PassState
   pub workspace : WorkspaceState L B
   pub made : List MadeCall
+  pub left : List TracedCall
   pub done : Bool
 
 -- It is between two calls, and a pass beside pass 0.
@@ -35,12 +36,16 @@ pub record IsReady {L B : Type 0} (mount : MountState) (worker : WorkerState L B
   pub workspace : IsWorkspace mount.board.opened.sizes worker.workspace
   pub bare : worker.workspace.parts.items ≡ []
 
--- It made some first ones of its thread's calls among these, all that it has made, and is between two calls again.
-pub record HasWorked {L B : Type 0} (mount : MountState) (batch : Option ℕ) (calls : List TracedCall) (old new : WorkerState L B) : Type 0 where
+-- the calls that it has left are its thread's among these
+abbrev pub HasShare : {L B : Type 0} → List TracedCall → WorkerState L B → Type 0
+HasShare calls worker = worker.left ≡ calls_of_thread worker.thread calls
+
+-- It made some first ones of the calls that it had left, all that it has made, and is between two calls again.
+pub record HasWorked {L B : Type 0} (mount : MountState) (batch : Option ℕ) (old new : WorkerState L B) : Type 0 where
   pub thread : new.thread ≡ old.thread
   pub ready : IsReady mount new
   pub later : IsLater old.pass new.pass
-  pub some : FirstWereMade mount.fds batch (calls_of_thread old.thread calls) new.made old.pass new.pass
+  pub some : FirstWereMade mount.fds batch old.left new.made old.pass new.pass
 
 -- all calls of its thread among these were made
 abbrev pub HasMadeAll : {L B : Type 0} → List TracedCall → WorkerState L B → Type 0
@@ -104,12 +109,13 @@ pub record HasServed {L B : Type 0} (mount : MountState) (batch : Option ℕ) (e
   pub keeps : KeepsFaults last worker.pass
   pub number : worker.pass.view.number ≡ start.view.number
 
--- Pass 0 has made one more worker, of this thread.
-pub record IsHired {L B : Type 0} (mount : MountState) (number : ℕ) (old new : PassState) (before then_ : List (WorkerState L B)) : Type 0 where
+-- Pass 0 has made one more worker, of this thread, with these calls left.
+pub record IsHired {L B : Type 0} (mount : MountState) (number : ℕ) (calls : List TracedCall) (old new : PassState) (before then_ : List (WorkerState L B)) : Type 0 where
   pub worker : WorkerState L B
   pub more : then_ ≡ before ++ worker ∷ []
   pub is_new : IsNewWorker mount old.view.ended worker
   pub thread : worker.thread ≡ number
+  pub left : worker.left ≡ calls
   pub made : made_of new.view ≡ made_of old.view + 1
 
 -- the threads of some workers
@@ -125,8 +131,9 @@ abbrev pub crew_of : (threads : ℕ) → (batch : Option ℕ) → List ℕ
 crew_of threads None = range_with_len 0 threads
 crew_of threads (Some batch) = cleaner_thread ∷ range_with_len 0 threads
 
--- It has done its part of a round: served since its pass was made, and all of its calls, where it says so.
-pub record HasDonePart {L B : Type 0} (mount : MountState) (batch : Option ℕ) (calls : List TracedCall) (old new : WorkerState L B) : Type 0 where
+-- It has done its part of a round: served since its pass was made, of whatever calls it had a share, and made all of that, where it says so.
+pub record HasDonePart {L B : Type 0} (mount : MountState) (batch : Option ℕ) (old new : WorkerState L B) : Type 0 where
   pub thread : new.thread ≡ old.thread
-  pub served : (ended : List Past) → IsNewWorker mount ended old → HasServed mount batch ended calls new
-  pub all : new.done ≡ true → HasMadeAll calls new
+  pub ready : IsReady mount new
+  pub served : (ended : List Past) (calls : List TracedCall) → IsNewWorker mount ended old → HasShare calls old → HasServed mount batch ended calls new
+  pub all : (calls : List TracedCall) → HasShare calls old → new.done ≡ true → HasMadeAll calls new

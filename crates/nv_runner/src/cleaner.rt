@@ -10,7 +10,7 @@ ghost use Rattle.nv_runner.specs.Workers.{HasCleaned, IsReady};
 
 use crate::laws::{batches_come_one_by_one, tries_go_on};
 use crate::worker::Worker;
-use crate::{Gate, Point};
+use crate::{Calls, Gate, Point};
 use nv_clean::{CleanRefusal, try_clean};
 use nv_mount::Mount;
 use nv_pmem::Lines;
@@ -62,7 +62,7 @@ fn clean_until_alone<R: Wait, G: Gate, L: Lines + Drop, B: Backing + Drop>(
     }
 }
 
-impl<'a, L: Lines + Drop, B: Backing + Drop> Worker<'a, L, B> {
+impl<C: Calls, L: Lines + Drop, B: Backing + Drop> Worker<C, L, B> {
     /// Runs batches of at most so many entries until it alone is at work, or a device has failed, and passes the gate behind each that has retired some. None where there are none to run.
     pub(crate) fn clean<R: Wait, G: Gate>(
         &mut self,

@@ -13,7 +13,7 @@ use nv_store::Backing;
 use nv_table::{Closed, Pass};
 
 /// Ends a mount by pass 0, while no other pass is out: what `Mount::close` tells then.
-pub(crate) fn close_alone<L: Lines + Drop, B: Backing + Drop>(
+pub fn close_alone<L: Lines + Drop, B: Backing + Drop>(
     mount: Mount<L, B>,
     pass: Pass<L, B>,
 ) -> Closed<L, B>

@@ -2,6 +2,7 @@
 #![tactic(auto)]
 
 mod answer;
+mod call_list;
 mod cleaner;
 mod cleaning;
 mod closing;
@@ -11,6 +12,7 @@ mod hiring;
 mod laws;
 mod list;
 mod make;
+mod owner;
 mod plan;
 mod round;
 mod rounds;
@@ -22,6 +24,7 @@ mod worker;
 mod zero;
 
 pub use answer::{Answer, AnsweredCall};
+pub use closing::close_alone;
 pub use gate::{Gate, OpenGate, Point};
 pub use laws::{
     calls_stand_behind_what_was_seen, faults_are_of_their_devices, history_of_threads_is_legal,
@@ -32,10 +35,11 @@ pub use laws::{
 };
 pub use list::make_all;
 pub use make::make_call;
+pub use owner::Calls;
 pub use plan::Plan;
 pub use round::run_round;
 pub use rounds::run_rounds;
 pub use run_error::RunError;
-pub use running::{Ended, MOST_CALLS, run_calls};
+pub use running::{Ended, MOST_CALLS, end_rounds, run_calls, worker_batch};
 pub use shown::{Shown, show_refusal, show_refusals};
 pub use sorted::{Open, Placed, Refused, SortedCalls, sort_out};

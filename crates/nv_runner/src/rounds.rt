@@ -1,12 +1,15 @@
 //! All rounds of a trace, one behind the other.
-ghost use Rattle.std.specs.Prelude.{◌≡◌, ◌<◌, ◌≤◌, [], All, IsPermutation, OnOk, length};
+ghost use Rattle.std.specs.List.{flat_map};
+ghost use Rattle.std.specs.Prelude.{◌≡◌, ◌+◌, ◌<◌, ◌≤◌, ◌^◌, ◌++◌, [], All, IfOk, IsPermutation, OnOk, length, map, vec_capacity};
 ghost use Rattle.nv_table.specs.state.Views.{AreDistinctNumbers, made_of, numbers};
 ghost use Rattle.nv_runner.specs.declared.running.TheConstants.{MOST_CALLS};
 ghost use Rattle.nv_runner.specs.Lists.{calls_made, made_calls};
-ghost use Rattle.nv_runner.specs.Rounds.{AreCallsOf, AreInLineOrder, AreInRoundOrder, IsRoundLong};
+ghost use Rattle.nv_runner.specs.Owners.{AreShares, list_left, list_made};
+ghost use Rattle.nv_runner.specs.Rounds.{AreCallsOf, AreInLineOrder, AreInRoundOrder, AreMoreOf, IsNextRound, IsRoundLong};
 ghost use Rattle.nv_runner.specs.Shifts.{HasRun};
 ghost use Rattle.nv_runner.specs.Workers.{IsZero, IsZeroStill};
 
+use crate::call_list::CallList;
 use crate::{AnsweredCall, Gate, run_round};
 use nv_mount::Mount;
 use nv_plain::NoMemory;
@@ -31,6 +34,74 @@ fn round_len(calls: &[TracedCall]) -> usize
         }
     }
     calls.len()
+}
+
+// An owner for each of so many threads: of its calls among these.
+fn hand_out<'a>(
+    alloc: Global,
+    calls: &'a [TracedCall],
+    threads: u64,
+) -> Result<Vec<CallList<'a>>, NoMemory>
+    ensures count { IfOk result (λ lists. length lists.items ≡ threads) }
+    ensures fresh { IfOk result (λ lists. All (λ list. list_made list ≡ []) lists.items) }
+    ensures shares { IfOk result (λ lists. AreShares calls.now 0 (map list_left lists.items)) }
+{
+    let mut lists = Vec::new(alloc);
+    for thread in 0..threads {
+        lists.push(CallList::new(alloc, thread, calls))?;
+    }
+    Ok(lists)
+}
+
+// Puts what the calls of some owners were answered to the end of `answered`, in which there is room for it.
+fn put_down<'a>(mut lists: Vec<CallList<'a>>, answered: &mut Vec<AnsweredCall<'a>>)
+    requires room { length answered.old.items + length (flat_map list_made lists.items) ≤ vec_capacity answered.old }
+    ensures { IsPermutation (made_calls answered.new.items) (flat_map list_made lists.entry.items ++ made_calls answered.old.items) }
+{
+    while let Some(list) = lists.pop() {
+        let mut more = list.into_answered();
+        let _ = answered.append(&mut more);
+    }
+}
+
+// Makes the calls of one round of a trace, by so many threads. What they are answered goes to the end of `answered`.
+fn run_listed<
+    'a,
+    R: Threads + Wait + Sync,
+    G: Gate + Sync,
+    L: Lines + Drop + Send,
+    B: Backing + Drop + Send,
+>(
+    rt: &R,
+    alloc: Global,
+    gate: &G,
+    mount: &Mount<L, B>,
+    zero: &mut Pass<L, B>,
+    calls: &'a [TracedCall],
+    threads: u64,
+    batch: Option<u64>,
+    answered: &mut Vec<AnsweredCall<'a>>,
+) -> Result<(), NoMemory>
+    requires zero { IsZero mount.now zero.old }
+    requires all_in { length zero.old.view.ended ≡ made_of zero.old.view }
+    requires threads { threads ≤ 8 }
+    requires few { made_of zero.old.view + 10 < 2 ^ 32 }
+    requires next { IsNextRound threads calls.now (made_calls answered.old.items) }
+    requires run { HasRun mount.now.fds batch (made_calls answered.old.items) zero.old }
+    ensures zero { IsZero mount.now zero.new }
+    ensures still { IsZeroStill zero.old zero.new }
+    ensures all_in { length zero.new.view.ended ≡ made_of zero.new.view }
+    ensures few { made_of zero.new.view ≤ made_of zero.old.view + 9 }
+    ensures run { HasRun mount.now.fds batch (made_calls answered.new.items) zero.new }
+    ensures within { AreMoreOf calls.now (made_calls answered.old.items) (made_calls answered.new.items) }
+    ensures all { OnOk result (IsPermutation (calls_made (made_calls answered.new.items)) (calls_made (made_calls answered.old.items) ++ calls.now)) }
+{
+    answered.reserve(calls.len())?;
+    let lists = hand_out(alloc, calls, threads)?;
+    let mut done = Vec::new(alloc);
+    let result = run_round(rt, alloc, gate, mount, zero, lists, batch, &mut done);
+    put_down(done, answered);
+    result
 }
 
 /// Makes the calls of a trace, by so many threads, round by round: each round begins when the one before it has been taken in. Where `batch` tells the most entries of a batch, a
@@ -115,7 +186,7 @@ fn run_all<
     let mut rest = calls;
     while !rest.is_empty() {
         let (round, later) = rest.split_at(round_len(rest));
-        run_round(
+        run_listed(
             rt, alloc, gate, mount, zero, round, threads, batch, answered,
         )?;
         rest = later;

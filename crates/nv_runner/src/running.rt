@@ -1,16 +1,18 @@
 //! The run of a trace over a mount.
 ghost use Rattle.std.specs.List.Sorted.{IsStrictlyIncreasing};
-ghost use Rattle.std.specs.Prelude.{◌≡◌, ◌+◌, ◌≤◌, [], length, map, sum_by, Result};
+ghost use Rattle.std.specs.Prelude.{◌≡◌, ◌+◌, ◌≤◌, List, [], IsPermutation, OnOk, length, map, sum_by, Result};
 ghost use Rattle.nv_table.specs.invariant.Idle.{IsIdle};
 ghost use Rattle.nv_table.specs.passes.Alone.{IsAlone};
 ghost use Rattle.nv_table.specs.ends.Closing.{IsClosed};
 ghost use Rattle.nv_table.specs.state.SlotValues.{part_value, store_value, slot_value};
 ghost use Rattle.nv_table.specs.state.States.{IsOf, PassState};
-ghost use Rattle.nv_table.specs.state.Views.{first_view};
+ghost use Rattle.nv_table.specs.state.Views.{first_view, made_of};
 ghost use Rattle.nv_trace.specs.Shape.{IsWellFormed};
 ghost use Rattle.nv_trace.specs.Traced.{lines_in};
-ghost use Rattle.nv_runner.specs.EndedRuns.{HasOutcome, IsClosedBy, IsOutcomeOf, batch_of};
-ghost use Rattle.nv_runner.specs.Lists.{made_calls};
+ghost use Rattle.nv_trace.specs.declared.trace_call.TracedCall.{TracedCall as AnyTraced};
+ghost use Rattle.nv_runner.specs.EndedRuns.{HasOutcome, HaveRunRounds, IsClosedBy, IsOutcomeOf, batch_of};
+ghost use Rattle.nv_runner.specs.Lists.{MadeCall, calls_made, made_calls};
+ghost use Rattle.nv_runner.specs.Workers.{IsZero};
 ghost use Rattle.nv_runner.specs.declared.run_error.RunError.{RunError as AnyError};
 ghost use Rattle.nv_runner.specs.declared.running.TheConstants.{MOST_CALLS};
 ghost use Rattle.nv_runner.specs.declared.sorted.SortedCalls.{SortedCalls as AnySorted};
@@ -23,6 +25,7 @@ use crate::laws::{
 use crate::{AnsweredCall, Gate, Plan, RunError, SortedCalls, run_rounds, sort_out};
 use nv_core::{histories_go_on, passes_are_left_alone, runs_are_sound};
 use nv_mount::Mount;
+use nv_plain::NoMemory;
 use nv_pmem::Lines;
 use nv_store::Backing;
 use nv_table::{Closed, Pass};
@@ -43,11 +46,48 @@ pub struct Ended<'a, L, B> {
     pub outcome: Result<SortedCalls<'a>, RunError>,
 }
 
-// The most entries of a batch, where a worker runs any.
-fn worker_batch(plan: Plan) -> Option<u64>
+/// The most entries of a batch, where a worker runs any.
+pub fn worker_batch(plan: Plan) -> Option<u64>
     ensures { result ≡ batch_of plan }
 {
     if plan.worker { Some(plan.batch) } else { None }
+}
+
+/// Ends a run of rounds that came to this: where they were all made, and the run isn't to be stopped, the log is cleaned until it is empty.
+pub fn end_rounds<R: Wait, L: Lines + Drop, B: Backing + Drop>(
+    rt: &R,
+    mount: &Mount<L, B>,
+    pass: &mut Pass<L, B>,
+    plan: Plan,
+    rounds: Result<(), NoMemory>,
+) -> Result<(), RunError>
+    requires zero { IsZero mount.now pass.old }
+    requires all_in { length pass.old.view.ended ≡ made_of pass.old.view }
+    ensures board { IsOf mount.now.board pass.new }
+    ensures idle { IsIdle pass.new }
+    ensures alone { IsAlone pass.new.view }
+    ensures outcome { (calls : List AnyTraced) (made : List MadeCall) (start : PassState) (outcome : Result AnySorted AnyError)
+        → HaveRunRounds mount.now.fds (batch_of plan) mount.now.board.opened calls made start pass.old → OnOk rounds (IsPermutation (calls_made made) calls)
+        → IsOutcomeOf result made outcome → HasOutcome mount.now.fds plan calls start outcome pass.new }
+{
+    runs_are_sound();
+    passes_are_left_alone();
+    histories_go_on();
+    lines_keep_order();
+    refusals_in_runs_have_causes();
+    runs_draw_in_a_row();
+    open_calls_are_the_faults();
+    pass.sees_a_run();
+    pass.has_taken_in();
+    if rounds.is_err() {
+        return Err(RunError::NoMemory);
+    }
+    if plan.stop.is_some() {
+        return Ok(());
+    }
+    let cleaned = clean_all(rt, mount, pass, plan.batch);
+    pass.sees_a_run();
+    cleaned
 }
 
 // The rounds of calls; and where the run isn't to be stopped, the log is cleaned until it is empty. What the calls are answered is in `answered` then.
@@ -79,13 +119,6 @@ fn run_out<
     ensures alone { IsAlone pass.new.view }
     ensures outcome { (outcome : Result AnySorted AnyError) → IsOutcomeOf result (made_calls answered.new.items) outcome → HasOutcome mount.now.fds plan trace.now.calls pass.old outcome pass.new }
 {
-    runs_are_sound();
-    passes_are_left_alone();
-    histories_go_on();
-    lines_keep_order();
-    refusals_in_runs_have_causes();
-    runs_draw_in_a_row();
-    open_calls_are_the_faults();
     let rounds = run_rounds(
         rt,
         alloc,
@@ -97,17 +130,7 @@ fn run_out<
         worker_batch(plan),
         answered,
     );
-    pass.sees_a_run();
-    pass.has_taken_in();
-    if rounds.is_err() {
-        return Err(RunError::NoMemory);
-    }
-    if plan.stop.is_some() {
-        return Ok(());
-    }
-    let cleaned = clean_all(rt, mount, pass, plan.batch);
-    pass.sees_a_run();
-    cleaned
+    end_rounds(rt, mount, pass, plan, rounds)
 }
 
 // The calls sorted out, where they came to their end.

@@ -4,8 +4,10 @@ ghost use Rattle.nv_table.specs.invariant.Idle.{IsIdle};
 ghost use Rattle.nv_table.specs.passes.Seats.{past_of};
 ghost use Rattle.nv_table.specs.state.States.{IsOf};
 ghost use Rattle.nv_table.specs.state.Views.{made_of};
+ghost use Rattle.nv_runner.specs.Owners.{if_owner};
 ghost use Rattle.nv_runner.specs.Workers.{IsNewWorker, IsZero, IsZeroStill};
 
+use crate::Calls;
 use crate::worker::Worker;
 use nv_core::{passes_are_left_alone, runs_are_sound};
 use nv_mount::Mount;
@@ -15,20 +17,23 @@ use nv_store::Backing;
 use nv_table::{Pass, Workspace, join_pass, passes_stay_between_calls, split_pass};
 use std::alloc::Global;
 
-/// Makes a worker of this thread, whose pass has called nothing, and begins with all that pass 0 has taken in.
-pub(crate) fn new_worker<'a, L: Lines + Drop, B: Backing + Drop>(
+/// Makes a worker of this thread, for the calls of this owner, whose pass has called nothing, and begins with all that pass 0 has taken in.
+pub(crate) fn new_worker<C: Calls + Drop, L: Lines + Drop, B: Backing + Drop>(
     alloc: Global,
     mount: &Mount<L, B>,
     zero: &mut Pass<L, B>,
     thread: u64,
-) -> Result<Worker<'a, L, B>, NoMemory>
+    calls: Option<C>,
+) -> Result<Worker<C, L, B>, NoMemory>
     requires zero { IsZero mount.now zero.old }
     requires few { made_of zero.old.view + 1 < 2 ^ 32 }
+    requires none { if_owner C.made calls ≡ [] }
     ensures zero { IsZero mount.now zero.new }
     ensures still { IsZeroStill zero.old zero.new }
     ensures ended { zero.new.view.ended ≡ zero.old.view.ended }
     ensures worker { IfOk result (IsNewWorker mount.now zero.old.view.ended) }
     ensures thread { IfOk result (λ worker. worker.thread ≡ thread) }
+    ensures left { IfOk result (λ worker. worker.left ≡ if_owner C.left calls) }
     ensures made { OnOk result (made_of zero.new.view ≡ made_of zero.old.view + 1) }
     ensures none { OnErr result (made_of zero.new.view ≡ made_of zero.old.view) }
 {
@@ -43,7 +48,7 @@ pub(crate) fn new_worker<'a, L: Lines + Drop, B: Backing + Drop>(
         thread,
         pass,
         workspace,
-        answered: Vec::new(alloc),
+        calls,
         done: false,
     })
 }

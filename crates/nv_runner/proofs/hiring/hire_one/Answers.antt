@@ -8,5 +8,6 @@ returns-clause-hired g c = record {
   more = c.push_reserved.ensures.items ∙ ap (λ l. l ++ c.in_ok-worker.worker ∷ []) c.reserve.ensures.items;
   is_new = c.in_ok-worker.ensures.worker;
   thread = c.in_ok-worker.ensures.thread;
+  left = c.in_ok-worker.ensures.left;
   made = c.in_ok-worker.ensures.made;
 }

@@ -21,8 +21,8 @@ loop-rest-init g c = record {
 pub round_len-requires-clause-round_order : goal.round_len-requires-clause-round_order
 round_len-requires-clause-round_order g c = left_order c.args.calls.now c.loop-rest.rest.now (made_calls c.loop-rest.answered.items) c.loop-rest.invariant.left c.requires.round_order
 
-pub run_round-requires-clause-next : goal.run_round-requires-clause-next
-run_round-requires-clause-next g c =
+pub run_listed-requires-clause-next : goal.run_listed-requires-clause-next
+run_listed-requires-clause-next g c =
     let long = c.round_len.ensures in
     let parts = c.split_at in
     λ κs lives. next_round c.args.threads long.round c.args.calls.now c.loop-rest.rest.now parts.result.0.now parts.result.1.now (made_calls c.loop-rest.answered.items) c.loop-rest.invariant.left parts.ensures.by_index.0
@@ -33,27 +33,27 @@ loop-rest-preserved g c =
     let long = c.round_len.ensures in
     let parts = c.split_at in
     record {
-      zero = c.run_round.ensures.zero;
-      still = still_on c.args.zero.now c.loop-rest.zero c.run_round.new.zero c.loop-rest.invariant.still c.run_round.ensures.still;
-      all_in = c.run_round.ensures.all_in;
-      few = omega (arith, c.loop-rest.invariant.few, c.run_round.ensures.few, parts.ensures.back_len, long.some);
-      run = c.run_round.ensures.run;
-      left = left_on long.round c.args.calls.now c.loop-rest.rest.now parts.result.0.now parts.result.1.now (made_calls c.loop-rest.answered.items) (made_calls c.run_round.new.answered.items) c.loop-rest.invariant.left
+      zero = c.run_listed.ensures.zero;
+      still = still_on c.args.zero.now c.loop-rest.zero c.run_listed.new.zero c.loop-rest.invariant.still c.run_listed.ensures.still;
+      all_in = c.run_listed.ensures.all_in;
+      few = omega (arith, c.loop-rest.invariant.few, c.run_listed.ensures.few, parts.ensures.back_len, long.some);
+      run = c.run_listed.ensures.run;
+      left = left_on long.round c.args.calls.now c.loop-rest.rest.now parts.result.0.now parts.result.1.now (made_calls c.loop-rest.answered.items) (made_calls c.run_listed.new.answered.items) c.loop-rest.invariant.left
           parts.ensures.by_index.0 (subst (All (λ (call : TracedCall). call.round ≡ long.round)) (sym parts.ensures.front) long.one)
-          (subst (All (λ (call : TracedCall). long.round < call.round)) (sym parts.ensures.back) long.later) c.in_ok-run_round.ensures.all;
+          (subst (All (λ (call : TracedCall). long.round < call.round)) (sym parts.ensures.back) long.later) c.in_ok-run_listed.ensures.all;
     }
 
-pub returns-in_err-run_round-clause-still : goal.returns-in_err-run_round-clause-still
-returns-in_err-run_round-clause-still g c = still_on c.args.zero.now c.loop-rest.zero c.run_round.new.zero c.loop-rest.invariant.still c.run_round.ensures.still
+pub returns-in_err-run_listed-clause-still : goal.returns-in_err-run_listed-clause-still
+returns-in_err-run_listed-clause-still g c = still_on c.args.zero.now c.loop-rest.zero c.run_listed.new.zero c.loop-rest.invariant.still c.run_listed.ensures.still
 
 pub returns-clause-all : goal.returns-clause-all
 returns-clause-all g c = left_none c.args.calls.now c.loop-rest.rest.now (made_calls c.loop-rest.answered.items) c.loop-rest.invariant.left (search rules)
 
-pub returns-in_err-run_round-clause-within : goal.returns-in_err-run_round-clause-within
-returns-in_err-run_round-clause-within g c =
+pub returns-in_err-run_listed-clause-within : goal.returns-in_err-run_listed-clause-within
+returns-in_err-run_listed-clause-within g c =
     let parts = c.split_at in
-    more_within c.args.calls.now c.loop-rest.rest.now parts.result.0.now parts.result.1.now (made_calls c.loop-rest.answered.items) (made_calls c.run_round.new.answered.items) c.loop-rest.invariant.left
-    parts.ensures.by_index.0 c.run_round.ensures.within
+    more_within c.args.calls.now c.loop-rest.rest.now parts.result.0.now parts.result.1.now (made_calls c.loop-rest.answered.items) (made_calls c.run_listed.new.answered.items) c.loop-rest.invariant.left
+    parts.ensures.by_index.0 c.run_listed.ensures.within
 
 pub returns-clause-within : goal.returns-clause-within
 returns-clause-within g c = left_within c.args.calls.now c.loop-rest.rest.now (made_calls c.loop-rest.answered.items) c.loop-rest.invariant.left
