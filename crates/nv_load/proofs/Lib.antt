@@ -4,3 +4,9 @@ pub mod ShapeLaws
 pub mod OrderLaws
 pub mod LoadLaws
 pub mod ExactLaws
+pub mod OwnerLaws
+pub mod SoundLaws
+pub mod SortLaws
+pub mod CountLaws
+pub mod StockLaws
+pub mod RunLaws

@@ -53,7 +53,7 @@ HasShape threads call = IsReadIn call ⊎ IsFillIn threads call
 
 -- ---- in lines
 
-record IsInLine (line round thread : ℕ) (calls : List TraceCall) (one : TracedCall) : Type 0 where
+pub record IsInLine (line round thread : ℕ) (calls : List TraceCall) (one : TracedCall) : Type 0 where
   pub call : TraceCall
   pub there : IsOneOf calls call
   pub is : one.call ≡ call
@@ -62,7 +62,7 @@ record IsInLine (line round thread : ℕ) (calls : List TraceCall) (one : Traced
   pub low : line ≤ one.line
   pub high : one.line < line + length calls
 
-of_line : (line round thread : ℕ) (calls : List TraceCall) (one : TracedCall) → IsOneOf (in_lines line round thread calls) one → IsInLine line round thread calls one
+pub of_line : (line round thread : ℕ) (calls : List TraceCall) (one : TracedCall) → IsOneOf (in_lines line round thread calls) one → IsInLine line round thread calls one
 of_line line round thread [] one there = absurd there
 of_line line round thread (call ∷ calls) one (inl same) =
     let here = ap (λ (c : TracedCall). c.line) same in
@@ -85,7 +85,7 @@ to_line line round thread [] call there = absurd there
 to_line line round thread (first ∷ calls) call (inl same) = (record { line = line; round = round; thread = thread; call = first }, inl refl, sym same, refl, refl)
 to_line line round thread (first ∷ calls) call (inr later) = let is = to_line (line + 1) round thread calls call later in (is.0, inr is.1, is.2, is.3, is.4)
 
-of_range : (from count number : ℕ) → IsOneOf (range_with_len from count) number → (from ≤ number) × (number < from + count)
+pub of_range : (from count number : ℕ) → IsOneOf (range_with_len from count) number → (from ≤ number) × (number < from + count)
 of_range from zero number there = absurd there
 of_range from (suc count) number (inl same) = (omega (arith, same), omega (arith, same))
 of_range from (suc count) number (inr later) = let is = of_range (from + 1) count number later in (let low = is.0 in omega arith, let high = is.1 in omega arith)

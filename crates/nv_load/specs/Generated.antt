@@ -1,6 +1,7 @@
 -- Generated calls: which trace a load is.
-use Rattle.std.specs.Prelude.{◌≡◌, ℕ, false, zero, suc, ◌+◌, ◌*◌, ◌/◌, ◌%◌, ◌-◌, ◌^◌, ◌≤◌, ◌==◌, if◌then◌else◌, List, [], ◌∷◌, ◌++◌, length, map, replicate, codes}
+use Rattle.std.specs.Prelude.{ℕ, zero, suc, ◌+◌, ◌*◌, ◌/◌, ◌%◌, ◌-◌, ◌^◌, ◌≤◌, ◌==◌, if◌then◌else◌, List, [], ◌∷◌, ◌++◌, length, map, replicate, codes}
 use Rattle.std.specs.List.{flat_map, range_with_len}
+use Rattle.std.specs.List.Sorted.{IsStrictlyIncreasing}
 use Rattle.nv_plain.specs.declared.mode.Mode.TheVariants.{Rw}
 use Rattle.nv_pmem.specs.Draws.{Draws, after_draw, draws_of, next_word}
 use Rattle.nv_pmem.specs.declared.picker.Pick.TheVariants.{Seed}
@@ -8,7 +9,8 @@ use Rattle.nv_trace.specs.declared.trace.Form.TheVariants.{Run}
 use Rattle.nv_trace.specs.declared.trace_call.TraceCall.{TraceCall}
 use Rattle.nv_trace.specs.declared.trace_call.TraceCall.TheVariants.{Pread, Pwrite}
 use Rattle.nv_trace.specs.declared.trace_call.TracedCall.{TracedCall}
-use Rattle.nv_trace.specs.Traced.{Traced, has_tokens}
+use Rattle.nv_trace.specs.Shape.{IsWellFormed}
+use Rattle.nv_trace.specs.Traced.{Traced, lines_in}
 use Rattle.nv_load.specs.declared.load.Load.{Load}
 
 -- A load is within its limits.
@@ -78,15 +80,15 @@ declared = record {
 abbrev pub generated : Load → Traced
 generated load = record declared { calls = generated_calls load; rounds = 1 }
 
--- ---- on the way to it
+-- It is well formed, its calls stand in the order of their lines, and they are 800,064 at most.
+abbrev pub GeneratedTracesAreSound : Type 0
+GeneratedTracesAreSound = (load : Load) → IsLoad load → IsWellFormed (generated load) × IsStrictlyIncreasing (lines_in (generated load)) × (length (generated_calls load) ≤ 800064)
 
--- a trace and some calls behind its own
-abbrev pub with_calls : Traced → List TracedCall → Traced
-with_calls trace calls = record trace { calls = trace.calls ++ calls }
+-- ---- its rounds
 
--- A trace has its one descriptor and no token, and stands in its second round.
-pub record HasTwoRounds (trace : Traced) : Type 0 where
-  pub form : trace.form ≡ Run
-  pub one : length trace.descriptors ≡ 1
-  pub rounds : trace.rounds ≡ 1
-  pub no_tokens : has_tokens trace ≡ false
+-- the calls of the first, and of the second
+abbrev pub first_round : List TracedCall
+first_round = in_lines 3 0 0 first_fills
+
+abbrev pub second_round : Load → List TracedCall
+second_round load = flat_map (thread_calls load) (range_with_len 0 load.threads)

@@ -12,6 +12,7 @@ pub mod ReadingLemmas
 pub mod ReportedLemmas
 pub mod RestLemmas
 pub mod RowLemmas
+pub mod RanLemmas
 pub mod RunLemmas
 pub mod ShownLemmas
 pub mod StopLemmas

@@ -5,6 +5,7 @@ pub mod Endings
 pub mod Reports
 pub mod Readings
 pub mod Shows
+pub mod Ran
 pub mod Runs
 pub mod Leaving
 pub mod Fates

@@ -12,6 +12,7 @@ mod mounting;
 mod names;
 mod outcome;
 mod program;
+mod ran;
 mod recovery;
 mod region_text;
 mod run;

@@ -14,7 +14,7 @@ use crate::run::run_to_end;
 use crate::show::Show;
 use crate::words::RunOptions;
 use nv_bench::Bench;
-use nv_load::{Load, fresh_summaries_are_of_the_load, generate};
+use nv_load::{Load, declare, fresh_summaries_are_of_the_load, generated_traces_are_sound};
 use nv_pmem::{Pick, images_follow_calls};
 use nv_runner::Gate;
 use std::alloc::Global;
@@ -40,7 +40,8 @@ pub(crate) fn run_load<R: Threads + Wait + Sync, T: Bench, G: Gate + Sync>(
 {
     images_follow_calls();
     fresh_summaries_are_of_the_load();
-    let trace = generate(alloc, load)?;
+    generated_traces_are_sound();
+    let trace = declare(alloc)?;
     run_to_end(
         rt,
         alloc,

@@ -11,22 +11,27 @@ ghost use Rattle.nv_table.specs.state.States.{IsOf};
 ghost use Rattle.nv_table.specs.state.Views.{first_view};
 ghost use Rattle.nv_mount.specs.RisenCounts.{failed_before};
 ghost use Rattle.nv_runner.specs.Faithful.{Basis};
+ghost use Rattle.nv_runner.specs.declared.sorted.SortedCalls.{SortedCalls as AnySorted};
 ghost use Rattle.nv_trace.specs.Said.{said_place};
+ghost use Rattle.nv_trace.specs.Shape.{IsWellFormed};
 ghost use Rattle.nv_top.specs.Commands.{HasRunOn, IsGivenBack};
 ghost use Rattle.nv_top.specs.Headline.{IsRunRefused};
 ghost use Rattle.nv_top.specs.Lives.{AreLeftSo, LeavesRun};
 ghost use Rattle.nv_top.specs.Outcomes.{shown_report};
+ghost use Rattle.nv_top.specs.Ran.{AreOf};
 ghost use Rattle.nv_top.specs.Ready.{IsAtHome, IsRunnable};
 ghost use Rattle.nv_top.specs.Runs.{BeginsMount, HasRunOver, IsQuietSpare, basis_over};
-ghost use Rattle.nv_top.specs.Shows.{text_as};
+ghost use Rattle.nv_top.specs.Shows.{IsShownLoad, text_as, trace_run};
 ghost use Rattle.nv_top.specs.Stops.{CountHasCause, RunHasCause};
 ghost use Rattle.nv_top.specs.Words.{AreInLimits};
 ghost use Rattle.nv_top.specs.declared.ending.Stop.TheVariants as stops;
+ghost use Rattle.nv_top.specs.declared.show.Show.{Show as AnyShow};
 
 use crate::ending::Stop;
 use crate::files::read_files;
 use crate::mounting::{Unmounted, mount_over};
 use crate::names::copy_names;
+use crate::ran::{RanCalls, run_shown};
 use crate::show::Show;
 use crate::summary::show_summary;
 use crate::text::text_of;
@@ -41,10 +46,7 @@ use nv_mount::Mount;
 use nv_open::{Opened, open};
 use nv_plain::{Bytes, NoMemory};
 use nv_pmem::{Geometry, Lines, images_follow_calls};
-use nv_runner::{
-    Gate, Plan, SortedCalls, run_calls, runs_leave_lives, show_refusals,
-    unstopped_runs_leave_nothing_open,
-};
+use nv_runner::{Gate, Plan, runs_leave_lives, show_refusals, unstopped_runs_leave_nothing_open};
 use nv_store::Backing;
 use nv_table::Pass;
 use nv_trace::Trace;
@@ -65,13 +67,15 @@ pub(crate) fn run_to_end<R: Threads + Wait + Sync, T: Bench, G: Gate + Sync>(
 ) -> Result<Vec<u8>, Stop>
     requires at_home { IsAtHome (T.state bench.old) }
     requires limits { AreInLimits options }
-    requires trace { IsRunnable trace.now }
+    requires trace { IsRunnable (trace_run show trace.now) }
+    requires well_formed { IsWellFormed trace.now }
+    requires load { IsShownLoad show }
     ensures back { IsGivenBack (T.state bench.old) (T.state bench.new) }
     ensures ran { IfOk result (λ text. IfSome (T.state bench.old).told (λ holding.
-        HasRunOn show options holding (T.state bench.new).told trace.now text.items)) }
+        HasRunOn show options holding (T.state bench.new).told (trace_run show trace.now) text.items)) }
     ensures refused { (why : _) → result ≡ Err (stops.Region why)
         → IfSome (T.state bench.old).told (λ holding. IsRunRefused options holding trace.now.names (T.state bench.old) (T.state bench.new) why) }
-    ensures life { IfSome (T.state bench.old).told (λ was. LeavesRun options was trace.now (T.state bench.new).told) }
+    ensures life { IfSome (T.state bench.old).told (λ was. LeavesRun options was (trace_run show trace.now) (T.state bench.new).told) }
     ensures cause { CountHasCause (T.state bench.old).faults (T.state bench.new).faults result }
 {
     images_follow_calls();
@@ -121,15 +125,17 @@ fn run_region<
     requires limits { AreInLimits options }
     requires stores { length stores.items ≡ length region.names }
     requires quiet { All (λ store. Tells (B.history store) IsQuietStore) stores.items }
-    requires trace { IsRunnable trace.now }
+    requires trace { IsRunnable (trace_run show trace.now) }
+    requires well_formed { IsWellFormed trace.now }
+    requires load { IsShownLoad show }
     requires known { All (λ name. said_place name region.names < length region.names) trace.now.names }
     ensures count { length result.stores.items ≡ length stores.items }
     ensures many { length result.parts.items ≡ length region.parts.items }
     ensures ran { IfOk result.report (λ text. (parts : List Part) (now : List Store)
         → AreNow (map L.history region.parts.items) parts → AreNow (map B.history stores.items) now
-        → HasRunOver L.history B.history show options.worker (basis_over region options.pages (files_of now)) trace.now text.items result.parts.items result.stores.items) }
+        → HasRunOver L.history B.history show options.worker (basis_over region options.pages (files_of now)) (trace_run show trace.now) text.items result.parts.items result.stores.items) }
     ensures life { (parts : List Part) (now : List Store) → AreNow (map L.history region.parts.items) parts → AreNow (map B.history stores.items) now
-        → AreLeftSo L.history B.history (basis_over region options.pages (files_of now)) trace.now result.parts.items result.stores.items }
+        → AreLeftSo L.history B.history (basis_over region options.pages (files_of now)) (trace_run show trace.now) result.parts.items result.stores.items }
     ensures cause { RunHasCause (sum_by L.fault_count region.parts.items + sum_by B.fault_count stores.items)
         (sum_by L.fault_count result.parts.items + sum_by B.fault_count result.stores.items) result.report }
 {
@@ -185,12 +191,13 @@ fn run_mount<
     requires stop { plan.stop ≡ None }
     requires names { AreFileNames version_1 names.now }
     requires files { length names.now ≡ mount.board.opened.sizes.files }
-    requires trace { IsRunnable trace.now }
+    requires trace { IsRunnable (trace_run show trace.now) }
+    requires load { IsShownLoad show }
     ensures count { length result.stores.items ≡ mount.board.opened.sizes.files }
     ensures many { length result.parts.items ≡ 1 + mount.board.opened.sizes.entries + length pass.spare }
-    ensures ran { IfOk result.report (λ text. (basis : Basis) → BeginsMount basis trace.now mount pass → basis.names ≡ names.now → All IsQuietSpare pass.spare
-        → HasRunOver L.history B.history show plan.worker basis trace.now text.items result.parts.items result.stores.items) }
-    ensures life { (basis : Basis) → BeginsMount basis trace.now mount pass → AreLeftSo L.history B.history basis trace.now result.parts.items result.stores.items }
+    ensures ran { IfOk result.report (λ text. (basis : Basis) → BeginsMount basis (trace_run show trace.now) mount pass → basis.names ≡ names.now → All IsQuietSpare pass.spare
+        → HasRunOver L.history B.history show plan.worker basis (trace_run show trace.now) text.items result.parts.items result.stores.items) }
+    ensures life { (basis : Basis) → BeginsMount basis (trace_run show trace.now) mount pass → AreLeftSo L.history B.history basis (trace_run show trace.now) result.parts.items result.stores.items }
     ensures cause { RunHasCause (failed_before pass) (sum_by L.fault_count result.parts.items + sum_by B.fault_count result.stores.items) result.report }
 {
     runs_are_sound();
@@ -201,11 +208,11 @@ fn run_mount<
     pass.sees_a_run();
     crashes_leave_whole_writes();
     runs_leave_lives();
-    let ended = run_calls(rt, alloc, gate, mount, pass, trace, plan);
+    let ended = run_shown(rt, alloc, gate, mount, pass, plan, show, trace);
     let parts = ended.closed.parts;
     let mut stores = ended.closed.stores;
-    let report = match ended.outcome {
-        Ok(sorted) => show_run(alloc, show, sorted, names, &mut stores),
+    let report = match ended.calls {
+        Ok(calls) => show_run(alloc, calls, names, &mut stores),
         Err(error) => Err(error.into()),
     };
     Ended {
@@ -218,39 +225,44 @@ fn run_mount<
 // What is shown of a run whose files the stores hold, and of which no call was left open.
 fn show_run<B: Backing>(
     alloc: Global,
-    show: Show,
-    sorted: SortedCalls<'_>,
+    calls: RanCalls<'_>,
     names: &Names,
     stores: &mut Vec<B>,
 ) -> Result<Vec<u8>, Stop>
     requires { length stores.old.items ≡ length names.now }
-    ensures text { IfOk result (λ text. (now : List Store) → AreNow (map B.history stores.old.items) now
-        → text.items ≡ text_as show (shown_report sorted.entry [] names.now (files_of now))) }
+    ensures text { IfOk result (λ text. (show : AnyShow) (sorted : AnySorted) → AreOf show calls.entry sorted → (now : List Store) → AreNow (map B.history stores.old.items) now
+        → text.items ≡ text_as show (shown_report sorted [] names.now (files_of now))) }
     ensures histories { map B.history stores.new.items ≡ map B.history stores.old.items }
     ensures never { (why : _) → ¬ (result ≡ Err (stops.Region why)) }
     ensures cause { CountHasCause (sum_by B.fault_count stores.old.items) (sum_by B.fault_count stores.new.items) result }
 {
     let files = read_files(alloc, stores)?;
-    let text = show_calls(alloc, show, sorted, names, &files)?;
+    let text = show_calls(alloc, calls, names, &files)?;
     Ok(text)
 }
 
 // What is shown of the calls of a run, of which none was left open, and of its files.
 fn show_calls(
     alloc: Global,
-    show: Show,
-    sorted: SortedCalls<'_>,
+    calls: RanCalls<'_>,
     names: &Names,
     files: &[Bytes],
 ) -> Result<Vec<u8>, NoMemory>
     requires { length files.now ≡ length names.now }
-    ensures { IfOk result (λ text. text.items ≡ text_as show (shown_report sorted.entry [] names.now (record { contents = files.now }))) }
+    ensures { IfOk result (λ text. (show : AnyShow) (sorted : AnySorted) → AreOf show calls.entry sorted
+        → text.items ≡ text_as show (shown_report sorted [] names.now (record { contents = files.now }))) }
 {
-    match show {
-        Show::Report => {
+    match calls {
+        RanCalls::Listed(sorted) => {
             let shown = show_refusals(alloc, sorted.refused)?;
             text_of(alloc, &sorted.placed, &shown, &[], names.as_slice(), files)
         }
-        Show::Summary(load) => show_summary(alloc, load, &sorted.placed, names.as_slice(), files),
+        RanCalls::Counted(load, counts) => show_summary(
+            alloc,
+            load,
+            counts,
+            names.as_slice(),
+            files,
+        ),
     }
 }

@@ -1,30 +1,29 @@
 //! The summary of a run of generated calls, as text.
-ghost use Rattle.std.specs.Prelude.{◌≡◌, ◌++◌, length, map, codes, IfOk, OnOk};
+ghost use Rattle.std.specs.Prelude.{◌≡◌, ◌++◌, length, codes, IfOk, OnOk};
 ghost use Rattle.nv_runner.specs.Faithful.{named};
-ghost use Rattle.nv_runner.specs.Sorted.{placed_call};
-ghost use Rattle.nv_load.specs.Summaries.{bytes_of, summary_of};
+ghost use Rattle.nv_load.specs.Counts.{summary_counted};
+ghost use Rattle.nv_load.specs.Summaries.{bytes_of};
 ghost use Rattle.nv_top.specs.Shows.{count_text, load_text, summary_text};
 
-use nv_load::{Load, Summary, summarize};
+use nv_load::{Counts, Load, Summary, summarize};
 use nv_plain::{Bytes, NoMemory};
-use nv_runner::Placed;
 use nv_trace::place_of;
 use std::alloc::Global;
 
-/// The text of the summary of a run of generated calls: of those that have a place, and of their file, which is one of these.
+/// The text of the summary of a run of generated calls: of what was counted of them, and of their file, which is one of these.
 pub(crate) fn show_summary(
     alloc: Global,
     load: Load,
-    placed: &[Placed<'_>],
+    counts: Counts,
     names: &[Bytes],
     files: &[Bytes],
 ) -> Result<Vec<u8>, NoMemory>
     requires files { length files.now ≡ length names.now }
     ensures { IfOk result (λ text. text.items
-        ≡ summary_text load (summary_of (map placed_call placed.now) (bytes_of (codes "g") (named names.now (record { contents = files.now }))))) }
+        ≡ summary_text load (summary_counted counts (bytes_of (codes "g") (named names.now (record { contents = files.now }))))) }
 {
     let file = bytes_of(names, files);
-    summary_text_of(alloc, load, summarize(placed, file))
+    summary_text_of(alloc, load, summarize(counts, file))
 }
 
 // The bytes of the file of generated calls.

@@ -11,6 +11,8 @@ use Rattle.std.specs.Prelude.{sum_by}
 use Rattle.nv_pmem.specs.Steps as lines
 use Rattle.nv_top.proofs.CauseLemmas.{stop_ends}
 use Rattle.nv_top.proofs.LifeLemmas.{left_same, rest_lives}
+use Rattle.nv_top.specs.Shows.{trace_run}
+use Rattle.nv_top.proofs.RanLemmas.{begins_run}
 use Rattle.nv_top.proofs.RunLemmas.{quiet_stores}
 use Rattle.nv_top.proofs.run.run_region.Goals as goal
 
@@ -19,7 +21,7 @@ returns-in-Ok-mount_over-clause-ran g c =
     let history = g.L.Lines.history in
     let held = g.B.Backing.history in
     let region = c.args.region in
-    let trace = c.args.trace.now in
+    let trace = trace_run c.args.show c.args.trace.now in
     let names = c.in-Ok.names in
     let mount = c.in-Ok-mount_over.mount in
     let pass = c.in-Ok-mount_over.pass in
@@ -30,7 +32,7 @@ returns-in-Ok-mount_over-clause-ran g c =
     → HasRunOver history held c.args.show c.args.options.worker basis trace text.items c.run_mount.result.parts.items c.run_mount.result.stores.items)
     (λ text. (parts : List Part) (now : List Store) → AreNow (map history region.parts.items) parts → AreNow (map held c.args.stores.items) now
     → HasRunOver history held c.args.show c.args.options.worker (basis_over region c.args.options.pages (files_of now)) trace text.items c.run_mount.result.parts.items c.run_mount.result.stores.items)
-    (λ text ran parts now parts_are now_are. ran (basis_over region c.args.options.pages (files_of now)) (made.begins parts now parts_are now_are) (sym same_names) (made.spare parts parts_are))
+    (λ text ran parts now parts_are now_are. ran (basis_over region c.args.options.pages (files_of now)) (begins_run c.args.show (basis_over region c.args.options.pages (files_of now)) c.args.trace.now mount pass (made.begins parts now parts_are now_are)) (sym same_names) (made.spare parts parts_are))
     c.run_mount.ensures.ran
 
 pub returns-in_default-clause-life : goal.returns-in_default-clause-life
@@ -40,12 +42,13 @@ returns-in_default-clause-life g c parts now parts_are now_are =
     let region = c.args.region in
     let back = c.into_parts.result.items in
     let same : map history back ≡ map history region.parts.items = ap (λ parts. map history parts.items) c.into_parts.ensures.parts in
-    rest_lives history held (basis_over region c.args.options.pages (files_of now)) c.args.trace.now back c.args.stores.items parts now region.geometry.page region.geometry.entries region.next
+    rest_lives history held (basis_over region c.args.options.pages (files_of now)) (trace_run c.args.show c.args.trace.now) back c.args.stores.items parts now region.geometry.page region.geometry.entries region.next
     (subst (λ (row : List lines.PartHistory). AreNow row parts) (sym same) parts_are) now_are c.into_parts.ensures.region.tells (quiet_stores held c.args.stores.items now now_are c.requires.quiet) refl
 
 pub returns-in-Ok-mount_over-clause-life : goal.returns-in-Ok-mount_over-clause-life
 returns-in-Ok-mount_over-clause-life g c parts now parts_are now_are =
-    c.run_mount.ensures.life (basis_over c.args.region c.args.options.pages (files_of now)) (c.in-Ok-mount_over.ensures.begins parts now parts_are now_are)
+    let basis = basis_over c.args.region c.args.options.pages (files_of now) in
+    c.run_mount.ensures.life basis (begins_run c.args.show basis c.args.trace.now c.in-Ok-mount_over.mount c.in-Ok-mount_over.pass (c.in-Ok-mount_over.ensures.begins parts now parts_are now_are))
 
 pub returns-clause-life : goal.returns-clause-life
 returns-clause-life g c parts now parts_are now_are =
@@ -53,7 +56,7 @@ returns-clause-life g c parts now parts_are now_are =
     let held = g.B.Backing.history in
     let region = c.args.region in
     let stores = c.args.stores.items in
-    let trace = c.args.trace.now in
+    let trace = trace_run c.args.show c.args.trace.now in
     let basis = basis_over region c.args.options.pages (files_of now) in
     let rest = rest_lives history held basis trace region.parts.items stores parts now region.geometry.page region.geometry.entries region.next parts_are now_are region.is_region.tells (quiet_stores held stores now now_are c.requires.quiet) refl in
     left_same history held basis trace c.in-Err.field-0.parts.items region.parts.items c.in-Err.field-0.stores.items stores c.in-Err.ensures.same_parts c.in-Err.ensures.same_stores rest

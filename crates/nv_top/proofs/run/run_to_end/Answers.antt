@@ -7,6 +7,8 @@ use Rattle.nv_store.specs.Store.{Store}
 use Rattle.nv_recover.specs.Standing.{files_of}
 use Rattle.nv_top.specs.Commands.{HasRunOn}
 use Rattle.nv_top.specs.Runs.{HasRunOver, basis_over}
+use Rattle.nv_top.specs.Shows.{trace_run}
+use Rattle.nv_top.proofs.RanLemmas.{names_run}
 use Rattle.nv_top.proofs.CommandLemmas.{if_told, leaves, told_at}
 use Rattle.nv_open.specs.Adding.{all_names}
 use Rattle.nv_trace.specs.Said.{said_place}
@@ -46,7 +48,7 @@ returns-clause-ran g c =
     let old = g.T.Bench.state c.args.bench.now in
     let mid = g.T.Bench.state c.open.new.bench in
     let after_it = g.T.Bench.state c.give_back.new.self in
-    let trace = c.args.trace.now in
+    let trace = trace_run c.args.show c.args.trace.now in
     let made = c.in_ok-region.ensures in
     let region = c.in_ok-region.field-0.region in
     let stores = c.in_ok-region.field-0.stores.items in
@@ -63,7 +65,7 @@ returns-clause-ran g c =
     let over = ran parts.states opened.files.held parts.are opened.files.are in
     record {
       basis = basis_over region c.args.options.pages (files_of opened.files.held);
-      begun = opened_basis c.args.options holding _ _ trace.names _ _ _ _ _ opened refl refl (c.in_ok-wanted.ensures ∙ c.names.ensures);
+      begun = opened_basis c.args.options holding _ _ trace.names _ _ _ _ _ opened refl refl (c.in_ok-wanted.ensures ∙ c.names.ensures ∙ sym (names_run c.args.show c.args.trace.now));
       report = over.report;
       faithful = over.faithful;
       plain = over.plain;
@@ -88,7 +90,7 @@ returns-in_err-region-clause-refused g c why is =
 pub returns-in_err-wanted-clause-life : goal.returns-in_err-wanted-clause-life
 returns-in_err-wanted-clause-life g c =
     let old = g.T.Bench.state c.args.bench.now in
-    still_run old old c.args.options c.args.trace.now c.images_follow_calls.ensures.quiet refl c.requires.at_home.quiet
+    still_run old old c.args.options (trace_run c.args.show c.args.trace.now) c.images_follow_calls.ensures.quiet refl c.requires.at_home.quiet
 
 pub returns-then-faults-before-clause-life : goal.returns-then-faults-before-clause-life
 returns-then-faults-before-clause-life g c =
@@ -97,7 +99,7 @@ returns-then-faults-before-clause-life g c =
     let old = g.T.Bench.state c.args.bench.now in
     let mid = g.T.Bench.state c.open.new.bench in
     let after_it = g.T.Bench.state c.give_back.new.self in
-    let trace = c.args.trace.now in
+    let trace = trace_run c.args.show c.args.trace.now in
     let made = c.in_ok-region.ensures in
     let region = c.in_ok-region.field-0.region in
     let stores = c.in_ok-region.field-0.stores.items in
@@ -107,7 +109,7 @@ returns-then-faults-before-clause-life g c =
     let parts = present (map history region.parts.items) (told_at old.told _ holding told made.tell) in
     let basis = basis_over region c.args.options.pages (files_of opened.files.held) in
     let left = c.run_region-parts.ensures.life parts.states opened.files.held parts.are opened.files.are in
-    let begun = opened_basis c.args.options holding _ _ trace.names _ _ _ _ _ opened refl refl (c.in_ok-wanted.ensures ∙ c.names.ensures) in
+    let begun = opened_basis c.args.options holding _ _ trace.names _ _ _ _ _ opened refl refl (c.in_ok-wanted.ensures ∙ c.names.ensures ∙ sym (names_run c.args.show c.args.trace.now)) in
     record {
       untouched = λ kept bad. absurd (bad (good_begun holding.parts _ _ _ _ _ opened.begun kept));
       stands = λ stand. inr (record {
@@ -128,7 +130,7 @@ returns-clause-life g c =
     let old = g.T.Bench.state c.args.bench.now in
     let mid = g.T.Bench.state c.open.new.bench in
     let after_it = g.T.Bench.state c.give_back.new.self in
-    let trace = c.args.trace.now in
+    let trace = trace_run c.args.show c.args.trace.now in
     let made = c.in_ok-region.ensures in
     let region = c.in_ok-region.field-0.region in
     let stores = c.in_ok-region.field-0.stores.items in
@@ -138,7 +140,7 @@ returns-clause-life g c =
     let parts = present (map history region.parts.items) (told_at old.told _ holding told made.tell) in
     let basis = basis_over region c.args.options.pages (files_of opened.files.held) in
     let left = c.run_region-parts.ensures.life parts.states opened.files.held parts.are opened.files.are in
-    let begun = opened_basis c.args.options holding _ _ trace.names _ _ _ _ _ opened refl refl (c.in_ok-wanted.ensures ∙ c.names.ensures) in
+    let begun = opened_basis c.args.options holding _ _ trace.names _ _ _ _ _ opened refl refl (c.in_ok-wanted.ensures ∙ c.names.ensures ∙ sym (names_run c.args.show c.args.trace.now)) in
     record {
       untouched = λ kept bad. absurd (bad (good_begun holding.parts _ _ _ _ _ opened.begun kept));
       stands = λ stand. inr (record {
@@ -155,4 +157,4 @@ returns-clause-life g c =
 pub returns-in_err-region-clause-life : goal.returns-in_err-region-clause-life
 returns-in_err-region-clause-life g c =
     let made = c.in_err-region.ensures in
-    refused_life c.args.options _ c.args.trace.now.names (g.T.Bench.state c.args.bench.now) (g.T.Bench.state c.open.new.bench) (c.in_ok-wanted.ensures ∙ c.names.ensures) c.args.trace.now refl _ refl refl made.standing made.untouched
+    refused_life c.args.options _ c.args.trace.now.names (g.T.Bench.state c.args.bench.now) (g.T.Bench.state c.open.new.bench) (c.in_ok-wanted.ensures ∙ c.names.ensures) (trace_run c.args.show c.args.trace.now) (sym (names_run c.args.show c.args.trace.now)) _ refl refl made.standing made.untouched

@@ -1,0 +1,73 @@
+//! What is counted of calls that were made.
+ghost use Rattle.std.specs.Prelude.{◌≡◌, ◌∷◌, ◌++◌, List, []};
+ghost use Rattle.nv_runner.specs.Lists.{MadeCall};
+ghost use Rattle.nv_load.specs.Counts.{counts_of};
+ghost use Rattle.nv_load.specs.Summaries.{bytes_read, bytes_written};
+
+use nv_plain::Reply;
+use nv_runner::Answer;
+use nv_trace::{TraceCall, TracedCall};
+
+/// What is counted of calls that were made. A count stands still at 2^64 - 1.
+#[derive(Clone, Copy, Debug, PartialEq, Eq)]
+pub struct Counts {
+    /// Those that have their place in the history.
+    pub placed: u64,
+    /// The bytes that these wrote.
+    pub written: u64,
+    /// The bytes that they read.
+    pub read: u64,
+}
+
+impl Counts {
+    /// Those of no calls.
+    pub const NONE: Counts = Counts {
+        placed: 0,
+        written: 0,
+        read: 0,
+    };
+
+    /// That of one call.
+    pub fn of_one(call: &TracedCall, answer: &Answer) -> Counts
+        ensures { result ≡ counts_of (record { call = call.now; answer = answer.now } ∷ []) }
+    {
+        match answer {
+            Answer::Placed { reply, .. } => Counts {
+                placed: 1,
+                written: bytes_written(&call.call),
+                read: bytes_read(reply),
+            },
+            Answer::Refused(_) => Counts::NONE,
+            Answer::Open { .. } => Counts::NONE,
+        }
+    }
+
+    /// With those of more calls.
+    pub fn add(&mut self, more: Counts)
+        ensures { (made later : List MadeCall) → self.old ≡ counts_of made → more ≡ counts_of later → self.new ≡ counts_of (made ++ later) }
+    {
+        self.placed = self.placed.saturating_add(more.placed);
+        self.written = self.written.saturating_add(more.written);
+        self.read = self.read.saturating_add(more.read);
+    }
+}
+
+// How many bytes a call writes.
+fn bytes_written(call: &TraceCall) -> u64
+    ensures { result ≡ bytes_written call.now }
+{
+    match call {
+        TraceCall::Pwrite { bytes, .. } => bytes.len() as u64,
+        TraceCall::Pread { .. } | TraceCall::Fsync { .. } => 0,
+    }
+}
+
+// How many bytes a reply gives.
+fn bytes_read(reply: &Reply) -> u64
+    ensures { result ≡ bytes_read reply.now }
+{
+    match reply {
+        Reply::Bytes(bytes) => bytes.len() as u64,
+        Reply::Count(_) | Reply::Done => 0,
+    }
+}
