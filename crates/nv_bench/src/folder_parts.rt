@@ -6,17 +6,13 @@ ghost use Rattle.nv_store.specs.FileStore.{store_faults};
 
 use crate::BenchError;
 use crate::file_ids::FileIds;
+use nv_plain::limits::{ENTRY_LIMIT, HEADER_LINES};
 use nv_pmem::{FilePart, Geometry, Lines, PartError, sync_folder_of};
 use nv_store::{Backing, FileStore, StoreFault};
 use std::alloc::{AllocError, AllocFailed, Global};
 use std::fs::{self, File};
 use std::io::{self, ErrorKind, Read};
 use std::rt::Files;
-
-/// Lines of the header's part.
-const HEADER_LINES: u64 = 18;
-/// The most entries of a log: a part behind that of this number is no entry's.
-const MOST_ENTRIES: u64 = 1024;
 
 const LINE_BYTES: u64 = 64;
 
@@ -104,7 +100,7 @@ fn refuse_remains<R: Files + Copy>(
             return Err(BenchError::Failed);
         }
     }
-    for i in 1..=MOST_ENTRIES {
+    for i in 1..=ENTRY_LIMIT {
         let path = part_path(alloc, folder, i)?;
         if is_there(rt, path.as_str())? && begins_with_bytes(rt, path.as_str(), WORD_BYTES)? {
             return Err(BenchError::Failed);

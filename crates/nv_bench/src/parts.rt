@@ -8,11 +8,9 @@ ghost use Rattle.nv_bench.specs.Opening.{is_blank, opened, sized};
 ghost use Rattle.nv_bench.specs.Powered.{powered_parts};
 
 use nv_plain::NoMemory;
+use nv_plain::limits::HEADER_LINES;
 use nv_pmem::{Fuse, Geometry, Lines, MemPart, Picker};
 use std::alloc::Global;
-
-/// Lines of the header's part.
-const HEADER_LINES: u64 = 18;
 
 /// Whether the parts of a region are blank.
 pub(crate) fn are_blank(parts: &[MemPart]) -> bool

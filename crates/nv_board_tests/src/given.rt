@@ -1,6 +1,6 @@
 //! What the tests of a mount begin with: a region, the store of its file, and a mount over them; and how it ends.
 ghost use Rattle.std.specs.Prelude.{◌≡◌, ◌≤◌, [], ◌∷◌, length, map, All, IfOk};
-ghost use Rattle.nv_plain.specs.Layouts.{version_1};
+ghost use Rattle.nv_plain.specs.Layouts.{mount_layout};
 ghost use Rattle.nv_plain.specs.declared.mode.Mode.TheVariants.{Rw, W};
 ghost use Rattle.nv_pmem.specs.MemPart.{part_history, part_room};
 ghost use Rattle.nv_pmem.specs.Moments.{Tells};
@@ -25,7 +25,7 @@ use std::test::Fail;
 
 // The parts of a blank region.
 fn blank_parts(alloc: Global, geometry: Geometry) -> Result<Vec<MemPart>, NoMemory>
-    ensures parts { IfOk result (λ parts. HasParts version_1 geometry.page geometry.entries (map part_room parts.items)) }
+    ensures parts { IfOk result (λ parts. HasParts mount_layout geometry.page geometry.entries (map part_room parts.items)) }
     ensures blank { IfOk result (λ parts. RowTells (map part_history parts.items) IsBlankRow) }
 {
     let mut parts = Vec::new(alloc);

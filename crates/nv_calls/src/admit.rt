@@ -9,12 +9,10 @@ use nv_entry::piece_count;
 use nv_mirror::Refusal;
 use nv_mount::Mount;
 use nv_plain::Mode;
+use nv_plain::limits::GROUP_LIMIT;
 use nv_pmem::Lines;
 use nv_store::Backing;
 use nv_table::Layout;
-
-// How many pages a call may touch, at most.
-const MOST_PAGES: u64 = 16;
 
 /// What a call does with its file.
 #[derive(Clone, Copy, Debug, PartialEq, Eq)]
@@ -41,7 +39,7 @@ fn check_range(layout: Layout, at: u64, len: u64) -> Result<(), Refusal>
     if at > limit || len > limit - at {
         return Err(Refusal::TooFar);
     }
-    if piece_count(at, len, layout.page) > MOST_PAGES.min(layout.entries) {
+    if piece_count(at, len, layout.page) > GROUP_LIMIT.min(layout.entries) {
         return Err(Refusal::TooLong);
     }
     Ok(())

@@ -1,6 +1,7 @@
 -- Cleaning: a batch of a cleaner as the core has it, and the machine that runs it.
 use Rattle.std.specs.Prelude.{◌≡◌, ◌≢◌, ℕ, ◌+◌, ◌-◌, ◌<◌, ◌≤◌, ◌==◌, ◌^◌, Bool, true, false, if◌then◌else◌, List, [], ◌∷◌, length, Option, Some, None, Result, Ok, Err, filter}
 use Rattle.std.specs.List.{list_any, range_with_len}
+use Rattle.nv_plain.specs.Layouts.{mount_layout}
 use Rattle.nv_core.specs.state.Words.{Sizes, Word, ENTRY, STORE, page_total, slot_of_entry}
 use Rattle.nv_core.specs.state.Cleaner.{Batch, CleanerControl}
 use Rattle.nv_core.specs.state.Cleaner as cleaner
@@ -23,6 +24,7 @@ use Rattle.nv_clean.specs.declared.batch.CleanControl.TheVariants as cleans
 use Rattle.nv_clean.specs.declared.batch.CleanRefusal.{CleanRefusal}
 use Rattle.nv_clean.specs.declared.batch.CleanRefusal.TheVariants as refusals
 use Rattle.nv_clean.specs.OwnSteps.{AreOwn}
+use Rattle.nv_clean.specs.OwnedCells.{most_cells}
 
 -- what contracts see of a machine: the core's batch, the cells that its pass owns, where it stands, and why it is refused, if it is
 pub record CleanState : Type 0 where
@@ -80,7 +82,7 @@ pub record IsPlace (batch : Batch) (at : ℕ) : Type 0 where
 
 -- what is so by where it stands
 abbrev pub FitsAt : Sizes → Batch → CleanControl → Type 0
-FitsAt sizes batch (cleans.LoadEntry at) = IsLow batch × (length batch.pages ≡ at) × (at < 16)
+FitsAt sizes batch (cleans.LoadEntry at) = IsLow batch × (length batch.pages ≡ at) × (at < mount_layout.group_limit)
 FitsAt sizes batch (cleans.TakeCleanup at) = (at < length batch.pages) × (group_page batch at < page_total sizes)
 FitsAt sizes batch cleans.TakeStore = (0 < length batch.pages) × (group_file sizes batch < sizes.files)
 FitsAt sizes batch (cleans.HoldEntry at) = IsPlace batch at
@@ -106,10 +108,10 @@ IsLockFirst (cell ∷ rest) = (slot : ℕ) → cell ≢ ENTRY slot
 
 -- there is room for a cell that is taken, and a lock to give back
 abbrev pub OwnsAt : List Word → CleanControl → Type 0
-OwnsAt owned cleans.TakeHeader = length owned < 50
-OwnsAt owned (cleans.TakeCleanup at) = length owned < 50
-OwnsAt owned cleans.TakeStore = length owned < 50
-OwnsAt owned (cleans.HoldEntry at) = length owned < 50
+OwnsAt owned cleans.TakeHeader = length owned < most_cells
+OwnsAt owned (cleans.TakeCleanup at) = length owned < most_cells
+OwnsAt owned cleans.TakeStore = length owned < most_cells
+OwnsAt owned (cleans.HoldEntry at) = length owned < most_cells
 OwnsAt owned cleans.GiveBack = IsLockFirst owned
 OwnsAt owned control = Unit {0}
 
@@ -297,7 +299,7 @@ pub record HasReadPiece (m : CleanState) (at offset : ℕ) (bytes : List ℕ) (s
 pub record IsGroupHeld (m : CleanState) (held : ℕ) : Type 0 where
   pub within : held ≤ length m.batch.pages
   pub places : (i : ℕ) → i < length m.batch.pages → IsPlace m.batch i
-  pub room : held < length m.batch.pages → length m.owned < 50
+  pub room : held < length m.batch.pages → length m.owned < most_cells
 
 -- where it stands behind the write, by its answer, and why that was not well, if it wasn't
 abbrev pub written_at : Batch → (at : ℕ) → Result (Unit {0}) StoreError → Control

@@ -1,6 +1,7 @@
 -- Measures: how many steps of a batch may still come, by how many entries it may still pass. What it owns counts too, since each cell may be given back by itself; so a step
 -- that may take one counts twice.
 use Rattle.std.specs.Prelude.{ℕ, ◌+◌, ◌-◌, ◌*◌, ◌==◌, if◌then◌else◌, length}
+use Rattle.nv_plain.specs.Layouts.{mount_layout}
 use Rattle.nv_core.specs.state.Words.{Sizes}
 use Rattle.nv_core.specs.state.Cleaner.{Batch, CleanerControl}
 use Rattle.nv_core.specs.state.Cleaner as cleaner
@@ -9,12 +10,9 @@ use Rattle.nv_clean.specs.declared.batch.CleanControl.{CleanControl}
 use Rattle.nv_clean.specs.declared.batch.CleanControl.TheVariants as cleans
 use Rattle.nv_clean.specs.Cleaning.{CleanState, control_at}
 
--- an entry counts so much at most, and a group has so many
+-- an entry counts so much at most
 abbrev pub entry_steps : ℕ
 entry_steps = 16
-
-abbrev pub group_limit : ℕ
-group_limit = 16
 
 -- what is given back in the end, of a mount with so many files
 abbrev pub ending_measure : Sizes → ℕ
@@ -30,7 +28,7 @@ later_measure sizes batch passed = entry_steps * ((batch.tail + batch.most) - (b
 
 -- the first group may be larger than the batch
 abbrev pub first_measure : Batch → ℕ
-first_measure batch = if batch.reached == batch.tail then entry_steps * group_limit else 0
+first_measure batch = if batch.reached == batch.tail then entry_steps * mount_layout.group_limit else 0
 
 -- before ENTRY of the leader of the next group, or of a follower, whose leader says how many there are
 abbrev pub load_measure : Sizes → Batch → (i : ℕ) → ℕ
@@ -43,7 +41,7 @@ group_measure sizes batch steps = 1 + steps + later_measure sizes batch (length 
 
 -- before the first group
 abbrev pub most_measure : Sizes → (most : ℕ) → ℕ
-most_measure sizes most = entry_steps * (most + group_limit) + ending_measure sizes
+most_measure sizes most = entry_steps * (most + mount_layout.group_limit) + ending_measure sizes
 
 -- by where it stands
 abbrev pub inner_measure : Sizes → Batch → CleanerControl → ℕ

@@ -1,5 +1,6 @@
 -- Owned cells: which cell of the core each is, and what is read off those that a cleaner owns.
-use Rattle.std.specs.Prelude.{◌≡◌, ℕ, Bool, true, false, List, [], ◌∷◌, Option, Some, None}
+use Rattle.std.specs.Prelude.{◌≡◌, ℕ, ◌+◌, ◌*◌, Bool, true, false, List, [], ◌∷◌, Option, Some, None}
+use Rattle.nv_plain.specs.Layouts.{mount_layout}
 use Rattle.nv_core.specs.state.Words.{Word, CLEANER, HEADER, STORE, CLEANUP, ENTRY}
 use Rattle.nv_core.specs.state.Cleaner.{CleanerOp as CoreCleanerOp, TakeCleaner as TakeCleanerOp}
 use Rattle.nv_core.specs.state.Cleaner as cleaner
@@ -9,6 +10,10 @@ use Rattle.nv_op.specs.declared.cleaner_op.CleanerOp.{CleanerOp}
 use Rattle.nv_op.specs.declared.cleaner_op.CleanerOp.TheVariants.{Take, Give}
 use Rattle.nv_clean.specs.declared.owned.Cell.{Cell}
 use Rattle.nv_clean.specs.declared.owned.Cell.TheVariants.{Cleaner, Header, Store, Cleanup, Entry}
+
+-- how many a cleaner may own: CLEANER and HEADER, STORE of each file, and CLEANUP and the entry of each page of a group
+abbrev pub most_cells : ℕ
+most_cells = 2 + mount_layout.file_limit + 2 * mount_layout.group_limit
 
 abbrev pub core_cell : Cell → Word
 core_cell Cleaner = CLEANER

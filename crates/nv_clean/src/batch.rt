@@ -7,15 +7,16 @@ ghost use Rattle.nv_clean.specs.Cleaning.{files_from};
 
 use crate::OwnedCells;
 use arrayvec::ArrayVec;
+use nv_plain::limits;
 use nv_table::Layout;
 use std::marker::Model;
 use thiserror::Error;
 
 /// How many entries a group has at most.
-pub(crate) const GROUP_LIMIT: usize = 16;
+pub(crate) const GROUP_LIMIT: usize = limits::GROUP_LIMIT as usize;
 
 /// How many files a mount has at most.
-pub(crate) const MOST_FILES: usize = 16;
+pub(crate) const MOST_FILES: usize = limits::FILE_LIMIT as usize;
 
 /// Where it stands: what its next step is. The entries of the group at hand are named by their places in it.
 #[derive(Clone, Copy, Debug, PartialEq, Eq)]

@@ -5,15 +5,16 @@ ghost use Rattle.nv_core.specs.steps.Ops.{cleaner_move, moved};
 ghost use Rattle.nv_table.specs.state.Keys.{sizes_of};
 ghost use Rattle.nv_op.specs.CleanerOps.{core_cleaner_op};
 ghost use Rattle.nv_op.specs.Words.{core_word};
-ghost use Rattle.nv_clean.specs.OwnedCells.{IsCell, IsFirstCell, MovesCells, TakesCell, core_cell, is_none};
+ghost use Rattle.nv_clean.specs.OwnedCells.{IsCell, IsFirstCell, MovesCells, TakesCell, core_cell, is_none, most_cells};
 
 use arrayvec::ArrayVec;
 use nv_op::{CleanerOp, Word};
+use nv_plain::limits::{FILE_LIMIT, GROUP_LIMIT};
 use nv_table::Layout;
 use std::marker::Model;
 
 /// How many a cleaner may own: CLEANER and HEADER, STORE of each file, and CLEANUP and the entry of each page of a group.
-pub const MOST_CELLS: usize = 50;
+pub const MOST_CELLS: usize = 2 + FILE_LIMIT as usize + 2 * GROUP_LIMIT as usize;
 
 /// A cell that a cleaner may own.
 #[derive(Clone, Copy, Debug, PartialEq, Eq)]
@@ -117,7 +118,7 @@ impl OwnedCells {
 
     /// One more is taken.
     pub fn take(&mut self, cell: Cell)
-        requires { length self.old < 50 }
+        requires { length self.old < most_cells }
         ensures { self.new ≡ core_cell cell ∷ self.old }
     {
         self.cells.insert(0, cell);
@@ -136,7 +137,7 @@ impl OwnedCells {
     /// What it is after a step that found this: a cell comes, or goes back.
     pub fn follow(&mut self, layout: Layout, op: CleanerOp, found: u64)
         requires cells { MovesCells op }
-        requires room { TakesCell (core_cleaner_op op) found → length self.old < 50 }
+        requires room { TakesCell (core_cleaner_op op) found → length self.old < most_cells }
         ensures { self.new ≡ moved (cleaner_move (sizes_of layout) (core_cleaner_op op) found) self.old }
     {
         match op {

@@ -14,13 +14,8 @@ ghost use Rattle.nv_entry.specs.Checks.{IsGood, GroupEndsAt, SaysBounds, SaysOfG
 use crate::group::load;
 use crate::piece::read_head;
 use crate::{Bounds, PieceHead};
+use nv_plain::limits::{GROUP_LIMIT, PAGE_LIMIT};
 use nv_pmem::{Lines, RegionFault};
-
-/// Most entries of a group.
-const GROUP_LIMIT: u64 = 16;
-
-/// Most pages of a file.
-const PAGE_LIMIT: u64 = 1024;
 
 /// No entry of a group has this number or a greater one.
 const NUMBER_LIMIT: u64 = 1 << 60;

@@ -10,8 +10,9 @@ ghost use Rattle.nv_header.specs.Changes.{AreChangedBy, parts_after_adding};
 ghost use Rattle.nv_header.specs.HeaderSteps.{name_record, add_file_steps};
 ghost use Rattle.nv_header.specs.Regions.{HasParts, IsRoomy, StaysRoomy};
 
-use crate::head::{FILE_LIMIT, NAME_LIMIT, NAME_LINE};
+use crate::head::NAME_LINE;
 use crate::{Names, Region};
+use nv_plain::limits::{FILE_LIMIT, NAME_LIMIT};
 use nv_plain::{Bytes, NoMemory, is_file_name};
 use nv_pmem::{Lines, RegionFault, store_durably};
 use std::alloc::Global;

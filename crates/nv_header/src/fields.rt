@@ -8,7 +8,8 @@ ghost use Rattle.nv_header.specs.Fields.{fields_in, header_in};
 ghost use Rattle.nv_header.specs.Heads.{HasFields};
 ghost use Rattle.nv_header.specs.Refusals.{IsBadField, IsNotTruncated};
 
-use crate::head::{FILE_LIMIT, HeadError, HeadField, MAGIC, TAIL_LIMIT, VERSION};
+use crate::head::{HeadError, HeadField, MAGIC, TAIL_LIMIT, VERSION};
+use nv_plain::limits::FILE_LIMIT;
 use nv_pmem::{Geometry, LineFault, Lines, RegionFault};
 
 /// The fields of a header as they read.

@@ -5,17 +5,8 @@ use nv_pmem::{BadGeometry, Geometry, GeometryField, RegionFault};
 use std::alloc::{AllocError, AllocFailed};
 use thiserror::Error;
 
-/// Lines of the header's part.
-pub(crate) const HEADER_LINES: u64 = 18;
-
 /// The line of the first name's record. Each record is one line.
 pub(crate) const NAME_LINE: u64 = 2;
-
-/// Most bytes of a name.
-pub(crate) const NAME_LIMIT: u64 = 56;
-
-/// Most files of a region.
-pub(crate) const FILE_LIMIT: u64 = 16;
 
 /// The greatest tail.
 pub(crate) const TAIL_LIMIT: u64 = 1 << 60;

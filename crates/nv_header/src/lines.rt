@@ -4,7 +4,8 @@ ghost use Rattle.nv_pmem.specs.Limits.{entry_lines as needed};
 ghost use Rattle.nv_plain.specs.Layouts.{version_1};
 ghost use Rattle.nv_header.specs.Needs.{HasLines, lines_wanted, lines_found};
 
-use crate::head::{HEADER_LINES, Head};
+use crate::head::Head;
+use nv_plain::limits::HEADER_LINES;
 use nv_pmem::{Geometry, Lines};
 use thiserror::Error;
 

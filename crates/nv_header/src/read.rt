@@ -13,10 +13,11 @@ ghost use Rattle.nv_header.specs.NextName.{IsNextName, AreNames, IsNameRefusal};
 ghost use Rattle.nv_header.specs.Refusals.{IsRefused, IsNotTruncated, HeadHasCause};
 
 use crate::fields::Fields;
-use crate::head::{HEADER_LINES, Head, HeadError};
+use crate::head::{Head, HeadError};
 use crate::names::Names;
 use crate::record::Record;
 use nv_plain::Bytes;
+use nv_plain::limits::HEADER_LINES;
 use nv_pmem::{Lines, RegionFault};
 use std::alloc::Global;
 

@@ -7,15 +7,16 @@ ghost use Rattle.nv_pmem.specs.Moments.{Tells};
 ghost use Rattle.nv_pmem.specs.Room.{Keeps};
 ghost use Rattle.nv_header.specs.Heads.{header_image, length_of, room_of_name, is_record};
 
-use crate::head::{NAME_LIMIT, NAME_LINE};
+use crate::head::NAME_LINE;
 use nv_plain::is_file_name;
+use nv_plain::limits::NAME_LIMIT;
 use nv_pmem::{Lines, RegionFault};
 
 /// A name's record: its length, and the bytes that have room for it.
 #[derive(Clone, Copy)]
 pub(crate) struct Record {
     length: u64,
-    room: [u8; 56],
+    room: [u8; NAME_LIMIT as usize],
 }
 
 impl Record {
@@ -33,7 +34,7 @@ impl Record {
         ensures device { L.device part.new ≡ L.device part.old }
     {
         let length = part.load(NAME_LINE + i, 0)?;
-        let mut room = [0; 56];
+        let mut room = [0; NAME_LIMIT as usize];
         for k in 0..7 {
             let value = part.load(NAME_LINE + i, 1 + k as u64)?;
             room[8 * k..8 * k + 8].copy_from_slice(&value.to_le_bytes());

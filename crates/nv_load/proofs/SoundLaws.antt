@@ -4,7 +4,7 @@ use Rattle.std.specs.Prelude.{All, codes}
 use Rattle.std.proofs.lemmas.Bool.{true≢false}
 use Rattle.std.proofs.lemmas.List.{length-replicate}
 use Rattle.nv_core.specs.state.Passes.{IsOneOf}
-use Rattle.nv_plain.specs.Layouts.{version_1}
+use Rattle.nv_plain.specs.Layouts.{mount_layout}
 use Rattle.nv_plain.specs.Names.{is_name}
 use Rattle.nv_trace.specs.Grammar.{last_thread}
 use Rattle.nv_trace.specs.Shape.{IsCallWithin, IsTokenWithin, IsWellFormed}
@@ -41,7 +41,7 @@ formed : (calls : List TracedCall) (rounds : ℕ) → All (λ (c : TracedCall). 
     → AreInRoundOrder calls → IsWellFormed (record declared { calls = calls; rounds = rounds })
 formed calls rounds within threads low order = record {
   names = omega arith;
-  allowed = of_each (λ (name : List ℕ). is_name version_1.name_limit name ≡ true) (codes "g" ∷ []) (λ name there. elim there [ inl is ↦ subst (λ (name : List ℕ). is_name version_1.name_limit name ≡ true) (sym is) refl | inr none ↦ absurd none ]);
+  allowed = of_each (λ (name : List ℕ). is_name mount_layout.name_limit name ≡ true) (codes "g" ∷ []) (λ name there. elim there [ inl is ↦ subst (λ (name : List ℕ). is_name mount_layout.name_limit name ≡ true) (sym is) refl | inr none ↦ absurd none ]);
   distinct = λ i j less inside. absurd (omega (arith, less, inside));
   descriptors = omega arith;
   files = of_each (λ (d : Descriptor). d.file < 1) declared.descriptors (λ d there. elim there [ inl is ↦ (let file = ap (λ (d : Descriptor). d.file) is in omega (arith, file)) | inr none ↦ absurd none ]);

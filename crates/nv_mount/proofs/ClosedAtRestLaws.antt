@@ -8,7 +8,7 @@ use Rattle.std.proofs.lemmas.List.{get_or_default, get_or-take, length-map, leng
 use Rattle.std.proofs.lemmas.Nat.{mod_below}
 use Rattle.nv_plain.specs.Files.{Files}
 use Rattle.nv_plain.specs.Images.{Image}
-use Rattle.nv_plain.specs.Layouts.{version_1}
+use Rattle.nv_plain.specs.Layouts.{mount_layout}
 use Rattle.nv_plain.specs.Recovered.{committed}
 use Rattle.nv_pmem.specs.Images.{IsPartImage, IsQuietPart}
 use Rattle.nv_pmem.specs.Moments.{Tells}
@@ -208,11 +208,11 @@ module _ {L B : Type 0} (device : L → ℕ) (history : L → PartHistory) (faul
         | inr next ↦ next ∙ in_stores.tail ∙ tail_least
       ]
 
-      empty_at : InEachRowImage (HasEmptyLog version_1 sizes.page sizes.entries names tail) states
+      empty_at : InEachRowImage (HasEmptyLog mount_layout sizes.page sizes.entries names tail) states
       empty_at image is =
           let reads = last.region.header image (image_at image is) in
           record {
-            header = subst (λ t. ReadsAs version_1 sizes.page sizes.entries names t image) (tail_at image is) reads;
+            header = subst (λ t. ReadsAs mount_layout sizes.page sizes.entries names t image) (tail_at image is) reads;
             log = record {
               uncommitted = λ number low.
                   let slot = slot_of_entry sizes number in
@@ -227,7 +227,7 @@ module _ {L B : Type 0} (device : L → ℕ) (history : L → PartHistory) (faul
     at_rest = record {
       have = have_files files log opens emptied.owned emptied.taken emptied.none;
       durable = durable;
-      region = row_tells_from row (IsAtRest version_1 sizes.page sizes.entries names tail) (λ states are. record { quiet = record { each = quiet_at states are }; empty = empty_at states are });
+      region = row_tells_from row (IsAtRest mount_layout sizes.page sizes.entries names tail) (λ states are. record { quiet = record { each = quiet_at states are }; empty = empty_at states are });
       none = row_tells_from row (InEachRowImage (λ image. committed image ≡ [])) (λ states are image is. in_stores.committed image (image_at states are image is));
     }
 

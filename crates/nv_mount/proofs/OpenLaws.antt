@@ -6,7 +6,7 @@ use Rattle.std.proofs.lemmas.Bool.{cases_lt}
 use Rattle.std.proofs.lemmas.List.{get_or-map, length-map}
 use Rattle.std.proofs.lemmas.Slice.Zip.{AllZip-long}
 use Rattle.nv_plain.specs.Files.{Files, contents_of}
-use Rattle.nv_plain.specs.Layouts.{version_1}
+use Rattle.nv_plain.specs.Layouts.{mount_layout}
 use Rattle.nv_pmem.specs.Moments.{Tells}
 use Rattle.nv_pmem.specs.Part.{Part}
 use Rattle.nv_pmem.specs.Room.{Room}
@@ -166,7 +166,7 @@ module _ {L B : Type 0} (device : L → ℕ) (history : L → PartHistory) (faul
 
   -- The log of its region is empty, and the mount opens it.
   module _ (names : List (List ℕ)) (names_many : length names ≡ sizes.files) (few_pages : sizes.pages ≤ 1024)
-      (region : IsRegion version_1 sizes.page sizes.entries names next (map room parts) (map history parts))
+      (region : IsRegion mount_layout sizes.page sizes.entries names next (map room parts) (map history parts))
       (told_lines : (one : L) (now : Part) (past : PartHistory) → history one ≡ now ∷ past → length now ≡ (room one).lines)
       (each : EachPartHasOne) (states : List Part) (now : AreNow (map history parts) states) where
     part_at : (i : ℕ) → i ≤ opened.sizes.entries → IsPart (get_or opened.slots i Bare) (get_or states i [])
@@ -178,11 +178,11 @@ module _ {L B : Type 0} (device : L → ℕ) (history : L → PartHistory) (faul
         let told : present (history one.0) ≡ Some (get_or states i []) = sym (ap present (one.2 [])) ∙ ap present state.is in
         subst (λ value. IsPart value (get_or states i [])) (sym one.1) told
 
-    lines : (i : ℕ) → i ≤ opened.sizes.entries → part_lines version_1 opened.sizes.page i ≤ length (get_or states i [])
+    lines : (i : ℕ) → i ≤ opened.sizes.entries → part_lines mount_layout opened.sizes.page i ≤ length (get_or states i [])
     lines i least =
-        let has = row_tells_at (map history parts) (HaveLines version_1 sizes.page sizes.entries) states now
-        (told_room history room version_1 sizes.page sizes.entries parts told_lines region.parts) in
-        let same = ap (λ (s : Sizes). part_lines version_1 s.page i) is.begun.sizes_are in
+        let has = row_tells_at (map history parts) (HaveLines mount_layout sizes.page sizes.entries) states now
+        (told_room history room mount_layout sizes.page sizes.entries parts told_lines region.parts) in
+        let same = ap (λ (s : Sizes). part_lines mount_layout s.page i) is.begun.sizes_are in
         let entries = ap (λ (s : Sizes). s.entries) is.begun.sizes_are in
         let long = has.has i (omega (arith, entries, least)) in
         omega (arith, same, long)
@@ -195,15 +195,15 @@ module _ {L B : Type 0} (device : L → ℕ) (history : L → PartHistory) (faul
       lines = λ slot less.
           let one : 1 + slot ≡ suc slot = omega arith in
           let long = lines (1 + slot) (omega (arith, less)) in
-          let same = ap (part_lines version_1 opened.sizes.page) one in
+          let same = ap (part_lines mount_layout opened.sizes.page) one in
           omega (arith, same, long);
     }
 
-    at_rest : IsAtRest version_1 opened.sizes.page opened.sizes.entries names opened.next states
+    at_rest : IsAtRest mount_layout opened.sizes.page opened.sizes.entries names opened.next states
     at_rest =
-        subst (λ (s : Sizes). IsAtRest version_1 s.page s.entries names opened.next states) (sym is.begun.sizes_are)
-        (subst (λ n. IsAtRest version_1 sizes.page sizes.entries names n states) (sym is.begun.next_is)
-        (row_tells_at (map history parts) (IsAtRest version_1 sizes.page sizes.entries names next) states now region.tells))
+        subst (λ (s : Sizes). IsAtRest mount_layout s.page s.entries names opened.next states) (sym is.begun.sizes_are)
+        (subst (λ n. IsAtRest mount_layout sizes.page sizes.entries names n states) (sym is.begun.next_is)
+        (row_tells_at (map history parts) (IsAtRest mount_layout sizes.page sizes.entries names next) states now region.tells))
 
     pub opens_log : RegionsAtRestOpen → All (λ one. Tells (store_history one) IsQuietStore) stores → OpensLog (mount_of opened) next
     opens_log opens quiet =

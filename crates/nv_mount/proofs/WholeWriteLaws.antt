@@ -9,7 +9,7 @@ use Rattle.std.proofs.lemmas.List.Sums.{sum_by-append}
 use Rattle.nv_core.specs.steps.Order.{Values}
 use Rattle.nv_plain.specs.Files.{Files}
 use Rattle.nv_plain.specs.Images.{Entry, Image, entry_at, entry_of, header_of}
-use Rattle.nv_plain.specs.Layouts.{version_1}
+use Rattle.nv_plain.specs.Layouts.{mount_layout}
 use Rattle.nv_plain.specs.Recovered.{recovered}
 use Rattle.nv_plain.specs.declared.call.FileCall.{FileCall}
 use Rattle.nv_plain.specs.declared.call.FileCall.TheVariants.{Read, Write, Sync}
@@ -544,7 +544,7 @@ module _ (sound : RunsAreSound) (tell : OwnEventsTell) (in_images : GroupsAreInI
 
   -- ---- the groups that recovery finds
 
-  reads : ReadsAs version_1 sizes.page sizes.entries names (image 0 1 0) image
+  reads : ReadsAs mount_layout sizes.page sizes.entries names (image 0 1 0) image
   reads = last.region.header image is
 
   -- each is that of a number of the window, and whole

@@ -1,7 +1,7 @@
 -- Closed at rest: what comes out of a mount that is closed where its log is empty.
 use Rattle.std.specs.Prelude.{◌≡◌, ℕ, ◌+◌, List, [], take, All}
 use Rattle.nv_plain.specs.Files.{Files}
-use Rattle.nv_plain.specs.Layouts.{version_1}
+use Rattle.nv_plain.specs.Layouts.{mount_layout}
 use Rattle.nv_plain.specs.Recovered.{committed}
 use Rattle.nv_pmem.specs.Moments.{Tells}
 use Rattle.nv_pmem.specs.Rows.{RowTells, InEachRowImage}
@@ -34,7 +34,7 @@ pub record HasEmptiedLog (view : PassView) : Type 0 where
 pub record AreAtRest (sizes : Sizes) (names : List (List ℕ)) (files : Files) (parts : List PartHistory) (stores : List StoreHistory) (next : ℕ) : Type 0 where
   pub have : StoresHave stores files
   pub durable : All (λ history. Tells history IsQuietStore) stores
-  pub region : RowTells (take (1 + sizes.entries) parts) (IsAtRest version_1 sizes.page sizes.entries names next)
+  pub region : RowTells (take (1 + sizes.entries) parts) (IsAtRest mount_layout sizes.page sizes.entries names next)
   pub none : RowTells (take (1 + sizes.entries) parts) (InEachRowImage (λ image. committed image ≡ []))
 
 -- the files after the history as a pass saw it last

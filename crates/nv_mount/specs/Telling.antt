@@ -2,7 +2,7 @@
 use Rattle.std.specs.Prelude.{◌≡◌, ℕ, ◌<◌, ◌≤◌, true, List, [], ◌∷◌, length, slice_index_or, is_some}
 use Rattle.std.specs.List.{All, AllZip}
 use Rattle.nv_plain.specs.Files.{Files}
-use Rattle.nv_plain.specs.Layouts.{version_1}
+use Rattle.nv_plain.specs.Layouts.{mount_layout}
 use Rattle.nv_pmem.specs.Part.{Part}
 use Rattle.nv_pmem.specs.RowStates.{IsNow}
 use Rattle.nv_pmem.specs.Steps.{PartHistory}
@@ -48,10 +48,10 @@ DevicesGoOnTelling pass parts stores =
 -- The parts of a mount's header and entries that tell have the lines of the layout.
 abbrev pub HasLongParts : Mount → Type 0
 HasLongParts mount =
-    (slot : ℕ) (part : Part) → slot ≤ mount.sizes.entries → IsPart (mount.values (cell_of mount.sizes slot)) part → part_lines version_1 mount.sizes.page slot ≤ length part
+    (slot : ℕ) (part : Part) → slot ≤ mount.sizes.entries → IsPart (mount.values (cell_of mount.sizes slot)) part → part_lines mount_layout mount.sizes.page slot ≤ length part
 
 -- Where they have, those that come out have.
 abbrev pub KeepLines : PassView → (parts : List PartHistory) → Type 0
 KeepLines view parts =
     HasLongParts (mount_of view.opened)
-    → (slot : ℕ) (now : Part) → slot ≤ view.opened.sizes.entries → IsNow (slice_index_or parts slot []) now → part_lines version_1 view.opened.sizes.page slot ≤ length now
+    → (slot : ℕ) (now : Part) → slot ≤ view.opened.sizes.entries → IsNow (slice_index_or parts slot []) now → part_lines mount_layout view.opened.sizes.page slot ≤ length now

@@ -3,7 +3,7 @@ use Rattle.std.specs.Prelude.{◌≡◌, ℕ, ◌≤◌, ◌==◌, ◌&&◌, ◌
 use Rattle.std.specs.List.{flat_map, list_any}
 use Rattle.nv_plain.specs.Files.{Files}
 use Rattle.nv_plain.specs.Images.{Image}
-use Rattle.nv_plain.specs.Layouts.{version_1}
+use Rattle.nv_plain.specs.Layouts.{mount_layout}
 use Rattle.nv_plain.specs.Recovered.{Fits, recovered}
 use Rattle.nv_plain.specs.declared.call.FileCall.{FileCall}
 use Rattle.nv_pmem.specs.Rows.{RowTells, InEachRowImage}
@@ -79,8 +79,8 @@ pub record IsGroupOfRun (view : PassView) (image : Image) (leader : ℕ) : Type 
 -- where neither pass 0 nor one that it took in holds a cell, these are writes that faults ended. None of the latter has its first number below the
 -- first one that recovery finds. Each group that recovery finds was drawn in the run by a write that it has whole; that of a write in flight is its own.
 pub record LeavesWholeWrites (view : PassView) (files : Files) (names : List (List ℕ)) (image : Image) (bytes : Files) : Type 0 where
-  pub header : ReadsAs version_1 view.opened.sizes.page view.opened.sizes.entries names (recovered image bytes).first image
-  pub fits : Fits version_1 image
+  pub header : ReadsAs mount_layout view.opened.sizes.page view.opened.sizes.entries names (recovered image bytes).first image
+  pub fits : Fits mount_layout image
   pub flights : RecoversTo (files_then view files) (flights_then view) image bytes
   pub faults : (pass_of view).owned ≡ [] → TakenHoldNothing view → RecoversTo (files_then view files) (faults_then view) image bytes
   pub groups : (leader : ℕ) → IsOneOf (recovered image bytes).groups leader → IsGroupOfRun view image leader

@@ -29,11 +29,12 @@ use crate::stores::open_stores;
 use crate::{OpenError, Opened, Refusal};
 use nv_bench::Bench;
 use nv_header::{Names, Region};
+use nv_plain::limits;
 use nv_pmem::{Geometry, images_follow_calls, rows_have_states};
 use std::alloc::Global;
 
 /// The most files of a region.
-const FILE_LIMIT: usize = 16;
+const FILE_LIMIT: usize = limits::FILE_LIMIT as usize;
 
 /// Opens the region of a bench, with the stores of its files. A blank one is formatted with this geometry, and any other one is
 /// recovered, and keeps its own. Then each name that is wanted and isn't there is added.

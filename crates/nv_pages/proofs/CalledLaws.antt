@@ -3,7 +3,7 @@ use Rattle.std.proofs.Common.{◌≡◌, ◌⊎◌, ℕ, ◌≤◌, false, true,
 use Rattle.std.specs.Prelude.{Some, option_map, Result, Ok, Err, OnOk, OnErr}
 use Rattle.std.specs.Result.{IsErr}
 use Rattle.nv_plain.specs.Faults.{HasCause}
-use Rattle.nv_plain.specs.Layouts.{version_1}
+use Rattle.nv_plain.specs.Layouts.{mount_layout}
 use Rattle.nv_pmem.specs.Calls.{Seen, EndedWell, EndedBadly, OneFailed, PartCalls, seen_of}
 use Rattle.nv_pmem.specs.Part.{Part}
 use Rattle.nv_pmem.specs.Room.{Room}
@@ -103,7 +103,7 @@ err_calls steps was now (Err fault) is failed = record { well = tt; failed = fai
 module _ {L : Type 0} (device : L → ℕ) (history : L → List Part) (faults : L → ℕ) (room : L → Room) where
   -- its line of the tail can take one more content
   pub tail_spare : (header : L) → KeepsRoomy (part_value device history faults room header) → 1 ≤ (room header).spare 1
-  tail_spare header roomy = let is : IsRoomy version_1.header_lines (room header) = (spares_tell (room header)).was_roomy version_1.header_lines roomy in let spare = is.spare 1 (omega arith) in omega (arith, spare)
+  tail_spare header roomy = let is : IsRoomy mount_layout.header_lines (room header) = (spares_tell (room header)).was_roomy mount_layout.header_lines roomy in let spare = is.spare 1 (omega arith) in omega (arith, spare)
 
   pub tail_moved : (was now : L) → device now ≡ device was → (old mid new : PassState) → Exchanges 0 (part_value device history faults room was) Bare old mid → Exchanges 0 Bare (part_value device history faults room now) mid new
       → (tail : ℕ) (result : Result (Unit {0}) RegionFault) → PartCalls (tail_steps tail) (seen_of history room faults was) (seen_of history room faults now) result → HasMovedTail tail result old new

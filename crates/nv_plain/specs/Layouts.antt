@@ -28,3 +28,7 @@ version_1 = record {
   group_limit = 16;
   page_limit = 1024;
 }
+
+-- the layout of each region that a mount opens over, whatever version it came with
+abbrev pub mount_layout : Layout
+mount_layout = version_1

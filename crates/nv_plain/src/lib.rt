@@ -4,6 +4,7 @@
 mod bytes;
 mod call;
 mod laws;
+pub mod limits;
 mod memory;
 mod mode;
 mod name;

@@ -5,7 +5,7 @@ use Rattle.std.proofs.lemmas.Bool.{lt-ltb, eqb-true, eqb-false}
 use Rattle.std.proofs.lemmas.Bool.Decides.{eqb_tells}
 use Rattle.std.proofs.Math.Nat.{min-le_right}
 use Rattle.nv_plain.specs.Histories.{Answered}
-use Rattle.nv_plain.specs.Layouts.{version_1}
+use Rattle.nv_plain.specs.Layouts.{mount_layout}
 use Rattle.nv_core.specs.state.Passes.{Pass, Control, Idle, SeizeEntry, CommitGroup, ReadyEntry, TakePlace, GrowLength, GiveSize, GivePage, GiveBack, BreakEntry, without, page_count, first_page, is_write, file_of, at_of, len_of}
 use Rattle.nv_core.specs.state.Words.{Sizes, Word, SIZE, ENTRY}
 use Rattle.nv_core.specs.steps.ControlSteps.{leaving}
@@ -154,7 +154,7 @@ module _ (sizes : Sizes) (m : AppendMachine) (fits : Fits sizes m) where
   some_pages = subst (λ n. 0 < n) (sym fits.pages) (some_touched m.at (length m.bytes.now) sizes.page fits.some)
 
   few_pages : m.pages ≤ sizes.entries
-  few_pages = let p = fits.pages in let s = fits.allowed.short in let r = min-le_right version_1.group_limit sizes.entries in omega (arith, p, s, r)
+  few_pages = let p = fits.pages in let s = fits.allowed.short in let r = min-le_right mount_layout.group_limit sizes.entries in omega (arith, p, s, r)
 
   pub leaves_locks : leaving (locks m) ≡ GiveBack
   leaves_locks = leaves_so m.sized m.file m.page m.pages some_pages

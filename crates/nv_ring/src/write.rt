@@ -1,6 +1,6 @@
 //! A write of a file as a whole: one without a page, or its front, its draw, its append, and what it gives back, one after another.
 ghost use Rattle.std.specs.Prelude.{◌≡◌, ◌≤◌, ◌<◌, [], min, vec_capacity};
-ghost use Rattle.nv_plain.specs.Layouts.{version_1};
+ghost use Rattle.nv_plain.specs.Layouts.{mount_layout};
 ghost use Rattle.nv_plain.specs.declared.call.FileCall.{FileCall};
 ghost use Rattle.nv_core.specs.state.Passes.{IsAllowed};
 ghost use Rattle.nv_op.specs.Ops.{call_asked};
@@ -98,7 +98,7 @@ impl<'a> RunningWrite<'a> {
         requires board { IsOf board.now pass.old }
         requires open { IsOpen self.old }
         requires bare { parts.old.items ≡ [] }
-        requires places { min version_1.group_limit board.now.opened.sizes.entries ≤ vec_capacity parts.old }
+        requires places { min mount_layout.group_limit board.now.opened.sizes.entries ≤ vec_capacity parts.old }
         requires way { (call : FileCall) × (start : PassState) × IsUnderWay call self.old start pass.old }
         ensures board { IsOf board.now pass.new }
         ensures one { HasMadeOne self.old self.new pass.old pass.new }
@@ -128,7 +128,7 @@ impl<'a> RunningWrite<'a> {
         requires board { IsOf board.now pass.old }
         requires open { IsOpen self.old }
         requires bare { parts.old.items ≡ [] }
-        requires places { min version_1.group_limit board.now.opened.sizes.entries ≤ vec_capacity parts.old }
+        requires places { min mount_layout.group_limit board.now.opened.sizes.entries ≤ vec_capacity parts.old }
         requires way { (call : FileCall) × (start : PassState) × IsUnderWay call self.old start pass.old }
         ensures board { IsOf board.now pass.new }
         ensures settled { IsSettled self.new }

@@ -4,7 +4,7 @@ use Rattle.std.specs.Prelude.{Bool, nat_lt, min, Option, Some, None, option_map,
 use Rattle.std.specs.List.{slice_get}
 use Rattle.std.proofs.lemmas.List.{length-map}
 use Rattle.std.proofs.lemmas.Option.{none-some, slice_get-get_or, slice_get-map}
-use Rattle.nv_plain.specs.Layouts.{version_1}
+use Rattle.nv_plain.specs.Layouts.{mount_layout}
 use Rattle.nv_plain.specs.Modes.{can_read, can_write}
 use Rattle.nv_plain.specs.Pieces.{pages_touched}
 use Rattle.nv_plain.specs.declared.mode.Mode.{Mode}
@@ -57,12 +57,12 @@ allow_cond false early bar same = refl
 
 -- a range is barred alike
 range_bar : (sizes : RunSizes) (core : Sizes) (at len : ℕ) → sizes.page ≡ core.page → sizes.entries ≡ core.entries → sizes.pages ≡ core.pages
-    → shown_bar (early_range_refusal core at len) ≡ barred_by sizes (min version_1.group_limit sizes.entries) at len
+    → shown_bar (early_range_refusal core at len) ≡ barred_by sizes (min mount_layout.group_limit sizes.entries) at len
 range_bar sizes core at len page entries pages =
-    bar_cond (nat_lt (core.page * core.pages) (at + len)) (nat_lt (min version_1.group_limit core.entries) (pages_touched at len core.page))
-    ∙ ap (λ p. barred_by (record { page = p; entries = core.entries; pages = core.pages }) (min version_1.group_limit core.entries) at len) (sym page)
-    ∙ ap (λ e. barred_by (record { page = sizes.page; entries = e; pages = core.pages }) (min version_1.group_limit e) at len) (sym entries)
-    ∙ ap (λ p. barred_by (record { page = sizes.page; entries = sizes.entries; pages = p }) (min version_1.group_limit sizes.entries) at len) (sym pages)
+    bar_cond (nat_lt (core.page * core.pages) (at + len)) (nat_lt (min mount_layout.group_limit core.entries) (pages_touched at len core.page))
+    ∙ ap (λ p. barred_by (record { page = p; entries = core.entries; pages = core.pages }) (min mount_layout.group_limit core.entries) at len) (sym page)
+    ∙ ap (λ e. barred_by (record { page = sizes.page; entries = e; pages = core.pages }) (min mount_layout.group_limit e) at len) (sym entries)
+    ∙ ap (λ p. barred_by (record { page = sizes.page; entries = sizes.entries; pages = p }) (min mount_layout.group_limit sizes.entries) at len) (sym pages)
 
 -- a descriptor of the mount is the one of the trace
 there : (descriptors : List Descriptor) (fd : ℕ) → fd < length descriptors → slice_get (map as_fd descriptors) fd ≡ Some (as_fd (descriptor_at descriptors fd))
@@ -77,17 +77,17 @@ module _ (basis : Basis) (trace : Traced) (opened : Opened) (fds : List Fd) (is 
   fd_there fd within =
       ap (λ (l : List Fd). slice_get l fd) is.fds_are ∙ there descriptors fd (omega (arith, within, length-map trace.descriptors (placed_in basis.names trace)))
 
-  range_alike : (at len : ℕ) → shown_bar (early_range_refusal opened.sizes at len) ≡ barred_by basis.sizes (min version_1.group_limit basis.sizes.entries) at len
+  range_alike : (at len : ℕ) → shown_bar (early_range_refusal opened.sizes at len) ≡ barred_by basis.sizes (min mount_layout.group_limit basis.sizes.entries) at len
   range_alike at len = range_bar basis.sizes opened.sizes at len is.page is.entries is.pages
 
   -- what bars a call bars it in the report
   pub bar_is : (call : TraceCall) → IsCallWithin (length trace.descriptors) call → shown_bar (early_of_call opened.sizes fds call) ≡ barred basis.sizes descriptors call
   bar_is (Pread fd at len) within =
       ap (λ (o : Option Fd). shown_bar (early_fd_refusal can_read opened.sizes o at len)) (fd_there fd within.0)
-      ∙ allow_cond (can_read (descriptor_at descriptors fd).mode) (early_range_refusal opened.sizes at len) (barred_by basis.sizes (min version_1.group_limit basis.sizes.entries) at len) (range_alike at len)
+      ∙ allow_cond (can_read (descriptor_at descriptors fd).mode) (early_range_refusal opened.sizes at len) (barred_by basis.sizes (min mount_layout.group_limit basis.sizes.entries) at len) (range_alike at len)
   bar_is (Pwrite fd at bytes) within =
       ap (λ (o : Option Fd). shown_bar (early_fd_refusal can_write opened.sizes o at (length bytes))) (fd_there fd within.0)
-      ∙ allow_cond (can_write (descriptor_at descriptors fd).mode) (early_range_refusal opened.sizes at (length bytes)) (barred_by basis.sizes (min version_1.group_limit basis.sizes.entries) at (length bytes))
+      ∙ allow_cond (can_write (descriptor_at descriptors fd).mode) (early_range_refusal opened.sizes at (length bytes)) (barred_by basis.sizes (min mount_layout.group_limit basis.sizes.entries) at (length bytes))
       (range_alike at (length bytes))
   bar_is (Fsync fd) within = ap (λ (o : Option Fd). shown_bar (unless_file (option_map (λ (f : Fd). f.file) o))) (fd_there fd within)
 
@@ -149,7 +149,7 @@ module _ (P : mirror.Refusal → Type 0) (bad : P why.BadFd) (far : P why.TooFar
   fd_such : (may : Mode → Bool) (sizes : Sizes) (fd : Option Fd) (at len : ℕ) → HasSuch (early_fd_refusal may sizes fd at len)
   fd_such may sizes None at len = bad
   fd_such may sizes (Some one) at len =
-      allowed_such (may one.mode) (early_range_refusal sizes at len) (range_such (nat_lt (sizes.page * sizes.pages) (at + len)) (nat_lt (min version_1.group_limit sizes.entries) (pages_touched at len sizes.page)))
+      allowed_such (may one.mode) (early_range_refusal sizes at len) (range_such (nat_lt (sizes.page * sizes.pages) (at + len)) (nat_lt (min mount_layout.group_limit sizes.entries) (pages_touched at len sizes.page)))
 
   file_such : (file : Option ℕ) → HasSuch (unless_file file)
   file_such None = bad

@@ -6,7 +6,7 @@ use Rattle.std.proofs.lemmas.Bool.{true≢false}
 use Rattle.std.proofs.lemmas.List.{append_assoc}
 use Rattle.std.proofs.lemmas.List.Elements.{All-append}
 use Rattle.nv_plain.specs.Histories.{Answered}
-use Rattle.nv_plain.specs.Layouts.{version_1}
+use Rattle.nv_plain.specs.Layouts.{mount_layout}
 use Rattle.nv_plain.specs.Modes.{can_read, can_write}
 use Rattle.nv_plain.specs.Pieces.{pages_touched}
 use Rattle.nv_plain.specs.declared.call.FileCall.{FileCall}
@@ -76,7 +76,7 @@ unplaced_mine sizes old new same = let is = ap (placed_entries sizes) same.mine 
 
 range_mild : (sizes : Sizes) (at len : ℕ) → is_fault (early_range_refusal sizes at len) ≡ false
 range_mild sizes at len =
-    let long = nat_lt (min version_1.group_limit sizes.entries) (pages_touched at len sizes.page) in
+    let long = nat_lt (min mount_layout.group_limit sizes.entries) (pages_touched at len sizes.page) in
     mild_both (nat_lt (sizes.page * sizes.pages) (at + len)) (Some TooFar) (if long then Some TooLong else None) refl (mild_both long (Some TooLong) None refl refl)
 
 early_mild : (may : Mode → Bool) (sizes : Sizes) (fd : Option Fd) (at len : ℕ) → is_fault (early_fd_refusal may sizes fd at len) ≡ false

@@ -9,7 +9,7 @@ use Rattle.nv_plain.specs.Files.{Files}
 use Rattle.nv_plain.specs.Histories.{Answered, IsLegal, after}
 use Rattle.nv_plain.specs.Modes.{can_read, can_write}
 use Rattle.nv_plain.specs.declared.mode.Mode.TheVariants.{R}
-use Rattle.nv_plain.specs.Layouts.{version_1}
+use Rattle.nv_plain.specs.Layouts.{mount_layout}
 use Rattle.nv_plain.specs.Pieces.{pages_touched}
 use Rattle.nv_trace.specs.declared.trace_call.TraceCall.{TraceCall}
 use Rattle.nv_trace.specs.declared.trace_call.TraceCall.TheVariants.{Pread, Pwrite, Fsync}
@@ -90,8 +90,8 @@ barred_by sizes most at len =
 
 -- why a call is barred by where it reads or writes: it ends too far, or touches more pages than a group may have entries, or than the log has
 abbrev pub barred_there : RunSizes → TraceCall → Option Refusal
-barred_there sizes (Pread fd at len) = barred_by sizes (min version_1.group_limit sizes.entries) at len
-barred_there sizes (Pwrite fd at bytes) = barred_by sizes (min version_1.group_limit sizes.entries) at (length bytes)
+barred_there sizes (Pread fd at len) = barred_by sizes (min mount_layout.group_limit sizes.entries) at len
+barred_there sizes (Pwrite fd at bytes) = barred_by sizes (min mount_layout.group_limit sizes.entries) at (length bytes)
 barred_there sizes (Fsync fd) = None
 
 -- a call's descriptor was opened in a mode that allows the call

@@ -4,7 +4,7 @@ use Rattle.std.specs.List.Sorted.{IsStrictlyIncreasing}
 use Rattle.nv_plain.specs.Files.{Files}
 use Rattle.nv_plain.specs.Histories.{IsLegal, after}
 use Rattle.nv_plain.specs.Images.{Image}
-use Rattle.nv_plain.specs.Layouts.{version_1}
+use Rattle.nv_plain.specs.Layouts.{mount_layout}
 use Rattle.nv_plain.specs.Recovered.{Fits, recovered}
 use Rattle.nv_pmem.specs.Rows.{InEachRowImage, RowTells}
 use Rattle.nv_pmem.specs.Steps.{PartHistory}
@@ -46,9 +46,9 @@ files_behind basis trace history calls =
 
 -- An image recovers to the files after a history and then some other calls of the trace, each whole. No two of all these are of one line, so each call is there once.
 pub record RecoversBehind (basis : Basis) (trace : Traced) (history : List PlacedCall) (image : Image) (bytes : Files) : Type 0 where
-  pub readable : IsHead version_1 version_1.header_lines image
-  pub names_are : first_names version_1 image (header_of image).files ≡ basis.names
-  pub fits : Fits version_1 image
+  pub readable : IsHead mount_layout mount_layout.header_lines image
+  pub names_are : first_names mount_layout image (header_of image).files ≡ basis.names
+  pub fits : Fits mount_layout image
   pub kept : List TracedCall
   pub of_trace : (call : TracedCall) → IsOneOf kept call → IsOneOf trace.calls call
   pub own_lines : HaveOwnLines (map (λ p. p.call) history ++ kept)

@@ -1,7 +1,7 @@
 //! The table of a mount, which threads share by reference.
 ghost use Rattle.std.specs.Prelude.{◌≡◌, ℕ, ◌<◌, ◌≤◌, ◌^◌, [], length, map, vec_capacity, IfOk, IfErr};
 ghost use Rattle.atomic_table.specs.Table.{opening as laid};
-ghost use Rattle.nv_plain.specs.Layouts.{version_1};
+ghost use Rattle.nv_plain.specs.Layouts.{mount_layout};
 ghost use Rattle.nv_header.specs.Regions.{HasParts};
 ghost use Rattle.nv_core.specs.invariant.Shapes.{HaveShapes, IsStore};
 ghost use Rattle.nv_core.specs.state.Words.{STORE};
@@ -138,7 +138,7 @@ fn board_of<L: Lines + Drop, B: Backing + Drop>(
 ) -> Result<(Board<L, B>, Pass<L, B>), Unfilled<L, B>>
     requires limits { MountIsWithinLimits (sizes_of layout) }
     requires next { next ≤ 2 ^ 60 }
-    requires parts { HasParts version_1 layout.page layout.entries (map L.room parts.items) }
+    requires parts { HasParts mount_layout layout.page layout.entries (map L.room parts.items) }
     requires stores { length stores.items ≡ layout.files }
     requires words { AreOpeningWords (sizes_of layout) next memory.lengths.items memory.words.items }
     requires held { memory.held.items ≡ [] }

@@ -7,11 +7,9 @@ ghost use Rattle.nv_table.specs.state.Keys.{sizes_of};
 
 use crate::Layout;
 use nv_plain::NoMemory;
+use nv_plain::limits::GROUP_LIMIT;
 use std::alloc::Global;
 use std::marker::Model;
-
-// How many entries a write may have, at most.
-const GROUP_LIMIT: u64 = 16;
 
 /// What a pass's calls work on: a page, a piece of an entry, and the devices that are out of their slots. The devices that lie on it when
 /// it is dropped are dropped with it.

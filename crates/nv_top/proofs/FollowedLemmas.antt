@@ -11,7 +11,7 @@ use Rattle.std.proofs.lemmas.List.Sorted.{All-permutation, IsPermutation-map, Is
 use Rattle.nv_plain.specs.Files.{Files}
 use Rattle.nv_plain.specs.Histories.{after}
 use Rattle.nv_plain.specs.Images.{Image}
-use Rattle.nv_plain.specs.Layouts.{version_1}
+use Rattle.nv_plain.specs.Layouts.{mount_layout}
 use Rattle.nv_plain.specs.Recovered.{recovered}
 use Rattle.nv_plain.specs.declared.call.FileCall.{FileCall}
 use Rattle.nv_pmem.specs.Rows.{row_words}
@@ -311,7 +311,7 @@ module _ (basis : Basis) (trace : Traced) (mount : MountState) (pass zero : Pass
 
     pub files_are : shown_files ≡ files_shown basis trace report
     files_are =
-        stand_so version_1 version_1.header_lines image bytes left.header.readable ∙ recovered_files ∙ ap (after_open descriptors shown) (sym history_files)
+        stand_so mount_layout mount_layout.header_lines image bytes left.header.readable ∙ recovered_files ∙ ap (after_open descriptors shown) (sym history_files)
 
     shows : ShowsSchedule basis trace sorted (unanswered_calls told) report
     shows =

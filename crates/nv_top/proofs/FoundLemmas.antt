@@ -14,7 +14,7 @@ use Rattle.nv_plain.specs.Calls.{files_after, reply_of}
 use Rattle.nv_plain.specs.Files.{Files, bytes_at, contents_of, overwritten, with_contents}
 use Rattle.nv_plain.specs.Histories.{Answered, IsLegal, after}
 use Rattle.nv_plain.specs.Images.{Image, header_of}
-use Rattle.nv_plain.specs.Layouts.{version_1}
+use Rattle.nv_plain.specs.Layouts.{mount_layout}
 use Rattle.nv_plain.specs.Recovered.{recovered, region_files}
 use Rattle.nv_plain.proofs.HistoryLemmas.{IsLegal-append, after-append, length-after, length-files_after}
 use Rattle.nv_pmem.specs.Part.{Part}
@@ -132,7 +132,7 @@ found_behind home names disks long distinct =
 -- ---- what is found of a region at rest
 
 -- A region at rest behind whose others the stores of its names stand: these hold the files that a next command finds.
-finds_rested : (page entries next : ℕ) (names : List (List ℕ)) (files : Files) (now : Holding) (others : List NamedStore) (disks : List Store) → IsAtRest version_1 page entries names next now.parts
+finds_rested : (page entries next : ℕ) (names : List (List ℕ)) (files : Files) (now : Holding) (others : List NamedStore) (disks : List Store) → IsAtRest mount_layout page entries names next now.parts
     → now.stores ≡ others ++ named_stores names disks → files_of disks ≡ files → length files.contents ≡ length names → HasOwnNames now → FindsFiles names files now
 finds_rested page entries next names files now others disks rest stores_are files_are many own =
     let image = row_words now.parts in

@@ -4,7 +4,7 @@ use Rattle.std.specs.Prelude.{Contains, IfSome, option_map}
 use Rattle.std.proofs.lemmas.List.Elements.{All-nil, All-cons, All-head, All-tail}
 use Rattle.nv_plain.specs.Files.{Files}
 use Rattle.nv_plain.specs.Images.{Image, header_of}
-use Rattle.nv_plain.specs.Layouts.{version_1}
+use Rattle.nv_plain.specs.Layouts.{mount_layout}
 use Rattle.nv_plain.specs.Recovered.{recovered}
 use Rattle.nv_pmem.specs.Laws.{QuietPartHasOneImage}
 use Rattle.nv_pmem.specs.Part.{Part}
@@ -226,7 +226,7 @@ module _ (basis : Basis) (trace : Traced) where
 -- ---- what a recovery leaves that was finished
 
 module _ (stand_so : ReadableStandsForRecovered) (was : Holding) (page entries next : ℕ) (names : List (List ℕ)) (found : recover.Recovered) (now : List Part) (held : List Store)
-    (recovered_so : IsRecovered was.parts page entries names next found) (rest : IsAtRest version_1 page entries names next now) (files_are : files_of held ≡ files_named was.parts names was.stores) (quiet : AreQuietStores held)
+    (recovered_so : IsRecovered was.parts page entries names next found) (rest : IsAtRest mount_layout page entries names next now) (files_are : files_of held ≡ files_named was.parts names was.stores) (quiet : AreQuietStores held)
     (distinct : AreDistinct (names_of was.stores)) (many : length now ≡ length was.parts) (long : length names ≡ length held) (differ : (i j : ℕ) → i < j → j < length names → slice_index_or names i [] ≢ slice_index_or names j []) where
   abbrev back : Holding
   back = record { parts = now; stores = without_stores names was.stores ++ named_stores names held }
@@ -254,15 +254,15 @@ module _ (stand_so : ReadableStandsForRecovered) (was : Holding) (page entries n
                 names = empty.header.names_are ∙ same ∙ read;
               };
               log = inr (λ files.
-                  subst (λ (n : ℕ). HasEmptyLog version_1 n (header_of first).entries (first_names version_1 first (header_of first).files) (recovered first files).next image) recovered_so.page_is
-                  (subst (λ (n : ℕ). HasEmptyLog version_1 page n (first_names version_1 first (header_of first).files) (recovered first files).next image) recovered_so.entries_is
-                  (subst (λ (names : List (List ℕ)). HasEmptyLog version_1 page entries names (recovered first files).next image) (same ∙ read)
-                  (subst (λ (n : ℕ). HasEmptyLog version_1 page entries names n image) (recovered_so.next_is ∙ recovered_so.log.next files) empty))));
+                  subst (λ (n : ℕ). HasEmptyLog mount_layout n (header_of first).entries (first_names mount_layout first (header_of first).files) (recovered first files).next image) recovered_so.page_is
+                  (subst (λ (n : ℕ). HasEmptyLog mount_layout page n (first_names mount_layout first (header_of first).files) (recovered first files).next image) recovered_so.entries_is
+                  (subst (λ (names : List (List ℕ)). HasEmptyLog mount_layout page entries names (recovered first files).next image) (same ∙ read)
+                  (subst (λ (n : ℕ). HasEmptyLog mount_layout page entries names n image) (recovered_so.next_is ∙ recovered_so.log.next files) empty))));
               files = λ fits. record {
-                fits = empty_fits version_1 image none;
+                fits = empty_fits mount_layout image none;
                 recovers =
                     empty_recovered image bytes none ∙ quiet_image held bytes quiet (subst (λ stores. AreStoreImages stores bytes) there are) ∙ files_are
-                    ∙ ap (λ names. files_named was.parts names was.stores) same ∙ stand_so version_1 version_1.header_lines first base readable;
+                    ∙ ap (λ names. files_named was.parts names was.stores) same ∙ stand_so mount_layout mount_layout.header_lines first base readable;
               };
             };
       }
@@ -282,7 +282,7 @@ same_states {S} (history ∷ row) (x ∷ one) (y ∷ other) a b =
     ap (λ (s : S). s ∷ one) (same_first x y a.0.past b.0.past (sym a.0.is ∙ b.0.is)) ∙ ap (λ (rest : List S). y ∷ rest) (same_states row one other a.1 b.1)
 
 pub rest_lives : {X Y : Type 0} (history : X → lines.PartHistory) (held : Y → stores.StoreHistory) (basis : Basis) (trace : Traced) (parts : List X) (backing : List Y) (states : List Part) (disks : List Store) (page entries next : ℕ)
-    → AreNow (map history parts) states → AreNow (map held backing) disks → RowTells (map history parts) (IsAtRest version_1 page entries basis.names next) → AreQuietStores disks → files_of disks ≡ basis.files
+    → AreNow (map history parts) states → AreNow (map held backing) disks → RowTells (map history parts) (IsAtRest mount_layout page entries basis.names next) → AreQuietStores disks → files_of disks ≡ basis.files
     → AreLeftSo history held basis trace parts backing
 rest_lives history held basis trace parts backing states disks page entries next are disks_are rest quiet files_are = record {
   parts_tell = all_tell (map history parts) states are;
@@ -292,13 +292,13 @@ rest_lives history held basis trace parts backing states disks page entries next
     is = record { legal = tt; of_trace = λ p one. absurd one; in_order = tt };
     images =
         row_tells_from (map history parts) (InEachRowImage (λ image. RowTells (map held backing) (λ held. (bytes : Files) → AreStoreImages held bytes → RecoversBehind basis trace [] image bytes))) (λ these these_are image is.
-        let empty = (row_tells_at (map history parts) (IsAtRest version_1 page entries basis.names next) these these_are rest).empty image is in
+        let empty = (row_tells_at (map history parts) (IsAtRest mount_layout page entries basis.names next) these these_are rest).empty image is in
         let none = empty_none page entries basis.names next image empty in
         row_tells_from (map held backing) (λ held. (bytes : Files) → AreStoreImages held bytes → RecoversBehind basis trace [] image bytes) (λ those those_are bytes images.
         record {
           readable = empty.header.readable;
           names_are = empty.header.names_are;
-          fits = empty_fits version_1 image none;
+          fits = empty_fits mount_layout image none;
           kept = [];
           of_trace = λ call one. absurd one;
           own_lines = tt;

@@ -8,7 +8,7 @@ use Rattle.std.proofs.lemmas.List.Folds.{list_any-append}
 use Rattle.std.proofs.lemmas.List.Elements.{All-cons, All-head, All-tail, All-map, All-weaker}
 use Rattle.std.proofs.lemmas.List.Sums.{AllPass-from_list_all}
 use Rattle.std.proofs.lemmas.List.{get_or_default}
-use Rattle.nv_plain.specs.Layouts.{version_1}
+use Rattle.nv_plain.specs.Layouts.{mount_layout}
 use Rattle.nv_plain.specs.Names.{is_name, is_name_byte}
 use Rattle.nv_header.specs.FileNames.{AreFileNames}
 use Rattle.nv_open.specs.Adding.{all_names, is_known}
@@ -34,9 +34,9 @@ plain_name most name named k d inside =
     (second (nat_le 1 (length name) && nat_le (length name) most && not (slice_index name 0 == 46)) (list_all is_name_byte name) named) k d inside)
 
 -- the names of a region's files are allowed
-pub each_allowed : (names : List (List ℕ)) → AreFileNames version_1 names → All (λ name. is_name version_1.name_limit name ≡ true) names
+pub each_allowed : (names : List (List ℕ)) → AreFileNames mount_layout names → All (λ name. is_name mount_layout.name_limit name ≡ true) names
 each_allowed names are k d inside =
-    let May : List ℕ → Type 0 = λ name. is_name version_1.name_limit name ≡ true in
+    let May : List ℕ → Type 0 = λ name. is_name mount_layout.name_limit name ≡ true in
     subst May (get_or_default names k [] d inside) (are.allowed k inside)
 
 -- files of names that are allowed have plain names

@@ -3,7 +3,7 @@ use Rattle.std.proofs.Common.{◌≡◌, ℕ, ◌<◌, ◌≤◌, ◌==◌, ◌^
 use Rattle.std.specs.Prelude.{IfSome}
 use Rattle.std.proofs.lemmas.List.Elements.{All-nil, All-cons, All-head, All-tail, All-append}
 use Rattle.nv_plain.specs.Files.{Files}
-use Rattle.nv_plain.specs.Layouts.{version_1}
+use Rattle.nv_plain.specs.Layouts.{mount_layout}
 use Rattle.nv_plain.specs.Recovered.{next_after, recovered}
 use Rattle.nv_pmem.specs.Rows.{row_words}
 use Rattle.nv_pmem.proofs.ImageLaws.{image_of_now}
@@ -152,7 +152,7 @@ next_is_ready (Gen load) input old new holding text ready told room has left cou
 -- ---- where the next run begins
 
 -- over a region at rest it begins with the sizes and at the number of that
-begins_at : (page entries next : ℕ) (names : List (List ℕ)) (now : Holding) (later : RunOptions) (wanted : List (List ℕ)) (basis : Basis) → IsAtRest version_1 page entries names next now.parts → IsBasis later now wanted basis
+begins_at : (page entries next : ℕ) (names : List (List ℕ)) (now : Holding) (later : RunOptions) (wanted : List (List ℕ)) (basis : Basis) → IsAtRest mount_layout page entries names next now.parts → IsBasis later now wanted basis
     → BeginsAt page entries next basis × (basis.names ≡ all_names names wanted)
 begins_at page entries next names now later wanted basis rest begins =
     let image = row_words now.parts in

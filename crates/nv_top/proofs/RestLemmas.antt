@@ -6,7 +6,7 @@ use Rattle.std.proofs.lemmas.Bool.{cases_lt, le-ltb, lt-ltb}
 use Rattle.std.proofs.lemmas.List.{get_or-take}
 use Rattle.std.proofs.lemmas.Nat.{mod_below}
 use Rattle.nv_plain.specs.Images.{Image, PartImage, entry_of}
-use Rattle.nv_plain.specs.Layouts.{version_1}
+use Rattle.nv_plain.specs.Layouts.{mount_layout}
 use Rattle.nv_pmem.specs.Images.{IsPartImage, IsQuietPart}
 use Rattle.nv_pmem.specs.Part.{Part, part_word}
 use Rattle.nv_pmem.specs.RowStates.{AreNow, IsNow}
@@ -84,8 +84,8 @@ cut_is n states image is = record { each = each } where
       past_is i past = ap (λ (b : Bool). if b then image i else part_word []) (le-ltb i n past)
 
 -- Parts of which the first ones are at rest, and the others quiet, are so all together: these belong to no entry.
-pub all_rest : (sizes : Sizes) (names : List (List ℕ)) (tail : ℕ) (states : List Part) → 1 ≤ sizes.entries → IsAtRest version_1 sizes.page sizes.entries names tail (take (1 + sizes.entries) states)
-    → ((i : ℕ) → 1 + sizes.entries ≤ i → IsQuietPart (get_or states i [])) → IsAtRest version_1 sizes.page sizes.entries names tail states
+pub all_rest : (sizes : Sizes) (names : List (List ℕ)) (tail : ℕ) (states : List Part) → 1 ≤ sizes.entries → IsAtRest mount_layout sizes.page sizes.entries names tail (take (1 + sizes.entries) states)
+    → ((i : ℕ) → 1 + sizes.entries ≤ i → IsQuietPart (get_or states i [])) → IsAtRest mount_layout sizes.page sizes.entries names tail states
 all_rest sizes names tail states some rest others = record {
   quiet = record { each = quiet_at };
   empty = λ image is.

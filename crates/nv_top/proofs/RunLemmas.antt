@@ -9,7 +9,7 @@ use Rattle.std.proofs.lemmas.List.{get_or-drop, get_or_default, length-drop, len
 use Rattle.std.proofs.lemmas.List.Elements.{All-cons, All-head, All-tail}
 use Rattle.nv_plain.specs.Files.{Files}
 use Rattle.nv_plain.specs.Histories.{Answered, after}
-use Rattle.nv_plain.specs.Layouts.{version_1}
+use Rattle.nv_plain.specs.Layouts.{mount_layout}
 use Rattle.nv_pmem.specs.Images.{IsQuietPart}
 use Rattle.nv_pmem.specs.Part.{Part, part_word}
 use Rattle.nv_pmem.specs.Room.{Room}
@@ -135,7 +135,7 @@ module _ {L B : Type 0} (device : L → ℕ) (history : L → PartHistory) (faul
     (basis : Basis) (trace : Traced) (fds : List Fd) (plan : Plan) (start ended : PassState) (sorted : SortedCalls) (board : BoardState) (parts : List L) (stores : List B) (placed tail : ℕ)
     (sound : RunsAreSound) (tell : OwnEventsTell) (keeps : RunsKeepTheLog) (region_stays : RunsKeepRegion) (rests : EmptyLogsRest) (unstopped : UnstoppedRunsLeaveNothingOpen)
     (same_board : ended.view.opened ≡ board.opened) (new : start.view ≡ first_view start.view.opened) (mount : IsMount (mount_of ended.view.opened)) (stop : plan.stop ≡ None)
-    (formed : IsWellFormed trace) (few : length trace.calls ≤ MOST_CALLS) (lines : IsStrictlyIncreasing (lines_in trace)) (allowed : AreFileNames version_1 basis.names)
+    (formed : IsWellFormed trace) (few : length trace.calls ≤ MOST_CALLS) (lines : IsStrictlyIncreasing (lines_in trace)) (allowed : AreFileNames mount_layout basis.names)
     (is : IsMountOf basis trace start.view.opened fds) (region : OpensRegion (mount_of ended.view.opened) basis.names) (spare : All IsQuietSpare ended.spare)
     (out : HasOutcome fds plan trace.calls start (Ok sorted) ended)
     (closed : IsClosed device store_device (slot_value (part_value device history faults room) (store_value store_device store_history store_faults)) board ended parts stores placed tail)
@@ -249,10 +249,10 @@ module _ {L B : Type 0} (device : L → ℕ) (history : L → PartHistory) (faul
         | inr behind ↦ subst IsQuietPart (sym (get_or-eq_default part_states.states [] (omega (arith, behind, long, as_long)))) (record { lines = λ line. quiet_blank })
       ]
 
-  all_at_rest : IsAtRest version_1 sizes.page sizes.entries basis.names tail part_states.states
+  all_at_rest : IsAtRest mount_layout sizes.page sizes.entries basis.names tail part_states.states
   all_at_rest =
       all_rest sizes basis.names tail part_states.states some
-      (row_tells_at (take (1 + sizes.entries) (map history parts)) (IsAtRest version_1 sizes.page sizes.entries basis.names tail) (take (1 + sizes.entries) part_states.states)
+      (row_tells_at (take (1 + sizes.entries) (map history parts)) (IsAtRest mount_layout sizes.page sizes.entries basis.names tail) (take (1 + sizes.entries) part_states.states)
       (first_states (1 + sizes.entries) (map history parts) part_states.states part_states.are) rest.region)
       others_quiet
 
@@ -303,7 +303,7 @@ module _ {L B : Type 0} (device : L → ℕ) (history : L → PartHistory) (faul
   has_run show text backing same text_of = record {
     report = report;
     faithful = is_faithful;
-    plain = names_plain version_1.name_limit basis.names (files_of store_states.states).contents (each_allowed basis.names allowed);
+    plain = names_plain mount_layout.name_limit basis.names (files_of store_states.states).contents (each_allowed basis.names allowed);
     text_is = text_of store_states.states store_states.are;
     left = record {
       page = sizes.page;

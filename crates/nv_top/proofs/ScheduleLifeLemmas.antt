@@ -2,7 +2,7 @@
 use Rattle.std.proofs.Common.{◌≡◌, ℕ, List, length, map, sym, ap, subst, ◌∙◌, Option, Some}
 use Rattle.std.specs.Prelude.{All, IfSome, Result, false, option_map}
 use Rattle.std.specs.List.Sorted.{IsStrictlyIncreasing}
-use Rattle.nv_plain.specs.Layouts.{version_1}
+use Rattle.nv_plain.specs.Layouts.{mount_layout}
 use Rattle.nv_pmem.specs.Laws.{QuietPartHasOneImage}
 use Rattle.nv_pmem.specs.Part.{Part}
 use Rattle.nv_pmem.specs.RowStates.{AreNow}
@@ -46,7 +46,7 @@ use Rattle.nv_top.proofs.StoppingLemmas.{HasClosedOver, at_some, devices_tell, h
 pub scheduled_home : {X Y : Type 0} (history : X → lines.PartHistory) (held : Y → stores.StoreHistory) (trace : Traced) (mount : MountState) (pass zero : PassState) (part_values store_values : List Value) (parts : List X) (backing : List Y)
     (faults placed tail batch : ℕ) (start armed : BenchState) (outcome : Result ScheduledCalls ScheduleError) (home : Option Holding) → SchedulesLeaveLives → IsWellFormed trace → IsStrictlyIncreasing (lines_in trace) → has_rounds trace.form ≡ false
     → pass.view ≡ first_view mount.board.opened → HasScheduled mount trace.tokens trace.calls batch pass zero start armed outcome → IsClosedBy zero part_values store_values (map history parts) (map held backing) faults placed tail
-    → length (map held backing) ≡ mount.board.opened.sizes.files → (made : ℕ) → length parts ≡ made → AreFileNames version_1 start.lent → IsArmedOnly start armed
+    → length (map held backing) ≡ mount.board.opened.sizes.files → (made : ℕ) → length parts ≡ made → AreFileNames mount_layout start.lent → IsArmedOnly start armed
     → ((now : List Part) (disks : List Store) → AreNow (map history parts) now → AreNow (map held backing) disks → home ≡ told_back now disks armed) → ((holding : Holding) → home ≡ Some holding → AreWholeStores holding)
     → (basis : Basis) → BeginsMount basis trace mount pass → basis.names ≡ start.lent → IfSome start.told (λ left. IsAway basis.names left → HasLived basis trace made left.stores home)
 scheduled_home history held trace mount pass zero part_values store_values parts backing faults placed tail batch start armed outcome home lives_so formed rise no_rounds new scheduled closed many made as_many allowed armed_is gives whole basis begins named =
@@ -62,7 +62,7 @@ scheduled_home history held trace mount pass zero part_values store_values parts
     let life =
     lives_so basis trace mount batch pass zero start armed outcome part_values store_values (map history parts) (map held backing) faults placed tail rise (one_round trace formed no_rounds)
     (subst (λ (o : Opened). IsMountOf basis trace o mount.fds) here begins.is_mount) (subst (λ (o : Opened). OpensRegion (mount_of o) basis.names) here begins.region) scheduled closed in
-    let apart = (subst (λ names. AreFileNames version_1 names) (sym named) allowed).distinct in
+    let apart = (subst (λ names. AreFileNames mount_layout names) (sym named) allowed).distinct in
     if_some start.told (λ left. IsAway basis.names left → HasLived basis trace made left.stores home) (λ left told_is away.
     lived_home basis trace history held parts backing made as_many home left.stores whole (record { parts_tell = tell.0; stores_tell = tell.1; life = life })
     (λ disks are. all_behind basis.names left.stores (named_stores basis.names disks) away ∙ own_stores basis.names disks (begins.is_mount.names ∙ sym many ∙ sym (length_now (map held backing) disks are)) apart)

@@ -6,7 +6,7 @@ use Rattle.std.specs.List.Sorted.{IsStrictlyIncreasing}
 use Rattle.std.proofs.lemmas.List.{append-nil}
 use Rattle.nv_plain.specs.Files.{Files}
 use Rattle.nv_plain.specs.Images.{header_of}
-use Rattle.nv_plain.specs.Layouts.{version_1}
+use Rattle.nv_plain.specs.Layouts.{mount_layout}
 use Rattle.nv_pmem.specs.Rows.{row_words}
 use Rattle.nv_pmem.specs.Steps as lines
 use Rattle.nv_pmem.specs.declared.picker.Pick.{Pick}
@@ -74,7 +74,7 @@ module _ (basis : Basis) (trace : Traced) (mount : MountState) (pass zero : Pass
     (parts : List lines.PartHistory) (held : List backing.StoreHistory) (faults placed tail : ℕ)
     (over : HasClosedOver basis trace mount pass zero part_values store_values parts held faults placed tail)
     (options : RunOptions) (lent armed : BenchState) (outcome : Result ScheduledCalls ScheduleError) (scheduled : HasScheduled mount trace.tokens trace.calls options.batch pass zero lent armed outcome)
-    (cached : HasCache options.cache mount) (failed : Type 0) (saw : SawStop zero.view → failed) (allowed : AreFileNames version_1 basis.names)
+    (cached : HasCache options.cache mount) (failed : Type 0) (saw : SawStop zero.view → failed) (allowed : AreFileNames mount_layout basis.names)
     (formed : IsWellFormed trace) (few : length trace.calls < 2 ^ 60) (rise : IsStrictlyIncreasing (lines_in trace)) (no_rounds : has_rounds trace.form ≡ false) (is_mount : IsMount (mount_of mount.board.opened))
     (core : HasRunInCore mount.board.opened mount.fds trace.tokens trace.calls options.batch zero.view lent armed outcome) (begin_so : SchedulesBegin) (told_so : SchedulesAreTold) (legal_so : SchedulesAreLegal) (faithful_so : SchedulesAreFaithful) (files_so : DescriptorsSayFiles) (kept_so : LeftOpenAreKept)
     (stand_so : ReadableStandsForRecovered) (before : List Pick) (bench : BenchState) (text : List ℕ) (home after_power : Holding) (shows_so : ShowsOutcome after_power outcome bench.told text)
@@ -113,7 +113,7 @@ module _ (basis : Basis) (trace : Traced) (mount : MountState) (pass zero : Pass
         faithful = schedule_more (SawStop zero.view) failed basis trace (shown_report shows_so.sorted shown.open_calls basis.names (files basis.names)) saw
             (is_faithful basis trace mount pass zero part_values store_values parts held faults placed tail over options.batch followed.told.0 shows_so.calls shows_so.sorted followed.told.1 followed.told.2 shows_so.sorted_out
             formed few rise no_rounds is_mount begin_so told_so legal_so faithful_so files_so kept_so stand_so after_power left found shows_so.shown.log shown.open_calls shown.are_open);
-        plain = names_plain version_1.name_limit basis.names (files basis.names).contents (each_allowed basis.names allowed);
+        plain = names_plain mount_layout.name_limit basis.names (files basis.names).contents (each_allowed basis.names allowed);
         text_is = shown.text_is ∙ ap (λ names. report_text (shown_report shows_so.sorted shown.open_calls names (files names))) names_so;
         left = record {
           lost = lost_power basis trace mount pass zero part_values store_values parts held faults placed tail over stand_so options.image before bench after_power found.next power_left picked many many_so others others_so left

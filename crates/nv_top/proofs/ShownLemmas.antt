@@ -5,7 +5,7 @@ use Rattle.std.proofs.lemmas.List.{length-map}
 use Rattle.std.proofs.lemmas.List.FromFn.{length-range_with_len}
 use Rattle.nv_plain.specs.Images.{Image, header_of, name_of}
 use Rattle.nv_plain.specs.Faults.{Rose}
-use Rattle.nv_plain.specs.Layouts.{version_1}
+use Rattle.nv_plain.specs.Layouts.{mount_layout}
 use Rattle.nv_pmem.specs.Part.{Part}
 use Rattle.nv_pmem.specs.Rows.{row_words}
 use Rattle.nv_pmem.specs.declared.geometry.Geometry.{Geometry}
@@ -38,18 +38,18 @@ use Rattle.nv_top.proofs.UnrefusedLemmas.{header_allowed, region_allowed}
 
 -- ---- names
 
-first_many : (image : Image) (count : ℕ) → length (first_names version_1 image count) ≡ count
+first_many : (image : Image) (count : ℕ) → length (first_names mount_layout image count) ≡ count
 unfolding first_names
-first_many image count = length-map (range_with_len 0 count) (name_of version_1 image) ∙ length-range_with_len 0 count
+first_many image count = length-map (range_with_len 0 count) (name_of mount_layout image) ∙ length-range_with_len 0 count
 
 -- a region at rest has no more names than a header may have
-rested_few : (page entries next : ℕ) (names : List (List ℕ)) (parts : List Part) → IsAtRest version_1 page entries names next parts → length names ≤ version_1.file_limit
+rested_few : (page entries next : ℕ) (names : List (List ℕ)) (parts : List Part) → IsAtRest mount_layout page entries names next parts → length names ≤ mount_layout.file_limit
 rested_few page entries next names parts rest =
     let image = row_words parts in
     let empty = rest.empty image (record { each = λ i. image_of_now (slice_index_or parts i []) }) in
     let files = empty.header.readable.fields.files in
     let many = first_many image (header_of image).files in
-    subst (λ (names : List (List ℕ)). length names ≤ version_1.file_limit) empty.header.names_are (omega (arith, many, files))
+    subst (λ (names : List (List ℕ)). length names ≤ mount_layout.file_limit) empty.header.names_are (omega (arith, many, files))
 
 -- ---- a run
 
@@ -65,7 +65,7 @@ begun_known parts known other false is first second = (first.kept is).recovered.
 
 module _ (good_so : FittingHasNoBad) (read_so : ReadIsNotRefused) where
   -- a run that began, with no more names than a header may have, wasn't refused
-  begun_allowed : (options : RunOptions) (holding : Holding) (wanted : List (List ℕ)) (basis : Basis) → IsBasis options holding wanted basis → length basis.names ≤ version_1.file_limit
+  begun_allowed : (options : RunOptions) (holding : Holding) (wanted : List (List ℕ)) (basis : Basis) → IsBasis options holding wanted basis → length basis.names ≤ mount_layout.file_limit
       → (why : Refusal) → ¬ (IsNotRun options holding wanted why)
   begun_allowed options holding wanted basis is few why refused = by why refused where
     opened_allowed : (why : Refusal) → ¬ (why ≡ TooManyFiles) → IsNotRun options holding wanted why → ⊥

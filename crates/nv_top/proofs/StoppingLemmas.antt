@@ -9,7 +9,7 @@ use Rattle.nv_plain.specs.Faults.{Rose, saturated}
 use Rattle.nv_plain.specs.Files.{Files}
 use Rattle.nv_plain.specs.Histories.{after}
 use Rattle.nv_plain.specs.Images.{Image, header_of}
-use Rattle.nv_plain.specs.Layouts.{version_1}
+use Rattle.nv_plain.specs.Layouts.{mount_layout}
 use Rattle.nv_plain.specs.Names.{is_name}
 use Rattle.nv_plain.specs.Recovered.{recovered}
 use Rattle.nv_pmem.specs.Part.{Part}
@@ -126,7 +126,7 @@ pub shows : (old lent : BenchState) (new_told : Option Holding) (holding : Holdi
     → ((now : List Store) → AreNow row now → ShowsOpen sorted begun found shown (files_of now) text)
     → IsRecovered holding.parts page entries names next found
     → HoldFiles row (files_named holding.parts names holding.stores)
-    → All (λ history. 0 < length history) parts_row → RowTells parts_row (IsAtRest version_1 page entries names next)
+    → All (λ history. 0 < length history) parts_row → RowTells parts_row (IsAtRest mount_layout page entries names next)
     → ((now : List Part) (disks : List Store) → AreNow parts_row now → AreNow row disks → new_told ≡ told_back now disks lent)
     → ShowsRecovered holding sorted begun new_told text
 shows old lent new_told holding sorted begun text found page entries next names shown parts_row row told_is many home lent_is same text_of recovered holds tell rest gives =
@@ -147,7 +147,7 @@ shows old lent new_told holding sorted begun text found page entries next names 
             now = record { parts = now.states; stores = others ++ named_stores names holds.held };
             told_is = gives now.states holds.held now.are holds.are ∙ told_again old lent holding names now.states holds.held told_is home lent_is;
             rests = record {
-              rest = row_tells_at parts_row (IsAtRest version_1 page entries names next) now.states now.are rest;
+              rest = row_tells_at parts_row (IsAtRest mount_layout page entries names next) now.states now.are rest;
               held = holds.held;
               stores_are = refl;
               files_are = holds.files_are;
@@ -179,13 +179,13 @@ calls_again : (first : ℕ) (groups : List ℕ) (open_calls : List Open) → map
 calls_again first groups [] = refl
 calls_again first groups (one ∷ later) = ap (λ calls. one.call.now ∷ calls) (calls_again first groups later)
 
-pub each_allowed : (names : List (List ℕ)) → AreFileNames version_1 names → All (λ name. is_name version_1.name_limit name ≡ true) names
+pub each_allowed : (names : List (List ℕ)) → AreFileNames mount_layout names → All (λ name. is_name mount_layout.name_limit name ≡ true) names
 each_allowed names are k d inside =
-    let May : List ℕ → Type 0 = λ name. is_name version_1.name_limit name ≡ true in
+    let May : List ℕ → Type 0 = λ name. is_name mount_layout.name_limit name ≡ true in
     subst May (get_or_default names k [] d inside) (are.allowed k inside)
 
 -- the names that the header says of parts are those that their words say
-pub names_read : (parts : List Part) → header_names parts ≡ first_names version_1 (row_words parts) (header_of (row_words parts)).files
+pub names_read : (parts : List Part) → header_names parts ≡ first_names mount_layout (row_words parts) (header_of (row_words parts)).files
 unfolding first_names
 names_read parts = refl
 
@@ -247,7 +247,7 @@ module _ (basis : Basis) (trace : Traced) (mount : MountState) (pass zero : Pass
         picked = picked;
         power = power;
         power_left = power_left;
-        stands = stand_so version_1 version_1.header_lines (row_words power.parts) (files_of (stores_named basis.names power.stores)) left.header.readable;
+        stands = stand_so mount_layout mount_layout.header_lines (row_words power.parts) (files_of (stores_named basis.names power.stores)) left.header.readable;
         rests = subst (λ others. Rests page entries basis.names ends many others) others_so
             (subst (λ many. Rests page entries basis.names ends many (without_stores basis.names power.stores)) many_so
             (subst (λ page. Rests page entries basis.names ends (length power.parts) (without_stores basis.names power.stores)) page_so
@@ -345,7 +345,7 @@ module _ (basis : Basis) (trace : Traced) (mount : MountState) (pass zero : Pass
 
     -- ---- the report
 
-    module _ (faithful_so : RunsAreFaithful) (numbered_so : RunsAreNumbered) (stand_so : ReadableStandsForRecovered) (failed : Type 0) (saw : SawStop zero.view → failed) (allowed : AreFileNames version_1 basis.names)
+    module _ (faithful_so : RunsAreFaithful) (numbered_so : RunsAreNumbered) (stand_so : ReadableStandsForRecovered) (failed : Type 0) (saw : SawStop zero.view → failed) (allowed : AreFileNames mount_layout basis.names)
         (bench : BenchState) (text : List ℕ) (after_power : Holding) (shows_so : ShowsRecovered after_power sorted [] bench.told text) (power_left : bench.left ≡ Some after_power) (before : List Pick)
         (picked : bench.picked ≡ plan.image ∷ before) (many : ℕ) (many_so : length after_power.parts ≡ many) (others : List NamedStore) (others_so : without_stores basis.names after_power.stores ≡ others)
         (left : LeavesWholeWrites zero.view basis.files basis.names (row_words after_power.parts) (files_of (stores_named basis.names after_power.stores)))
@@ -368,7 +368,7 @@ module _ (basis : Basis) (trace : Traced) (mount : MountState) (pass zero : Pass
       files_are : shown_files ≡ files_shown basis trace report
       files_are =
           ap (λ names. files_named after_power.parts names after_power.stores) names_so
-          ∙ stand_so version_1 version_1.header_lines image (files_of (stores_named basis.names after_power.stores)) left.header.readable
+          ∙ stand_so mount_layout mount_layout.header_lines image (files_of (stores_named basis.names after_power.stores)) left.header.readable
           ∙ recovered_files image (files_of (stores_named basis.names after_power.stores)) left found shows_so.log
           ∙ ap (after_open descriptors (map (fated found.first found.groups) items)) (sym history_files)
 
@@ -416,7 +416,7 @@ module _ (basis : Basis) (trace : Traced) (mount : MountState) (pass zero : Pass
             last = zero.view;
             faithful = is_faithful;
             stopped = saw;
-            plain = names_plain version_1.name_limit basis.names shown_files.contents (each_allowed basis.names allowed);
+            plain = names_plain mount_layout.name_limit basis.names shown_files.contents (each_allowed basis.names allowed);
             text_is =
                 shows_so.shown.text_is
                 ∙ ap (λ open_calls. report_text (shown_report sorted open_calls (header_names after_power.parts) shown_files)) (shows_so.shown.are_open.none refl)
@@ -469,7 +469,7 @@ module _ (basis : Basis) (trace : Traced) (mount : MountState) (pass zero : Pass
     (power_so : PowerLeavesAnImage) (many_parts : 1 + mount.board.opened.sizes.entries ≤ length parts) (many : length held ≡ mount.board.opened.sizes.files)
     (part_shown : (slot : ℕ) (now : Part) → slot < length parts → IsNow (get_or parts slot []) now → IsPart (get_or part_values slot Bare) now)
     (store_shown : (file : ℕ) (now : Store) → file < length held → IsNow (get_or held file []) now → store_of_value (get_or store_values file Bare) ≡ Some now)
-    (named_so : AreFileNames version_1 basis.names) (pick : Pick) (left : Holding) (still : All (λ (named : NamedStore). IsQuietStore named.store) left.stores) (given off : Option Holding)
+    (named_so : AreFileNames mount_layout basis.names) (pick : Pick) (left : Holding) (still : All (λ (named : NamedStore). IsQuietStore named.store) left.stores) (given off : Option Holding)
     (gives : (now : List Part) (disks : List Store) → AreNow parts now → AreNow held disks → given ≡ Some (home_with left basis.names now disks))
     (powers : off ≡ option_map (powered pick) given) (whole : (holding : Holding) → given ≡ Some holding → AreWholeStores holding) (away : IsAway basis.names left) where
   -- the cells kept what came back

@@ -2,7 +2,7 @@
 use Rattle.std.proofs.Common.{◌≡◌, ◌≤◌, Bool, true, false, List, [], length, refl, sym, ap, subst, ◌∙◌, arith}
 use Rattle.std.specs.Prelude.{not}
 use Rattle.std.proofs.lemmas.List.Filters.{length-filter_both}
-use Rattle.nv_plain.specs.Layouts.{version_1}
+use Rattle.nv_plain.specs.Layouts.{mount_layout}
 use Rattle.nv_bench.specs.Holding.{Holding}
 use Rattle.nv_bench.specs.Opening.{is_blank}
 use Rattle.nv_open.specs.Adding.{all_names, is_known}
@@ -25,7 +25,7 @@ one_trace : {one other : Traced} → Whole one ≡ Whole other → one ≡ other
 one_trace {one} {other} is = cc
 
 -- a blank region is refused for no run of a few files
-blank_allowed : (options : RunOptions) (holding : Holding) (wanted : List _) → is_blank holding.parts ≡ true → length wanted ≤ version_1.file_limit → (why : Refusal) → ¬ (IsNotRun options holding wanted why)
+blank_allowed : (options : RunOptions) (holding : Holding) (wanted : List _) → is_blank holding.parts ≡ true → length wanted ≤ mount_layout.file_limit → (why : Refusal) → ¬ (IsNotRun options holding wanted why)
 blank_allowed options holding wanted blank few why refused = by why refused
   where
     not_blank : (why : Refusal) → ¬ (why ≡ TooManyFiles) → IsNotRun options holding wanted why → ⊥

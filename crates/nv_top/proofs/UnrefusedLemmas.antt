@@ -3,7 +3,7 @@ use Rattle.std.proofs.Common.{◌≡◌, ℕ, suc, ◌+◌, ◌<◌, ◌≤◌, 
 use Rattle.std.proofs.lemmas.List.{get_or-map, get_or-take, length-map, length-take}
 use Rattle.std.proofs.lemmas.List.Elements.{All-nil, All-cons, All-head, All-tail}
 use Rattle.nv_plain.specs.Images.{header_of}
-use Rattle.nv_plain.specs.Layouts.{version_1}
+use Rattle.nv_plain.specs.Layouts.{mount_layout}
 use Rattle.nv_plain.specs.Recovered.{Fits}
 use Rattle.nv_pmem.specs.Draws.{Draws, draws_of}
 use Rattle.nv_pmem.specs.Limits.{entry_lines}
@@ -49,8 +49,8 @@ abbrev room_of : Part → Room
 room_of part = room_with (length part)
 
 -- parts that have their lines
-pub have_lines : (page entries : ℕ) (parts : List Part) → 1 + entries ≤ length parts → ((slot : ℕ) → slot ≤ entries → part_lines version_1 page slot ≤ length (get_or parts slot []))
-    → HasLines version_1 page entries (rooms_of parts)
+pub have_lines : (page entries : ℕ) (parts : List Part) → 1 + entries ≤ length parts → ((slot : ℕ) → slot ≤ entries → part_lines mount_layout page slot ≤ length (get_or parts slot []))
+    → HasLines mount_layout page entries (rooms_of parts)
 have_lines page entries [] many each = absurd (omega (arith, many))
 have_lines page entries (part ∷ others) many each = record {
   header = each 0 (omega arith);
@@ -75,7 +75,7 @@ powered_rooms draws (part ∷ parts) =
 
 module _ (read_so : ReadIsNotRefused) (parts : List Part) (readable : CanBeRead parts) (long : AreLong parts) where
   good_head : (refusal : HeadError) → SpeaksOfImage refusal → ¬ (IsHeadRefused parts refusal)
-  good_head refusal speaks = read_so version_1 (length (header_part parts)) (head_image parts) refusal readable speaks
+  good_head refusal speaks = read_so mount_layout (length (header_part parts)) (head_image parts) refusal readable speaks
 
   -- it isn't refused for its header
   pub header_allowed : (why : Refusal) → IsBadHeader why → ¬ (IsRefusedFor parts why)
@@ -91,20 +91,20 @@ module _ (read_so : ReadIsNotRefused) (parts : List Part) (readable : CanBeRead 
   header_allowed TooManyFiles bad is = bad
 
   -- nor for an entry, where its groups are whole
-  pub region_allowed : FittingHasNoBad → Fits version_1 (row_words parts) → (why : Refusal) → ¬ (IsRefusedFor parts why)
+  pub region_allowed : FittingHasNoBad → Fits mount_layout (row_words parts) → (why : Refusal) → ¬ (IsRefusedFor parts why)
   region_allowed good_so fits (Truncated found wanted) is = header_allowed (Truncated found wanted) tt is
   region_allowed good_so fits BadMagic is = header_allowed BadMagic tt is
   region_allowed good_so fits (BadVersion found) is = header_allowed (BadVersion found) tt is
   region_allowed good_so fits (BadGeometry field found) is = header_allowed (BadGeometry field found) tt is
   region_allowed good_so fits (BadName i) is = header_allowed (BadName i) tt is
-  region_allowed good_so fits (BadEntry number) is = good_so version_1 (row_words parts) number fits is.2
+  region_allowed good_so fits (BadEntry number) is = good_so mount_layout (row_words parts) number fits is.2
   region_allowed good_so fits TooManyFiles is = is
 
 -- ---- one that power was lost of
 
 module _ (good_so : FittingHasNoBad) (read_so : ReadIsNotRefused) (page entries first : ℕ) (names : List (List ℕ)) (parts : List Part)
-    (header : ReadsAs version_1 page entries names first (row_words parts)) (fits : Fits version_1 (row_words parts)) (long : HasLines version_1 page entries (rooms_of parts)) where
-  long_first : (parts : List Part) → version_1.header_lines ≤ header_lines_in (rooms_of parts) → version_1.header_lines ≤ length (header_part parts)
+    (header : ReadsAs mount_layout page entries names first (row_words parts)) (fits : Fits mount_layout (row_words parts)) (long : HasLines mount_layout page entries (rooms_of parts)) where
+  long_first : (parts : List Part) → mount_layout.header_lines ≤ header_lines_in (rooms_of parts) → mount_layout.header_lines ≤ length (header_part parts)
   long_first [] enough = enough
   long_first (part ∷ parts) enough = enough
 
@@ -117,7 +117,7 @@ module _ (good_so : FittingHasNoBad) (read_so : ReadIsNotRefused) (page entries 
 
   are_long : AreLong parts
   are_long =
-      let Long : ℕ → ℕ → Type 0 = λ page entries. HasLines version_1 page entries (rooms_of parts) in
+      let Long : ℕ → ℕ → Type 0 = λ page entries. HasLines mount_layout page entries (rooms_of parts) in
       let Of : ℕ → Type 0 = λ page. Long page (header_of (head_image parts)).entries in
       subst Of (sym header.page_is) (subst (Long page) (sym header.entries_is) long)
 
@@ -143,7 +143,7 @@ module _ (basis : Basis) (trace : Traced) (mount : MountState) (pass zero : Pass
     (many_parts : 1 + mount.board.opened.sizes.entries ≤ length parts) (many : length held ≡ mount.board.opened.sizes.files) (pick : Pick) (left : Holding) (given off : Option Holding)
     (gives : (now : List Part) (disks : List Store) → AreNow parts now → AreNow held disks → given ≡ Some (home_with left basis.names now disks))
     (powers : off ≡ option_map (powered pick) given) (whole : (holding : Holding) → given ≡ Some holding → AreWholeStores holding) where
-  slots_long : (states : List Part) → AreNow parts states → HasLines version_1 zero.view.opened.sizes.page zero.view.opened.sizes.entries (rooms_of states)
+  slots_long : (states : List Part) → AreNow parts states → HasLines mount_layout zero.view.opened.sizes.page zero.view.opened.sizes.entries (rooms_of states)
   slots_long states are =
       let same : zero.view.opened.sizes.entries ≡ mount.board.opened.sizes.entries =
       ap (λ (o : Opened). o.sizes.entries) (still_opened basis trace mount pass zero part_values store_values parts held faults placed tail over) in
@@ -169,7 +169,7 @@ module _ (basis : Basis) (trace : Traced) (mount : MountState) (pass zero : Pass
       let left_whole =
       power_leaves basis trace mount pass zero part_values store_values parts held faults placed tail over states.states disks.states states.are disks.are
       (row_words after.parts) (record { contents = map (λ (store : Store). store.durable) disks.states }) image.parts (durable_images disks.states each_whole) in
-      let Long : List Room → Type 0 = λ rooms. HasLines version_1 zero.view.opened.sizes.page zero.view.opened.sizes.entries rooms in
+      let Long : List Room → Type 0 = λ rooms. HasLines mount_layout zero.view.opened.sizes.page zero.view.opened.sizes.entries rooms in
       not_refused good_so read_so zero.view.opened.sizes.page zero.view.opened.sizes.entries _ basis.names after.parts left_whole.header left_whole.fits
       (subst Long (sym (powered_rooms (draws_of pick) states.states)) (slots_long states.states states.are))
       why (at_some off (λ holding. IsRefusedFor holding.parts why) after off_is refused)

@@ -2,7 +2,7 @@
 use Rattle.std.specs.Prelude.{◌≡◌, ◌⊎◌, ◌≤◌, ℕ, Bool, List, length, true, if◌then◌else◌, Option, Some, None, IfSome, max}
 use Rattle.std.specs.Option.{option_and_then}
 use Rattle.nv_plain.specs.Faults.{Rose}
-use Rattle.nv_plain.specs.Layouts.{version_1}
+use Rattle.nv_plain.specs.Layouts.{mount_layout}
 use Rattle.nv_pmem.specs.Part.{Part}
 use Rattle.nv_pmem.specs.declared.picker.Pick.{Pick}
 use Rattle.nv_bench.specs.Benches.{BenchState}
@@ -157,7 +157,7 @@ pub record IsUnhindered (command : Command) (input : Option (List ℕ)) (holding
 -- Nothing stands in the way of a run of any trace of at most 16 files over a blank region, whatever its options, where neither count rose.
 abbrev pub PlainIsUnhindered : Type 0
 PlainIsUnhindered =
-    (options : RunOptions) (input : List ℕ) (trace : Traced) (holding : Holding) → ending_of forms.Run input ≡ Whole trace → is_blank holding.parts ≡ true → length trace.names ≤ version_1.file_limit
+    (options : RunOptions) (input : List ℕ) (trace : Traced) (holding : Holding) → ending_of forms.Run input ≡ Whole trace → is_blank holding.parts ≡ true → length trace.names ≤ mount_layout.file_limit
     → (before now settled faults : ℕ) → ¬ (Rose before now) → ¬ (Rose settled faults) → IsUnhindered (Run options) (Some input) holding (Rose before now) (Rose settled faults)
 
 -- A command that shows what it does, of an input that tells, wasn't refused by the region.

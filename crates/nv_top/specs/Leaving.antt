@@ -1,7 +1,7 @@
 -- Leaving: what a command leaves on its devices.
 use Rattle.std.specs.Prelude.{◌≡◌, ℕ, List, ◌++◌, length, map, Option, Some}
 use Rattle.nv_plain.specs.Files.{Files}
-use Rattle.nv_plain.specs.Layouts.{version_1}
+use Rattle.nv_plain.specs.Layouts.{mount_layout}
 use Rattle.nv_pmem.specs.Part.{Part}
 use Rattle.nv_pmem.specs.RowStates.{AreNow}
 use Rattle.nv_pmem.specs.Steps as lines
@@ -21,7 +21,7 @@ pub record AreLeft {X Y : Type 0} (history : X → lines.PartHistory) (held : Y 
   pub next : ℕ
   pub now : List Part
   pub now_are : AreNow (map history parts) now
-  pub rest : IsAtRest version_1 page entries names next now
+  pub rest : IsAtRest mount_layout page entries names next now
   pub disks : List Store
   pub disks_are : AreNow (map held backing) disks
   pub files_are : files_of disks ≡ files
@@ -33,7 +33,7 @@ pub record IsLeft (want : Option Geometry) (names : List (List ℕ)) (files : Fi
   pub page : ℕ
   pub entries : ℕ
   pub next : ℕ
-  pub rest : IsAtRest version_1 page entries names next now.parts
+  pub rest : IsAtRest mount_layout page entries names next now.parts
   pub many : length now.parts ≡ length (opened want was.parts)
   pub disks : List Store
   pub stores_are : now.stores ≡ without_stores names was.stores ++ named_stores names disks

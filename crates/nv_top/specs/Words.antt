@@ -7,7 +7,7 @@ use Rattle.clap.specs.ValueTests.{is_unsigned_in}
 use Rattle.clap.specs.Kinds.{Kinds}
 use Rattle.clap.specs.Words.{App, Row, Rule, fault_of, first_of, matches_of, new_app, new_rule, with_rule}
 use Rattle.clap.specs.declared.builder.action.ArgAction.TheVariants.{SetTrue}
-use Rattle.nv_plain.specs.Layouts.{version_1}
+use Rattle.nv_plain.specs.Layouts.{mount_layout}
 use Rattle.nv_pmem.specs.Limits.{IsEntryCount, IsPageSize}
 use Rattle.nv_pmem.specs.declared.picker.Pick.{Pick}
 use Rattle.nv_pmem.specs.declared.picker.Pick.TheVariants.{Old, New, Torn, Mixed, Seed}
@@ -107,7 +107,7 @@ pub record AreInLimits (options : RunOptions) : Type 0 where
   pub page : IsPageSize options.page
   pub entries : IsEntryCount options.entries
   pub some_pages : 1 ≤ options.pages
-  pub few_pages : options.pages ≤ version_1.page_limit
+  pub few_pages : options.pages ≤ mount_layout.page_limit
   pub some_cache : 1 ≤ options.cache
   pub few_cache : options.cache ≤ 16384
   pub some_batch : 1 ≤ options.batch

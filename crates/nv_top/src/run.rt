@@ -1,6 +1,6 @@
 //! A run of a trace, and its report.
 ghost use Rattle.std.specs.Prelude.{◌≡◌, ◌+◌, ◌<◌, [], List, None, length, map, sum_by, All, Err, IfOk, IfSome};
-ghost use Rattle.nv_plain.specs.Layouts.{version_1};
+ghost use Rattle.nv_plain.specs.Layouts.{mount_layout};
 ghost use Rattle.nv_pmem.specs.Moments.{Tells};
 ghost use Rattle.nv_pmem.specs.Part.{Part};
 ghost use Rattle.nv_pmem.specs.RowStates.{AreNow};
@@ -189,7 +189,7 @@ fn run_mount<
     requires new { pass.view ≡ first_view mount.board.opened }
     requires bare { pass.now ≡ [] }
     requires stop { plan.stop ≡ None }
-    requires names { AreFileNames version_1 names.now }
+    requires names { AreFileNames mount_layout names.now }
     requires files { length names.now ≡ mount.board.opened.sizes.files }
     requires trace { IsRunnable (trace_run show trace.now) }
     requires load { IsShownLoad show }

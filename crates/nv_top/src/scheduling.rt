@@ -1,7 +1,7 @@
 //! A schedule of a trace, the loss of power behind it, and the recovery.
 ghost use Rattle.std.specs.Prelude.{◌≡◌, ℕ, ◌+◌, ◌^◌, ◌<◌, ◌≤◌, max, [], ◌∷◌, List, None, true, false, length, map, sum_by, All, Ok, Err, IfOk, IfSome, OnOk};
 ghost use Rattle.nv_plain.specs.Faults.{Rose, saturated};
-ghost use Rattle.nv_plain.specs.Layouts.{version_1};
+ghost use Rattle.nv_plain.specs.Layouts.{mount_layout};
 ghost use Rattle.nv_pmem.specs.Moments.{Tells};
 ghost use Rattle.nv_pmem.specs.Part.{Part};
 ghost use Rattle.nv_pmem.specs.RowStates.{AreNow};
@@ -173,7 +173,7 @@ fn schedule_mount<T: Bench>(
     requires board { IsOf mount.board pass }
     requires new { pass.view ≡ first_view mount.board.opened }
     requires bare { pass.now ≡ [] }
-    requires names { AreFileNames version_1 (T.state bench.old).lent }
+    requires names { AreFileNames mount_layout (T.state bench.old).lent }
     requires lent { length (T.state bench.old).lent ≡ mount.board.opened.sizes.files }
     requires trace { IsRunnable trace.now }
     requires no_rounds { has_rounds trace.now.form ≡ false }

@@ -1,7 +1,7 @@
 //! A run that power ends, and its recovery.
 ghost use Rattle.std.specs.Prelude.{◌≡◌, ◌≢◌, ◌⊎◌, ◌+◌, ◌-◌, ◌^◌, ◌<◌, ◌≤◌, [], List, true, length, map, sum_by, All, None, Some, Err, IfOk, IfSome, OnOk};
 ghost use Rattle.nv_plain.specs.Faults.{Rose, saturated};
-ghost use Rattle.nv_plain.specs.Layouts.{version_1};
+ghost use Rattle.nv_plain.specs.Layouts.{mount_layout};
 ghost use Rattle.nv_pmem.specs.Moments.{Tells};
 ghost use Rattle.nv_pmem.specs.Part.{Part};
 ghost use Rattle.nv_pmem.specs.RowStates.{AreNow};
@@ -171,7 +171,7 @@ fn stop_mount<R: Threads + Wait + Sync, T: Bench, G: Gate + Sync>(
     requires board { IsOf mount.board pass }
     requires new { pass.view ≡ first_view mount.board.opened }
     requires bare { pass.now ≡ [] }
-    requires names { AreFileNames version_1 (T.state bench.old).lent }
+    requires names { AreFileNames mount_layout (T.state bench.old).lent }
     requires lent { length (T.state bench.old).lent ≡ mount.board.opened.sizes.files }
     requires trace { IsRunnable trace.now }
     ensures back { IsPoweredBack k (T.state bench.old) (T.state bench.new) }

@@ -8,7 +8,7 @@ use Rattle.std.proofs.lemmas.List.Elements.{All-append, All-cons, All-nil, All-p
 use Rattle.std.proofs.lemmas.List.Sorted.{IsNonDecreasingBy-push}
 use Rattle.std.proofs.lemmas.List.Sums.{prefix_len-le-length, prefix_len_passes}
 use lib.Pointwise.{pointwise}
-use Rattle.nv_plain.specs.Layouts.{version_1}
+use Rattle.nv_plain.specs.Layouts.{mount_layout}
 use Rattle.nv_plain.specs.Names.{is_name}
 use Rattle.nv_trace.specs.Forms.{has_rounds, has_steps}
 use Rattle.nv_trace.specs.Grammar.{last_thread}
@@ -54,7 +54,7 @@ with_name trace name may is =
     let long = length-append names (name ∷ []) in
     record {
       names = omega (arith, may.0, long);
-      allowed = All-append (λ name. is_name version_1.name_limit name ≡ true) names (name ∷ []) is.allowed (one (λ name. is_name version_1.name_limit name ≡ true) name may.1);
+      allowed = All-append (λ name. is_name mount_layout.name_limit name ≡ true) names (name ∷ []) is.allowed (one (λ name. is_name mount_layout.name_limit name ≡ true) name may.1);
       distinct = λ i j before inside same. elim (cases_lt j (length names)) [
         | inl earlier ↦ is.distinct i j before earlier (sym (get_or_append_left names (name ∷ []) [] i (omega arith)) ∙ same ∙ get_or_append_left names (name ∷ []) [] j earlier)
         | inr past ↦ new_name name names may.2 i (omega arith) (sym (get_or_append_left names (name ∷ []) [] i (omega arith)) ∙ same ∙ get_or_push names name [] j (omega arith))

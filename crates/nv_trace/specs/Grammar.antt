@@ -5,6 +5,7 @@ use Rattle.std.specs.Option.{option_and_then, ok_or}
 use Rattle.std.specs.Result.{result_ok}
 use lib.Pointwise.{pointwise}
 use Rattle.hex.specs.Hex.{decode_of}
+use Rattle.nv_plain.specs.Layouts.{mount_layout}
 use Rattle.nv_plain.specs.declared.mode.Mode.{Mode}
 use Rattle.nv_plain.specs.declared.mode.Mode.TheVariants.{R, W, Rw}
 use Rattle.nv_trace.specs.declared.bad_line.Why.{Why}
@@ -23,7 +24,7 @@ largest_count = 131072
 
 -- the most files and descriptors of a trace
 abbrev pub most_files : ℕ
-most_files = 16
+most_files = mount_layout.file_limit
 
 abbrev pub most_descriptors : ℕ
 most_descriptors = 64

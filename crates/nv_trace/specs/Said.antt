@@ -3,7 +3,7 @@ use Rattle.std.specs.Prelude.{◌≡◌, ℕ, ◌-◌, ◌==◌, ◌&&◌, ◌||
 use Rattle.std.specs.List.{list_any, position_or_len}
 use Rattle.std.specs.Option.{ok_or}
 use lib.Pointwise.{pointwise}
-use Rattle.nv_plain.specs.Layouts.{version_1}
+use Rattle.nv_plain.specs.Layouts.{mount_layout}
 use Rattle.nv_plain.specs.Names.{is_name}
 use Rattle.nv_trace.specs.Forms.{has_rounds, has_steps}
 use Rattle.nv_trace.specs.Grammar.{and_then, bytes_of, largest_count, largest_offset, last_thread, mode_of, most_descriptors, most_files, number_of, says}
@@ -29,7 +29,7 @@ unfoldable pub new_name : Traced → List ℕ → Result (List ℕ) Why
 new_name trace name =
     if has_begun trace then Err Late
     else if nat_le most_files (length trace.names) then Err Many
-    else if not (is_name version_1.name_limit name) then Err Name
+    else if not (is_name mount_layout.name_limit name) then Err Name
     else if nat_lt (said_place name trace.names) (length trace.names) then Err Repeat
     else Ok name
 
@@ -41,7 +41,7 @@ turn_of trace field =
 -- the place of a file that is declared, by its name
 unfoldable pub said_file : Traced → List ℕ → Result ℕ Why
 said_file trace name =
-    if not (is_name version_1.name_limit name) then Err Name
+    if not (is_name mount_layout.name_limit name) then Err Name
     else if nat_lt (said_place name trace.names) (length trace.names) then Ok (said_place name trace.names)
     else Err Unknown
 

@@ -2,7 +2,7 @@
 use Rattle.std.specs.Prelude.{◌≡◌, ◌≢◌, ℕ, ◌<◌, ◌≤◌, [], length, true, false, All}
 use Rattle.std.specs.List.{slice_index_or}
 use Rattle.std.specs.List.Sorted.{IsNonDecreasingBy, IsStrictlyIncreasing}
-use Rattle.nv_plain.specs.Layouts.{version_1}
+use Rattle.nv_plain.specs.Layouts.{mount_layout}
 use Rattle.nv_plain.specs.Names.{is_name}
 use Rattle.nv_trace.specs.Grammar.{largest_offset, largest_count, last_thread, most_files, most_descriptors}
 use Rattle.nv_trace.specs.Forms.{has_rounds, has_steps}
@@ -32,7 +32,7 @@ IsTokenWithin (Cut number) = (1 ≤ number) × (number ≤ last_cut)
 -- a statement may follow: a name that is new, a descriptor of a file that is declared, a call on a descriptor, a new round
 abbrev pub MayFollow : Traced → Statement → Type 0
 MayFollow trace (File name) =
-    (length trace.names < most_files) × (is_name version_1.name_limit name ≡ true) × (said_place name trace.names ≡ length trace.names) × (has_begun trace ≡ false)
+    (length trace.names < most_files) × (is_name mount_layout.name_limit name ≡ true) × (said_place name trace.names ≡ length trace.names) × (has_begun trace ≡ false)
 MayFollow trace (Opened descriptor) =
     (length trace.descriptors < most_descriptors) × (descriptor.file < length trace.names) × (has_begun trace ≡ false)
 MayFollow trace (Call thread call) = (thread ≤ last_thread) × IsCallWithin (length trace.descriptors) call × (has_tokens trace ≡ false)
@@ -42,7 +42,7 @@ MayFollow trace Round = has_rounds trace.form ≡ true
 -- and rounds, which don't fall along the calls, or tokens, where the form has them.
 pub record IsWellFormed (trace : Traced) : Type 0 where
   pub names : length trace.names ≤ most_files
-  pub allowed : All (λ name. is_name version_1.name_limit name ≡ true) trace.names
+  pub allowed : All (λ name. is_name mount_layout.name_limit name ≡ true) trace.names
   pub distinct : (i j : ℕ) → i < j → j < length trace.names → slice_index_or trace.names i [] ≢ slice_index_or trace.names j []
   pub descriptors : length trace.descriptors ≤ most_descriptors
   pub files : All (λ descriptor. descriptor.file < length trace.names) trace.descriptors

@@ -14,14 +14,9 @@ use crate::call_lines::{fill, read_or_write, sync};
 use crate::spelling::{number, parts, says};
 use crate::trace::{Descriptor, Trace};
 use crate::trace_call::TraceCall;
+use nv_plain::limits::{FILE_LIMIT, NAME_LIMIT};
 use nv_plain::{Bytes, Mode, NoMemory, is_file_name};
 use std::alloc::Global;
-
-/// The most bytes of a file's name.
-const NAME_LIMIT: u64 = 56;
-
-/// The most files of a trace.
-const MOST_FILES: usize = 16;
 
 /// The most descriptors of a trace.
 const MOST_DESCRIPTORS: usize = 64;
@@ -115,7 +110,7 @@ fn check_new(trace: &Trace, name: &[u8]) -> Result<(), Why>
 {
     if trace.has_begun() {
         Err(Why::Late)
-    } else if trace.names().len() >= MOST_FILES {
+    } else if trace.names().len() >= FILE_LIMIT as usize {
         Err(Why::Many)
     } else if !is_file_name(name, NAME_LIMIT) {
         Err(Why::Name)

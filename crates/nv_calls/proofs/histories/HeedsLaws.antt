@@ -2,7 +2,7 @@
 use Rattle.std.proofs.Common.{◌≡◌, ℕ, ◌+◌, ◌*◌, ◌==◌, ◌^◌, ◌||◌, Bool, true, false, if◌then◌else◌, List, [], ◌∷◌, ◌++◌, map, refl, sym, ap, subst, ◌∙◌, arith, ne_eqb}
 use Rattle.std.specs.Prelude.{Option, Some, None, nat_lt, min, Result, Ok, Err}
 use Rattle.std.specs.List.{slice_get}
-use Rattle.nv_plain.specs.Layouts.{version_1}
+use Rattle.nv_plain.specs.Layouts.{mount_layout}
 use Rattle.nv_plain.specs.Pieces.{pages_touched}
 use Rattle.nv_plain.specs.declared.call.FileCall.TheVariants.{Sync}
 use Rattle.nv_plain.specs.declared.mode.Mode.{Mode}
@@ -270,7 +270,7 @@ answer_seen sizes call steps start now result made is tells =
 
 range_tells : (sizes : Sizes) (at len : ℕ) → refusal_tells (early_range_refusal sizes at len) ≡ false
 range_tells sizes at len =
-    let long = nat_lt (min version_1.group_limit sizes.entries) (pages_touched at len sizes.page) in
+    let long = nat_lt (min mount_layout.group_limit sizes.entries) (pages_touched at len sizes.page) in
     tells_neither (nat_lt (sizes.page * sizes.pages) (at + len)) (Some TooFar) (if long then Some TooLong else None) refl (tells_neither long (Some TooLong) None refl refl)
 
 pub early_tells : (may : Mode → Bool) (sizes : Sizes) (fd : Option Fd) (at len : ℕ) → refusal_tells (early_fd_refusal may sizes fd at len) ≡ false

@@ -2,7 +2,7 @@
 use Rattle.std.proofs.Common.{◌≡◌, ℕ, ◌+◌, ◌*◌, ◌^◌, ◌==◌, nat_lt, Bool, true, false, if◌then◌else◌, List, [], ◌∷◌, length, refl, sym, subst, ◌∙◌, eq-eqb}
 use Rattle.std.specs.Prelude.{Option, Some, None, Result, min}
 use Rattle.std.specs.List.{slice_get}
-use Rattle.nv_plain.specs.Layouts.{version_1}
+use Rattle.nv_plain.specs.Layouts.{mount_layout}
 use Rattle.nv_plain.specs.Modes.{can_read}
 use Rattle.nv_plain.specs.Pieces.{pages_touched}
 use Rattle.nv_plain.specs.declared.call.FileCall.{FileCall}
@@ -63,8 +63,8 @@ faults_other (work ∷ later) = either (fault_by work.cell work.ending) (fault_i
 
 range_other : (sizes : Sizes) (at len : ℕ) → IsOther (early_range_refusal sizes at len)
 range_other sizes at len =
-    choice (nat_lt (sizes.page * sizes.pages) (at + len)) (Some TooFar) (if nat_lt (min version_1.group_limit sizes.entries) (pages_touched at len sizes.page) then Some TooLong else None) tt
-    (choice (nat_lt (min version_1.group_limit sizes.entries) (pages_touched at len sizes.page)) (Some TooLong) None tt tt)
+    choice (nat_lt (sizes.page * sizes.pages) (at + len)) (Some TooFar) (if nat_lt (min mount_layout.group_limit sizes.entries) (pages_touched at len sizes.page) then Some TooLong else None) tt
+    (choice (nat_lt (min mount_layout.group_limit sizes.entries) (pages_touched at len sizes.page)) (Some TooLong) None tt tt)
 
 pub early_other : (sizes : Sizes) (fds : List Fd) (fd at len : ℕ) → IsOther (early_refusal can_read sizes fds fd at len)
 early_other sizes fds fd at len = by (slice_get fds fd)

@@ -3,7 +3,7 @@ use Rattle.std.proofs.Common.{◌≡◌, ◌≢◌, ◌⊎◌, inl, inr, ℕ, �
 use Rattle.std.proofs.lemmas.Bool.{cases_eq}
 use Rattle.std.specs.Prelude.{Option, Some, None, Result, Ok, Err, min}
 use Rattle.std.specs.List.{slice_get}
-use Rattle.nv_plain.specs.Layouts.{version_1}
+use Rattle.nv_plain.specs.Layouts.{mount_layout}
 use Rattle.nv_plain.specs.Modes.{can_write}
 use Rattle.nv_plain.specs.Pieces.{pages_touched}
 use Rattle.nv_plain.specs.declared.call.FileCall.{FileCall}
@@ -434,8 +434,8 @@ early_plain P none bad far long sizes fds fd at len = by (slice_get fds fd)
   where
     range : P (early_range_refusal sizes at len)
     range =
-        choice P (nat_lt (sizes.page * sizes.pages) (at + len)) (Some TooFar) (if nat_lt (min version_1.group_limit sizes.entries) (pages_touched at len sizes.page) then Some TooLong else None) far
-        (choice P (nat_lt (min version_1.group_limit sizes.entries) (pages_touched at len sizes.page)) (Some TooLong) None long none)
+        choice P (nat_lt (sizes.page * sizes.pages) (at + len)) (Some TooFar) (if nat_lt (min mount_layout.group_limit sizes.entries) (pages_touched at len sizes.page) then Some TooLong else None) far
+        (choice P (nat_lt (min mount_layout.group_limit sizes.entries) (pages_touched at len sizes.page)) (Some TooLong) None long none)
 
     by : (one : Option Fd) → P (early_fd_refusal can_write sizes one at len)
     by None = bad

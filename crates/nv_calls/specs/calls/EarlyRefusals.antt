@@ -1,7 +1,7 @@
 -- Early refusals: reads and writes that are refused before their first step, by what they ask for alone.
 use Rattle.std.specs.Prelude.{◌≡◌, ℕ, ◌+◌, ◌*◌, ◌<◌, ◌≤◌, Bool, nat_lt, min, if◌then◌else◌, List, Option, Some, None, Result, Ok, Err}
 use Rattle.std.specs.List.{slice_get}
-use Rattle.nv_plain.specs.Layouts.{version_1}
+use Rattle.nv_plain.specs.Layouts.{mount_layout}
 use Rattle.nv_plain.specs.Pieces.{pages_touched}
 use Rattle.nv_plain.specs.declared.mode.Mode.{Mode}
 use Rattle.nv_core.specs.state.Words.{Sizes}
@@ -14,14 +14,14 @@ use Rattle.nv_calls.specs.fsync.SyncRuns.{file_of_fd}
 abbrev pub early_range_refusal : Sizes → (at len : ℕ) → Option Refusal
 early_range_refusal sizes at len =
     if nat_lt (sizes.page * sizes.pages) (at + len) then Some TooFar
-    else (if nat_lt (min version_1.group_limit sizes.entries) (pages_touched at len sizes.page) then Some TooLong
+    else (if nat_lt (min mount_layout.group_limit sizes.entries) (pages_touched at len sizes.page) then Some TooLong
     else None)
 
 -- A range that is not refused so lies in a file, and touches no more pages than a group has entries.
 pub record IsInRange (sizes : Sizes) (at len : ℕ) : Type 0 where
   pub early : early_range_refusal sizes at len ≡ None
   pub near : at + len ≤ sizes.page * sizes.pages
-  pub short : pages_touched at len sizes.page ≤ min version_1.group_limit sizes.entries
+  pub short : pages_touched at len sizes.page ≤ min mount_layout.group_limit sizes.entries
 
 abbrev pub RangeIsAdmitted : Sizes → (at len : ℕ) → Result (Unit {0}) Refusal → Type 0
 RangeIsAdmitted sizes at len (Ok done) = IsInRange sizes at len
@@ -43,7 +43,7 @@ pub record IsAdmitted (may : Mode → Bool) (sizes : Sizes) (fds : List Fd) (fd 
   pub file_is : file_of_fd fds fd ≡ Some file
   pub known : file < sizes.files
   pub near : at + len ≤ sizes.page * sizes.pages
-  pub short : pages_touched at len sizes.page ≤ min version_1.group_limit sizes.entries
+  pub short : pages_touched at len sizes.page ≤ min mount_layout.group_limit sizes.entries
 
 abbrev pub Admits : (may : Mode → Bool) → Sizes → List Fd → (fd at len : ℕ) → Result ℕ Refusal → Type 0
 Admits may sizes fds fd at len (Ok file) = IsAdmitted may sizes fds fd at len file

@@ -3,7 +3,7 @@ use Rattle.std.proofs.Common.{◌≡◌, ℕ, ◌+◌, ◌==◌, if◌then◌els
 use Rattle.std.specs.Prelude.{slice_index_or}
 use Rattle.std.proofs.lemmas.Bool.{eqb-true}
 use Rattle.nv_plain.specs.Images.{Image, PartImage}
-use Rattle.nv_plain.specs.Layouts.{version_1}
+use Rattle.nv_plain.specs.Layouts.{mount_layout}
 use Rattle.nv_pmem.specs.Limits.{IsPageSize}
 use Rattle.nv_pmem.specs.Part.{Part}
 use Rattle.nv_pmem.specs.Images.{IsPartImage, InEachPartImage}
@@ -20,8 +20,8 @@ use Rattle.nv_core.proofs.state.Choices.{if_both, when_true}
 use Rattle.nv_core.proofs.log.ImageLaws.{part_one}
 use Rattle.nv_core.proofs.crash.CrashRegions.{reads_alike}
 
-module _ (loads : LoadsAreAnImage) (mount : Mount) (names : List (List ℕ)) (parts : List Part) (rest : IsAtRest version_1 mount.sizes.page mount.sizes.entries names mount.next parts) (row : KeepRow mount.sizes mount.values parts) where
-  reads : ReadsAs version_1 mount.sizes.page mount.sizes.entries names mount.next (row_words parts)
+module _ (loads : LoadsAreAnImage) (mount : Mount) (names : List (List ℕ)) (parts : List Part) (rest : IsAtRest mount_layout mount.sizes.page mount.sizes.entries names mount.next parts) (row : KeepRow mount.sizes mount.values parts) where
+  reads : ReadsAs mount_layout mount.sizes.page mount.sizes.entries names mount.next (row_words parts)
   reads = (rest.empty (row_words parts) record { each = λ i. loads (slice_index_or parts i []) }).header
 
   page : IsPageSize mount.sizes.page
@@ -47,8 +47,8 @@ module _ (loads : LoadsAreAnImage) (mount : Mount) (names : List (List ℕ)) (pa
       (rest.empty (one_else (1 + slot) image) (one_else_is (1 + slot) image is)).log.uncommitted number low
       (ap (λ k. one_else (1 + slot) image (1 + k) 0 0) slots ∙ ap (λ p. p 0 0) (one_here (1 + slot) image) ∙ commit)
 
-  told : (part : Part) → IsPart (mount.values HEADER) part → ReadsAs version_1 mount.sizes.page mount.sizes.entries names mount.next (header_image part)
-  told part is = subst (λ p. ReadsAs version_1 mount.sizes.page mount.sizes.entries names mount.next (header_image p)) (part_one (mount.values HEADER) (slice_index_or parts 0 []) part row.header is)
+  told : (part : Part) → IsPart (mount.values HEADER) part → ReadsAs mount_layout mount.sizes.page mount.sizes.entries names mount.next (header_image part)
+  told part is = subst (λ p. ReadsAs mount_layout mount.sizes.page mount.sizes.entries names mount.next (header_image p)) (part_one (mount.values HEADER) (slice_index_or parts 0 []) part row.header is)
       (reads_alike mount.sizes names mount.next (header_image (slice_index_or parts 0 [])) (row_words parts) (λ line word. refl) reads)
 
 pub regions_at_rest_open : LoadsAreAnImage → RegionsAtRestOpen

@@ -9,7 +9,7 @@ use Rattle.std.proofs.lemmas.List.FromFn.{length-map-range_with_len}
 use Rattle.nv_plain.specs.Files.{Files, contents_of, with_contents, overwritten}
 use Rattle.nv_plain.specs.Calls.{files_after}
 use Rattle.nv_plain.specs.Images.{Image, Entry, header_of, name_of, entry_of, entry_at as image_entry, slot_part, data_of}
-use Rattle.nv_plain.specs.Layouts.{version_1}
+use Rattle.nv_plain.specs.Layouts.{mount_layout}
 use Rattle.nv_plain.specs.Pieces.{pages_touched, piece_of}
 use Rattle.nv_plain.specs.Recovered.{IsFollower, IsPiece, GoesOn, IsGroup, Fits, group_numbers, with_entry}
 use Rattle.nv_plain.specs.declared.call.FileCall.{FileCall}
@@ -39,7 +39,7 @@ use Rattle.nv_core.proofs.crash.CrashPieces.{piece_some, piece_in, piece_page, p
 
 -- ---- a whole group in an image whose header reads so
 
-module _ (sizes : Sizes) (names : List (List ℕ)) (tail : ℕ) (image : Image) (reads : ReadsAs version_1 sizes.page sizes.entries names tail image) where
+module _ (sizes : Sizes) (names : List (List ℕ)) (tail : ℕ) (image : Image) (reads : ReadsAs mount_layout sizes.page sizes.entries names tail image) where
   pub some_entries : 1 ≤ sizes.entries
   some_entries = let e = reads.readable.fields.entries.least in let i = reads.entries_is in omega (arith, e, i)
 
@@ -48,7 +48,7 @@ module _ (sizes : Sizes) (names : List (List ℕ)) (tail : ℕ) (image : Image) 
 
   files_known : (header_of image).files ≡ length names
   unfolding first_names
-  files_known = sym (length-map-range_with_len (name_of version_1 image) 0 (header_of image).files) ∙ ap length reads.names_are
+  files_known = sym (length-map-range_with_len (name_of mount_layout image) 0 (header_of image).files) ∙ ap length reads.names_are
 
   -- the part of a number, and its entry
   pub part_is : (n : ℕ) → slot_part image n ≡ image (1 + slot_of_entry sizes n)
@@ -92,8 +92,8 @@ module _ (sizes : Sizes) (names : List (List ℕ)) (tail : ℕ) (image : Image) 
     first_file : (image_entry image first).file ≡ file
     first_file = subst (λ n. (image_entry image n).file ≡ file) (add-zero first) (file_at 0 some_count)
 
-    module _ (allowed : IsAllowed sizes (Write file at bytes)) (pages : sizes.pages ≤ version_1.page_limit) (files : length names ≡ sizes.files) where
-      piece_fits : (i : ℕ) → i < count → IsPiece version_1 image first (first + i)
+    module _ (allowed : IsAllowed sizes (Write file at bytes)) (pages : sizes.pages ≤ mount_layout.page_limit) (files : length names ≡ sizes.files) where
+      piece_fits : (i : ℕ) → i < count → IsPiece mount_layout image first (first + i)
       piece_fits i less =
           let f = file_at i less in
           let a = at_at i less in
@@ -102,7 +102,7 @@ module _ (sizes : Sizes) (names : List (List ℕ)) (tail : ℕ) (image : Image) 
           let one = piece_some at (length bytes) sizes.page some_page write i less in
           let inside = piece_in at (length bytes) sizes.page some_page write i less in
           let near = allowed.near in
-          let limit : sizes.pages * sizes.page ≤ version_1.page_limit * sizes.page = mul-le-mul_right sizes.page pages in
+          let limit : sizes.pages * sizes.page ≤ mount_layout.page_limit * sizes.page = mul-le-mul_right sizes.page pages in
           record {
             known = let k = allowed.known in let h = files_known in omega (arith, f, k, h, files);
             same = f ∙ sym first_file;
@@ -112,17 +112,17 @@ module _ (sizes : Sizes) (names : List (List ℕ)) (tail : ℕ) (image : Image) 
                 (subst (λ x. (piece_of at (length bytes) sizes.page i).at % (header_of image).page + x ≤ (header_of image).page) (sym s)
                 (subst (λ x. (piece_of at (length bytes) sizes.page i).at % x + (piece_of at (length bytes) sizes.page i).size ≤ x) (sym p)
                 (piece_page at (length bytes) sizes.page some_page write i less)));
-            in_file = subst (λ x. (image_entry image (first + i)).at + (image_entry image (first + i)).size ≤ x * version_1.page_limit) (sym p) (omega (arith, a, s, inside, near, limit));
+            in_file = subst (λ x. (image_entry image (first + i)).at + (image_entry image (first + i)).size ≤ x * mount_layout.page_limit) (sym p) (omega (arith, a, s, inside, near, limit));
           }
 
-      pub group_fits : first + count ≤ tail + sizes.entries → first + count ≤ 2 ^ 60 → IsGroup version_1 image first
+      pub group_fits : first + count ≤ tail + sizes.entries → first + count ≤ 2 ^ 60 → IsGroup mount_layout image first
       group_fits within small =
           let c = count_is in
           let e = reads.entries_is in
           record {
             first = record {
               some = let s = some_count in omega (arith, c, s);
-              few = subst (λ x. (image_entry image first).count ≤ min version_1.group_limit x) (sym e) (subst (λ x. x ≤ min version_1.group_limit sizes.entries) (sym c) allowed.short);
+              few = subst (λ x. (image_entry image first).count ≤ min mount_layout.group_limit x) (sym e) (subst (λ x. x ≤ min mount_layout.group_limit sizes.entries) (sym c) allowed.short);
               in_window = let t = reads.tail_is in omega (arith, c, e, t, within);
               small = omega (arith, c, small);
               own = subst (λ n. (image_entry image n).leader ≡ first) (add-zero first) (leader_at 0 some_count);
@@ -133,7 +133,7 @@ module _ (sizes : Sizes) (names : List (List ℕ)) (tail : ℕ) (image : Image) 
                   of = leader_at i less;
                   uncommitted = λ commit. whole.followers i (omega (arith, behind)) less (ap (λ (x : Entry). x.commit) (sym (entry_is (first + i))) ∙ commit);
                 }) n inside.first (omega (arith, last, c)) past;
-            pieces = λ n inside. let last = inside.last in each_number (IsPiece version_1 image first) piece_fits n inside.first (omega (arith, last, c));
+            pieces = λ n inside. let last = inside.last in each_number (IsPiece mount_layout image first) piece_fits n inside.first (omega (arith, last, c));
             in_a_row = λ n low inside. let last = inside.last in
                 each_number (λ m. m + 1 < first + count → GoesOn image m) (λ i less more.
                 let f : first + i + 1 ≡ first + (i + 1) = omega arith in
@@ -189,7 +189,7 @@ module _ (plain : PlainLaws) (sizes : Sizes) (first : Values) (opened : Files) (
   pub tail_low : core.words TAIL ≤ tail
   tail_low = let n = least_low in let l = region.low in omega (arith, n, l)
 
-  pub reads : ReadsAs version_1 sizes.page sizes.entries names tail image
+  pub reads : ReadsAs mount_layout sizes.page sizes.entries names tail image
   reads = region.header image is
 
   -- a number that reads as committed is no lower than the tail, and its commit word is its own
@@ -218,7 +218,7 @@ module _ (plain : PlainLaws) (sizes : Sizes) (first : Values) (opened : Files) (
       let drawn = (content.groups.each n leads.within).drawn in
       call_whole (log.group n).call n (subst (λ c. 1 ≤ c) drawn.many drawn.some) committed (images.groups n leads.within (le_trans least_low (low_if n committed)) leads.leads image is)
 
-  group_of_call : (call : FileCall) (n : ℕ) → ReadsWhole sizes call n image → is_write call ≡ true → IsAllowed sizes call → n + page_count sizes call ≤ tail + sizes.entries → n + page_count sizes call ≤ 2 ^ 60 → IsGroup version_1 image n
+  group_of_call : (call : FileCall) (n : ℕ) → ReadsWhole sizes call n image → is_write call ≡ true → IsAllowed sizes call → n + page_count sizes call ≤ tail + sizes.entries → n + page_count sizes call ≤ 2 ^ 60 → IsGroup mount_layout image n
   group_of_call (Write file at bytes) n whole write allowed within small =
       group_fits sizes names tail image reads n file at bytes (ltb-true 0 (length bytes) write) whole allowed region.pages region.files within small
   group_of_call (Read file at len) n whole write allowed within small = absurd whole
@@ -261,7 +261,7 @@ module _ (plain : PlainLaws) (sizes : Sizes) (first : Values) (opened : Files) (
   pub ready_committed : (n : ℕ) → InWindow core n → tail ≤ n → (log.group n).first ≡ n → was_readied (entry_word_at sizes core n) ≡ true → is_committed sizes image n ≡ true
   ready_committed n within low leads kind = committed_of (log.group n).call n low (images.whole n within (le_trans least_low low) leads kind image is)
 
-  pub image_fits : Fits version_1 image
+  pub image_fits : Fits mount_layout image
   image_fits n commits =
       let low : tail ≤ n = let t = reads.tail_is in let f = commits.from_tail in omega (arith, t, f) in
       let committed : is_committed sizes image n ≡ true = sym (test_is n low) ∙ eq-eqb (image_entry image n).commit (n + 1) commits.commit in

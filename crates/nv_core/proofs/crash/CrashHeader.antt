@@ -4,7 +4,7 @@ use Rattle.std.specs.Prelude.{map, IsTrue}
 use Rattle.std.specs.Int.{to_le_bytes, w64}
 use Rattle.std.specs.List.{flat_map, range_with_len}
 use Rattle.nv_plain.specs.Images.{Image, PartImage, header_of, name_of}
-use Rattle.nv_plain.specs.Layouts.{version_1}
+use Rattle.nv_plain.specs.Layouts.{mount_layout}
 use Rattle.nv_pmem.specs.Limits.{IsPageSize, IsEntryCount}
 use Rattle.nv_pmem.specs.Part.{Part}
 use Rattle.nv_header.specs.Heads.{first_names, is_record, length_of, room_of_name}
@@ -29,7 +29,7 @@ with_header header image zero = header
 with_header header image (suc slot) = image (suc slot)
 
 module _ (sizes : Sizes) (names : List (List ℕ)) (tails : Tails) (log : Log) (core : Core) (region : HasRegion sizes names tails log core) (image : Image) (is : IsRegionImage sizes core.values image) where
-  unreadable : ReadsAs version_1 sizes.page sizes.entries names 0 (with_header (λ line word. 0) image) → ⊥
+  unreadable : ReadsAs mount_layout sizes.page sizes.entries names 0 (with_header (λ line word. 0) image) → ⊥
   unreadable reads = let e = reads.readable.fields.page.least in omega (arith, e)
 
   -- else an image could have a header that can't be read
@@ -75,21 +75,21 @@ module _ (image other : Image) (same : (line word : ℕ) → (line ≢ 1) ⊎ (w
       let bytes : ◌≡◌ {A = ℕ → List ℕ} (λ (k : ℕ). to_le_bytes w64 (image 0 (2 + i * 1 + k / 8) (k % 8))) (λ (k : ℕ). to_le_bytes w64 (other 0 (2 + i * 1 + k / 8) (k % 8))) = λ at k. to_le_bytes w64 (words k at) in
       ap (λ f. flat_map f (range_with_len 1 7)) bytes
 
-  name_same : (i : ℕ) → name_of version_1 image i ≡ name_of version_1 other i
+  name_same : (i : ℕ) → name_of mount_layout image i ≡ name_of mount_layout other i
   name_same i = ap₂ take (in_names (2 + i * 1) 0 (omega arith)) (room_same i)
 
-  names_same : ◌≡◌ {A = ℕ → List ℕ} (name_of version_1 image) (name_of version_1 other)
+  names_same : ◌≡◌ {A = ℕ → List ℕ} (name_of mount_layout image) (name_of mount_layout other)
   names_same = λ at i. name_same i at
 
-  record_same : (i : ℕ) → is_record version_1.name_limit (length_of version_1 image i) (room_of_name version_1 image i) ≡ is_record version_1.name_limit (length_of version_1 other i) (room_of_name version_1 other i)
-  record_same i = ap₂ (is_record version_1.name_limit) (in_names (2 + i * 1) 0 (omega arith)) (room_same i)
+  record_same : (i : ℕ) → is_record mount_layout.name_limit (length_of mount_layout image i) (room_of_name mount_layout image i) ≡ is_record mount_layout.name_limit (length_of mount_layout other i) (room_of_name mount_layout other i)
+  record_same i = ap₂ (is_record mount_layout.name_limit) (in_names (2 + i * 1) 0 (omega arith)) (room_same i)
 
-  firsts_same : first_names version_1 image (header_of image).files ≡ first_names version_1 other (header_of other).files
+  firsts_same : first_names mount_layout image (header_of image).files ≡ first_names mount_layout other (header_of other).files
   unfolding first_names
   firsts_same = ap₂ (λ f n. map f (range_with_len 0 n)) names_same (in_first 4)
 
   -- The one reads as the other does, but for its own tail.
-  pub reads_but_tail : (sizes : Sizes) (names : List (List ℕ)) (tail : ℕ) → image 0 1 0 ≤ 2 ^ 60 → ReadsAs version_1 sizes.page sizes.entries names tail other → ReadsAs version_1 sizes.page sizes.entries names (image 0 1 0) image
+  pub reads_but_tail : (sizes : Sizes) (names : List (List ℕ)) (tail : ℕ) → image 0 1 0 ≤ 2 ^ 60 → ReadsAs mount_layout sizes.page sizes.entries names tail other → ReadsAs mount_layout sizes.page sizes.entries names (image 0 1 0) image
   reads_but_tail sizes names tail small reads = record {
     readable = record {
       long_enough = reads.readable.long_enough;
@@ -98,7 +98,7 @@ module _ (image other : Image) (same : (line word : ℕ) → (line ≢ 1) ⊎ (w
         version_is = in_first 1 ∙ reads.readable.fields.version_is;
         page = subst IsPageSize (sym (in_first 2)) reads.readable.fields.page;
         entries = subst IsEntryCount (sym (in_first 3)) reads.readable.fields.entries;
-        files = subst (λ n. n ≤ version_1.file_limit) (sym (in_first 4)) reads.readable.fields.files;
+        files = subst (λ n. n ≤ mount_layout.file_limit) (sym (in_first 4)) reads.readable.fields.files;
         tail = small;
       };
       names = λ i less. let good = reads.readable.names i (subst (λ n. i < n) (in_first 4) less) in record {

@@ -2,7 +2,7 @@
 use Rattle.std.proofs.Common.{◌≡◌, ℕ, zero, suc, ◌+◌, ◌==◌, ◌^◌, ◌≤◌, Bool, true, false, List, [], length, Option, Some, None, inl, inr, refl, sym, ap, subst, ◌∙◌, arith, le_trans}
 use Rattle.std.specs.Prelude.{option_map}
 use Rattle.nv_plain.specs.Images.{Image, PartImage}
-use Rattle.nv_plain.specs.Layouts.{version_1}
+use Rattle.nv_plain.specs.Layouts.{mount_layout}
 use Rattle.nv_plain.specs.Files.{Files}
 use Rattle.nv_plain.specs.declared.call.FileCall.{FileCall}
 use Rattle.nv_pmem.specs.Part.{Part, part_word}
@@ -42,10 +42,10 @@ use Rattle.nv_core.proofs.crash.CrashHeader.{header_tells, reads_but_tail}
 
 -- what is read of the header is read of part 0, word by word
 pub reads_alike : (sizes : Sizes) (names : List (List ℕ)) (tail : ℕ) (image other : Image) → ((line word : ℕ) → image 0 line word ≡ other 0 line word)
-    → ReadsAs version_1 sizes.page sizes.entries names tail other → ReadsAs version_1 sizes.page sizes.entries names tail image
+    → ReadsAs mount_layout sizes.page sizes.entries names tail other → ReadsAs mount_layout sizes.page sizes.entries names tail image
 unfolding first_names
 reads_alike sizes names tail image other same reads =
-    let alone : ReadsAs version_1 sizes.page sizes.entries names tail (λ part. other 0) = record {
+    let alone : ReadsAs mount_layout sizes.page sizes.entries names tail (λ part. other 0) = record {
       readable = record {
         long_enough = reads.readable.long_enough;
         fields = reads.readable.fields;
@@ -56,9 +56,9 @@ reads_alike sizes names tail image other same reads =
       names_are = reads.names_are;
       tail_is = reads.tail_is;
     } in
-    let To : PartImage → Type 0 = λ header. ReadsAs version_1 sizes.page sizes.entries names tail (λ part. header) in
+    let To : PartImage → Type 0 = λ header. ReadsAs mount_layout sizes.page sizes.entries names tail (λ part. header) in
     let path : other 0 ≡ image 0 = λ at line word. sym (same line word) at in
-    let moved : ReadsAs version_1 sizes.page sizes.entries names tail (λ part. image 0) = subst To path alone in
+    let moved : ReadsAs mount_layout sizes.page sizes.entries names tail (λ part. image 0) = subst To path alone in
     record {
       readable = record {
         long_enough = moved.readable.long_enough;
@@ -205,7 +205,7 @@ module _ (laws : LogLaws) (sizes : Sizes) (first : Values) (opened : Files) (nam
 
   -- a header that has no other tail than these, and else reads as it did
   header_reads : (values : Values) (after : Tails) → HeaderStays core.values after values → AreWithin (core.words TAIL) (core.words HEAD) after → (part : Part) → IsPart (values HEADER) part
-      → InEachImageOf sizes values (λ image. ReadsAs version_1 sizes.page sizes.entries names (image 0 1 0) image)
+      → InEachImageOf sizes values (λ image. ReadsAs mount_layout sizes.page sizes.entries names (image 0 1 0) image)
   header_reads values after stays within part told image is =
       let small : (n : ℕ) → image 0 1 0 ≡ n → n ≤ core.words HEAD → image 0 1 0 ≤ 2 ^ 60 = λ n e high. subst (λ m. m ≤ 2 ^ 60) (sym e) (le_trans high sound.window.small) in
       reads_but_tail image (region_of part_word core.values) (λ line word off. stays.words now_told.0 part now_told.1 told (image 0) (is.header part told) line word off ∙ sym (here line word))

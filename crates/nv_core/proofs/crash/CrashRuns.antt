@@ -2,7 +2,7 @@
 use Rattle.std.proofs.Common.{◌≡◌, ℕ, Bool, List, [], ◌∷◌, length, sym, ap, subst, arith}
 use Rattle.std.specs.Prelude.{slice_index}
 use Rattle.nv_plain.specs.Files.{Files}
-use Rattle.nv_plain.specs.Layouts.{version_1}
+use Rattle.nv_plain.specs.Layouts.{mount_layout}
 use Rattle.nv_pmem.specs.Limits.{IsPageSize}
 use Rattle.nv_pmem.specs.Part.{part_word}
 use Rattle.nv_pmem.specs.Laws.{QuietPartHasOneImage}
@@ -41,7 +41,7 @@ opening_has_region one_image mount files names log opens has region = record {
   header = λ image is.
       let same : (line word : ℕ) → image 0 line word ≡ part_word opens.header.part line word = λ line word. one_image opens.header.part (image 0) line word (opens.header.quiet.lines line) (is.header opens.header.part opens.header.is) in
       let reads = reads_alike mount.sizes names mount.next image (header_image opens.header.part) same (region.header opens.header.part opens.header.is) in
-      subst (λ t. ReadsAs version_1 mount.sizes.page mount.sizes.entries names t image) (sym reads.tail_is) reads;
+      subst (λ t. ReadsAs mount_layout mount.sizes.page mount.sizes.entries names t image) (sym reads.tail_is) reads;
   files = region.files;
   pages = region.pages;
   low = omega arith;

@@ -4,7 +4,7 @@ use Rattle.std.specs.Prelude.{Some, None}
 use Rattle.std.proofs.Math.Numerals.{add-one}
 use Rattle.std.proofs.lemmas.Bool.{eqb-true, cases_eq}
 use Rattle.std.proofs.lemmas.List.{drop_all}
-use Rattle.nv_plain.specs.Layouts.{version_1}
+use Rattle.nv_plain.specs.Layouts.{mount_layout}
 use Rattle.nv_plain.specs.declared.call.FileCall.{FileCall}
 use Rattle.nv_pmem.specs.Room.{Room}
 use Rattle.nv_pmem.specs.RoomSteps.{EndWith}
@@ -40,7 +40,7 @@ use Rattle.nv_core.proofs.invariant.ControlFactLaws.{worked_control}
 use Rattle.nv_core.proofs.steps.CleanerControls.{tended}
 
 -- a header's part with room has it again once its tail is moved
-tails_end_roomy : (tail : ℕ) (room : Room) → IsRoomy version_1.header_lines room → EndWith (IsRoomy version_1.header_lines) (tail_steps tail) room
+tails_end_roomy : (tail : ℕ) (room : Room) → IsRoomy mount_layout.header_lines room → EndWith (IsRoomy mount_layout.header_lines) (tail_steps tail) room
 unfolding durable_store
 tails_end_roomy tail room roomy = λ stored take flushed flush now fence. record {
   there = let a = roomy.there in let b = take.lines in let c = flush.0.lines in let d = fence.0.lines in omega (arith, a, b, c, d);

@@ -1,7 +1,7 @@
 -- The walks' mount opens a file and an empty log.
 use Rattle.std.proofs.Common.{◌≡◌, ℕ, zero, suc, ◌+◌, ◌<◌, nat_lt, false, List, [], ◌∷◌, length, replicate, slice_index_or, Option, Some, None, refl, sym, ap, subst, ◌∙◌, arith}
 use Rattle.nv_plain.specs.Files.{contents_of}
-use Rattle.nv_plain.specs.Layouts.{version_1}
+use Rattle.nv_plain.specs.Layouts.{mount_layout}
 use Rattle.nv_header.specs.Heads.{IsGoodName, first_names, header_image}
 use Rattle.nv_header.specs.Regions.{ReadsAs}
 use Rattle.nv_store.specs.Store.{Store, quiet_store, is_unsynced}
@@ -84,7 +84,7 @@ module _ (blank : BlankIsQuiet) where
 
 -- ---- the region
 
-one_name : (i : ℕ) → i < 1 → IsGoodName version_1 (header_image walk_header) i
+one_name : (i : ℕ) → i < 1 → IsGoodName mount_layout (header_image walk_header) i
 unfolding newest word_at
 one_name zero less = record { whole = refl; new = λ j below. absurd (omega (arith, below)) }
 one_name (suc i) less = absurd (omega (arith, less))
@@ -92,7 +92,7 @@ one_name (suc i) less = absurd (omega (arith, less))
 told_header : (part : Part) → Some walk_header ≡ Some part → walk_header ≡ part
 told_header part e = cc
 
-header_reads : ReadsAs version_1 64 16 ((97 ∷ []) ∷ []) 0 (header_image walk_header)
+header_reads : ReadsAs mount_layout 64 16 ((97 ∷ []) ∷ []) 0 (header_image walk_header)
 unfolding newest word_at first_names
 header_reads = record {
   readable = record {
@@ -131,7 +131,7 @@ quiet_stores (suc file) store told = absurd (cc)
 
 pub walk_opens_region : WalkOpensRegion
 walk_opens_region = record {
-  header = λ part is. subst (λ p. ReadsAs version_1 64 16 ((97 ∷ []) ∷ []) 0 (header_image p)) (told_header part is) header_reads;
+  header = λ part is. subst (λ p. ReadsAs mount_layout 64 16 ((97 ∷ []) ∷ []) 0 (header_image p)) (told_header part is) header_reads;
   files = refl;
   pages = omega arith;
   quiet = record { each = quiet_stores };

@@ -2,7 +2,7 @@
 use Rattle.std.specs.Prelude.{◌≡◌, ◌↔◌, ℕ, ◌+◌, ◌-◌, ◌<◌, ◌≤◌, ◌==◌, ◌&&◌, ◌||◌, nat_le, not, Bool, true, List, ◌++◌, length, Some}
 use Rattle.nv_plain.specs.Files.{Files, contents_of}
 use Rattle.nv_plain.specs.Images.{Image, entry_of}
-use Rattle.nv_plain.specs.Layouts.{version_1}
+use Rattle.nv_plain.specs.Layouts.{mount_layout}
 use Rattle.nv_plain.specs.Recovered.{Fits, recovered}
 use Rattle.nv_plain.specs.declared.call.FileCall.{FileCall}
 use Rattle.nv_pmem.specs.Part.{Part}
@@ -72,7 +72,7 @@ pub data IsFated (sizes : Sizes) (log : Log) (placed : ℕ → Bool) (core : Cor
 -- It fits. It recovers to the files after the history and then those writes, each write in flight with its fate. The first number is no lower
 -- than TAIL, and the next one no higher than HEAD.
 pub record Survives (sizes : Sizes) (opened : Files) (log : Log) (placed : ℕ → Bool) (core : Core) (image : Image) (bytes : Files) : Type 0 where
-  pub fits : Fits version_1 image
+  pub fits : Fits mount_layout image
   pub files : (recovered image bytes).files ≡ after_calls (calls_of core.history ++ added_writes sizes log placed core image) opened
   pub fates : (number : ℕ) → InWindow core number → is_in_flight log placed number ≡ true
       → IsFated sizes log placed core image (recovered image bytes).first (recovered image bytes).groups number
@@ -95,9 +95,9 @@ pub record StoresQuiet (values : Values) : Type 0 where
 -- tail. A file has no more pages than a region allows. No tail of the header is lower than TAIL. What of the stores isn't durable lies in
 -- pieces that each image of the log has.
 pub record HasRegion (sizes : Sizes) (names : List (List ℕ)) (tails : Tails) (log : Log) (core : Core) : Type 0 where
-  pub header : InEachImageOf sizes core.values (λ image. ReadsAs version_1 sizes.page sizes.entries names (image 0 1 0) image)
+  pub header : InEachImageOf sizes core.values (λ image. ReadsAs mount_layout sizes.page sizes.entries names (image 0 1 0) image)
   pub files : length names ≡ sizes.files
-  pub pages : sizes.pages ≤ version_1.page_limit
+  pub pages : sizes.pages ≤ mount_layout.page_limit
   pub low : core.words TAIL ≤ tails.least
   pub persistent : PersistentTail sizes tails.next log core
 
@@ -144,9 +144,9 @@ EventsKeepRegion =
 
 -- A mount opens a region with these names: its header reads so, its tail is the next number, and the stores are durable.
 pub record OpensRegion (mount : Mount) (names : List (List ℕ)) : Type 0 where
-  pub header : (part : Part) → IsPart (mount.values HEADER) part → ReadsAs version_1 mount.sizes.page mount.sizes.entries names mount.next (header_image part)
+  pub header : (part : Part) → IsPart (mount.values HEADER) part → ReadsAs mount_layout mount.sizes.page mount.sizes.entries names mount.next (header_image part)
   pub files : length names ≡ mount.sizes.files
-  pub pages : mount.sizes.pages ≤ version_1.page_limit
+  pub pages : mount.sizes.pages ≤ mount_layout.page_limit
   pub quiet : StoresQuiet mount.values
 
 -- The region is there at opening, whatever log one begins with.

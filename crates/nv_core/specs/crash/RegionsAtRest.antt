@@ -1,6 +1,6 @@
 -- Regions at rest: a mount over the parts of one opens its log and its region.
 use Rattle.std.specs.Prelude.{◌≡◌, ℕ, ◌+◌, ◌<◌, ◌≤◌, List, [], length, slice_index_or}
-use Rattle.nv_plain.specs.Layouts.{version_1}
+use Rattle.nv_plain.specs.Layouts.{mount_layout}
 use Rattle.nv_pmem.specs.Limits.{entry_lines}
 use Rattle.nv_pmem.specs.Part.{Part}
 use Rattle.nv_header.specs.Regions.{IsAtRest}
@@ -22,6 +22,6 @@ pub record KeepRow (sizes : Sizes) (values : Values) (parts : List Part) : Type 
 abbrev pub RegionsAtRestOpen : Type 0
 RegionsAtRestOpen =
     (mount : Mount) (names : List (List ℕ)) (parts : List Part)
-    → IsAtRest version_1 mount.sizes.page mount.sizes.entries names mount.next parts → KeepRow mount.sizes mount.values parts
-    → length names ≡ mount.sizes.files → mount.sizes.pages ≤ version_1.page_limit → StoresQuiet mount.values
+    → IsAtRest mount_layout mount.sizes.page mount.sizes.entries names mount.next parts → KeepRow mount.sizes mount.values parts
+    → length names ≡ mount.sizes.files → mount.sizes.pages ≤ mount_layout.page_limit → StoresQuiet mount.values
     → OpensLog mount mount.next × OpensRegion mount names

@@ -1,6 +1,6 @@
 -- Rooms: which parts can take the stores of an entry, or of the header's tail.
 use Rattle.std.specs.Prelude.{◌≡◌, ℕ, zero, suc, ◌-◌, ◌<◌, true, List, [], drop}
-use Rattle.nv_plain.specs.Layouts.{version_1}
+use Rattle.nv_plain.specs.Layouts.{mount_layout}
 use Rattle.nv_pmem.specs.RoomSteps.{EndWith}
 use Rattle.nv_pmem.specs.Rows.{steps_on}
 use Rattle.nv_pmem.specs.Steps.{LineStep}
@@ -37,12 +37,12 @@ FillsReady sizes pass control number value = KeepsReady sizes value
 
 -- a cell keeps a header's part, and each of its lines can take 15 stores after some steps, whatever room they leave
 abbrev pub EndsRoomy : List LineStep → Value → Type 0
-EndsRoomy steps (APart device spares) = EndWith (IsRoomy version_1.header_lines) steps (room_of_spares spares)
+EndsRoomy steps (APart device spares) = EndWith (IsRoomy mount_layout.header_lines) steps (room_of_spares spares)
 EndsRoomy steps value = ⊥
 
 -- and so it is now
 abbrev pub KeepsRoomy : Value → Type 0
-KeepsRoomy (APart device spares) = IsRoomy version_1.header_lines (room_of_spares spares)
+KeepsRoomy (APart device spares) = IsRoomy mount_layout.header_lines (room_of_spares spares)
 KeepsRoomy value = ⊥
 
 -- a cleaner has begun to move the header's tail, or has met a fault, and not yet set STOP

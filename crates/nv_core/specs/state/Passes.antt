@@ -1,7 +1,7 @@
 -- Passes: a thread's view, its call at hand, and where in the order of steps it stands.
 use Rattle.std.specs.Prelude.{◌≡◌, ◌⊎◌, ℕ, ◌+◌, ◌-◌, ◌*◌, ◌/◌, ◌<◌, ◌≤◌, ◌==◌, nat_lt, min, Bool, false, if◌then◌else◌, List, [], ◌∷◌, length, slice_index}
 use Rattle.nv_plain.specs.Histories.{Answered}
-use Rattle.nv_plain.specs.Layouts.{version_1}
+use Rattle.nv_plain.specs.Layouts.{mount_layout}
 use Rattle.nv_plain.specs.Pieces.{pages_touched}
 use Rattle.nv_plain.specs.declared.call.FileCall.{FileCall}
 use Rattle.nv_plain.specs.declared.call.FileCall.TheVariants.{Read, Write, Sync}
@@ -170,7 +170,7 @@ AreBytes call = Unit {0}
 pub record IsAllowed (sizes : Sizes) (call : FileCall) : Type 0 where
   pub known : file_of call < sizes.files
   pub near : at_of call + len_of call ≤ sizes.page * sizes.pages
-  pub short : page_count sizes call ≤ min version_1.group_limit sizes.entries
+  pub short : page_count sizes call ≤ min mount_layout.group_limit sizes.entries
   pub bytes : AreBytes call
 
 -- ---- owned cells

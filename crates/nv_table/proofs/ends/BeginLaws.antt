@@ -2,7 +2,7 @@
 use Rattle.std.proofs.Common.{None, ◌≡◌, ℕ, ◌+◌, ◌^◌, ◌≤◌, List, [], length, map, refl, sym, arith}
 use Rattle.std.proofs.lemmas.List.{length-map}
 use Rattle.atomic_table.specs.Table.{opening as laid}
-use Rattle.nv_plain.specs.Layouts.{version_1}
+use Rattle.nv_plain.specs.Layouts.{mount_layout}
 use Rattle.nv_pmem.specs.Part.{Part}
 use Rattle.nv_pmem.specs.Room.{Room}
 use Rattle.nv_header.specs.Regions.{HasParts}
@@ -27,7 +27,7 @@ use Rattle.nv_table.proofs.ends.OpenLaws.{knows_nothing, opens_shows}
 pub begins : SparesTell → {L B : Type 0} (device : L → ℕ) (history : L → List Part) (faults : L → ℕ) (room : L → Room) (store : B → Value) (opening : Opening (Slot L B))
     (parts : List L) (stores : List B) (words : List ℕ)
     → MountIsWithinLimits (sizes_of opening.layout) → length stores ≡ opening.layout.files
-    → HasParts version_1 opening.layout.page opening.layout.entries (map room parts) → opening.next ≤ 2 ^ 60
+    → HasParts mount_layout opening.layout.page opening.layout.entries (map room parts) → opening.next ≤ 2 ^ 60
     → AreOpeningSlots (sizes_of opening.layout) parts stores opening.slots.items
     → AreOpeningWords (sizes_of opening.layout) opening.next opening.lengths.items words
     → TableInvariant (slot_value (part_value device history faults room) store) (opened_of (slot_value (part_value device history faults room) store) opening)

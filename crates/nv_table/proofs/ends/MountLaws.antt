@@ -3,7 +3,7 @@ use Rattle.std.proofs.Common.{◌≡◌, ℕ, zero, suc, ◌+◌, ◌^◌, ◌<�
 use Rattle.std.specs.Prelude.{Some, None}
 use Rattle.std.proofs.lemmas.Bool.{cases_lt}
 use Rattle.std.proofs.lemmas.List.{append_assoc, map-append, get_or-append_right, length-map, length-append, length-take-le}
-use Rattle.nv_plain.specs.Layouts.{version_1}
+use Rattle.nv_plain.specs.Layouts.{mount_layout}
 use Rattle.nv_pmem.specs.Limits.{entry_lines}
 use Rattle.nv_pmem.specs.Part.{Part}
 use Rattle.nv_pmem.specs.Room.{Room}
@@ -123,7 +123,7 @@ module _ {L B : Type 0} (device : L → ℕ) (history : L → List Part) (faults
 
   pub is_mount : SparesTell → (opened : Opened) (parts : List L) (stores : List B) (slots : List (Slot L B))
       → opened.slots ≡ map (slot_value (part_value device history faults room) store) slots → MountIsWithinLimits opened.sizes → length stores ≡ opened.sizes.files
-      → HasParts version_1 opened.sizes.page opened.sizes.entries (map room parts) → opened.next ≤ 2 ^ 60 → AreOpeningSlots opened.sizes parts stores slots
+      → HasParts mount_layout opened.sizes.page opened.sizes.entries (map room parts) → opened.next ≤ 2 ^ 60 → AreOpeningSlots opened.sizes parts stores slots
       → IsMount (mount_of opened)
   is_mount tell opened parts stores slots shows limits many has small are = record {
     small = small;
@@ -135,14 +135,14 @@ module _ {L B : Type 0} (device : L → ℕ) (history : L → List Part) (faults
     ready = λ slot less.
         let one = part_is (1 + slot) (omega arith) in
         let roomy = has.each (1 + slot) (room one.0) (omega arith) in
-        let lined : part_lines version_1 opened.sizes.page (1 + slot) ≡ entry_lines opened.sizes.page = ap (part_lines version_1 opened.sizes.page) (one_and slot) in
+        let lined : part_lines mount_layout opened.sizes.page (1 + slot) ≡ entry_lines opened.sizes.page = ap (part_lines mount_layout opened.sizes.page) (one_and slot) in
         subst (KeepsReady opened.sizes) (sym one.1)
         (part_ready tell opened.sizes one.0 (subst (IsRoomy (entry_lines opened.sizes.page)) (one.2 (room one.0))
         (subst (λ n. IsRoomy n (get_or (map room parts) (1 + slot) (room one.0))) lined roomy)));
     header =
         let one = part_is 0 (omega arith) in
         let roomy = has.each 0 (room one.0) (omega arith) in
-        subst KeepsRoomy (sym one.1) ((tell (room one.0)).roomy version_1.header_lines (subst (IsRoomy version_1.header_lines) (one.2 (room one.0)) roomy));
+        subst KeepsRoomy (sym one.1) ((tell (room one.0)).roomy mount_layout.header_lines (subst (IsRoomy mount_layout.header_lines) (one.2 (room one.0)) roomy));
   }
     where
       part : L → Value

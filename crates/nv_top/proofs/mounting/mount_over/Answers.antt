@@ -1,7 +1,7 @@
 use Rattle.std.proofs.Common.{◌≡◌, ◌+◌, ◌*◌, ◌<◌, List, length, map, refl, sym, ap, subst, ◌∙◌}
 use Rattle.std.specs.Prelude.{All, min}
 use Rattle.std.proofs.lemmas.List.Elements.{All-map}
-use Rattle.nv_plain.specs.Layouts.{version_1}
+use Rattle.nv_plain.specs.Layouts.{mount_layout}
 use Rattle.nv_pmem.specs.Part.{Part}
 use Rattle.nv_pmem.specs.RowStates.{row_tells_at}
 use Rattle.nv_header.specs.Regions.{IsAtRest}
@@ -54,7 +54,7 @@ pub returns-in-Ok-open-clause-spare : goal.returns-in-Ok-open-clause-spare
 returns-in-Ok-open-clause-spare g c parts are =
     let region = c.args.region in
     let history = g.L.Lines.history in
-    let Rest : List Part → Type 0 = IsAtRest version_1 region.geometry.page region.geometry.entries region.names region.next in
+    let Rest : List Part → Type 0 = IsAtRest mount_layout region.geometry.page region.geometry.entries region.names region.next in
     let rest : Rest parts = row_tells_at (map history region.parts.items) Rest parts are region.is_region.tells in
     subst (λ (values : List Value). All IsQuietSpare values) (sym c.in-Ok-open.ensures.opened.begun.spare)
     (quiet_behind g.L.Lines.device history g.L.Lines.fault_count g.L.Lines.room (1 + region.geometry.entries) region.parts.items parts are rest.quiet.each)

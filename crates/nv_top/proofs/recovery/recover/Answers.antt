@@ -5,7 +5,7 @@ use Rattle.nv_open.specs.Lending.{without_stores}
 use Rattle.std.specs.Prelude.{IfSome}
 use Rattle.std.proofs.lemmas.Result.{IfOk-weaker}
 use Rattle.nv_plain.specs.Files.{Files}
-use Rattle.nv_plain.specs.Layouts.{version_1}
+use Rattle.nv_plain.specs.Layouts.{mount_layout}
 use Rattle.nv_plain.specs.Recovered.{recovered}
 use Rattle.nv_pmem.specs.Rows.{row_words}
 use Rattle.nv_pmem.specs.RowStates.{AreNow, row_tells_at}
@@ -63,7 +63,7 @@ returns-clause-recovered g c =
       next = region.next;
       now = now.states;
       now_are = now_are;
-      rest = row_tells_at (map history parts_back) (IsAtRest version_1 region.geometry.page region.geometry.entries region.names region.next) now.states now_are c.into_parts.ensures.region.tells;
+      rest = row_tells_at (map history parts_back) (IsAtRest mount_layout region.geometry.page region.geometry.entries region.names region.next) now.states now_are c.into_parts.ensures.region.tells;
       disks = files.held;
       disks_are = subst StoresAre (sym c.show-report.ensures.histories) files.are;
       files_are = files.files_are;
@@ -82,7 +82,7 @@ returns-clause-recovered g c =
       long = recovery.long;
       fits = recovery.log.fits;
       plain = subst Plain recovery.names_are
-          (names_plain version_1.name_limit region.names (files_named holding.parts region.names holding.stores).contents (each_allowed region.names c.into_parts.ensures.region.names_are));
+          (names_plain mount_layout.name_limit region.names (files_named holding.parts region.names holding.stores).contents (each_allowed region.names c.into_parts.ensures.region.names_are));
       text_is =
           told_text files.held files.are
           ∙ ap (shown c.names.result.now) files.files_are
@@ -131,7 +131,7 @@ returns-clause-standing g c =
           ∙ back_is old mid region.names was made.lent c.requires.at_home.home told now.states files.held;
       is_so =
           recovered_stands c.images_stand_for_files.ensures.files was region.geometry.page region.geometry.entries region.next region.names c.in_ok-opened.found now.states files.held recovery
-          (row_tells_at (map history back) (IsAtRest version_1 region.geometry.page region.geometry.entries region.names region.next) now.states now_are c.into_parts.ensures.region.tells) files.files_are files.quiet
+          (row_tells_at (map history back) (IsAtRest mount_layout region.geometry.page region.geometry.entries region.names region.next) now.states now_are c.into_parts.ensures.region.tells) files.files_are files.quiet
           (home_distinct old was (g.met.T.Bench.named c.args.bench.now) told c.requires.at_home.home)
           (states_many (map history region.parts.items) now.states now.are ∙ length-map region.parts.items history ∙ told_at old.told (λ holding. length region.parts.items ≡ length holding.parts) was told made.many)
           (sym (states_many (map held backing) files.held files.are ∙ length-map backing held ∙ made.one_each))

@@ -3,7 +3,7 @@ use Rattle.std.specs.Prelude.{IfOk, Result}
 use Rattle.std.proofs.lemmas.List.{length-map}
 use Rattle.std.proofs.lemmas.Result.{IfOk-weaker}
 use Rattle.nv_plain.specs.Faults.{Rose}
-use Rattle.nv_plain.specs.Layouts.{version_1}
+use Rattle.nv_plain.specs.Layouts.{mount_layout}
 use Rattle.nv_pmem.specs.RowStates.{AreNow}
 use Rattle.nv_store.specs.Store.{Store}
 use Rattle.nv_recover.specs.Standing.{files_of}
@@ -82,7 +82,7 @@ returns-clause-ran g c =
           c.runs_are_sound.ensures.runs c.passes_are_left_alone.ensures.own c.runs_keep_the_log.ensures.runs c.crashes_leave_whole_writes.ensures.region c.empty_logs_rest.ensures.rest
           c.unstopped_runs_leave_nothing_open.ensures
           same_board (c.requires.new ∙ ap first_view (sym c.requires.board.same_mount)) (subst (λ (o : Opened). IsMount (mount_of o)) (sym out.run_out.mount) c.sees_a_run.ensures.mount) c.requires.stop
-          c.requires.trace.well_formed c.requires.trace.few c.requires.trace.lines (subst (λ these. AreFileNames version_1 these) (sym named) c.requires.names)
+          c.requires.trace.well_formed c.requires.trace.few c.requires.trace.lines (subst (λ these. AreFileNames mount_layout these) (sym named) c.requires.names)
           (subst (λ (o : Opened). IsMountOf basis trace o mount.fds) (sym c.requires.board.same_mount) begins.is_mount)
           (subst (λ (o : Opened). OpensRegion (mount_of o) basis.names) (sym same_board) begins.region)
           (subst (λ (values : List Value). All IsQuietSpare values) (sym out.run_out.spare) spare)

@@ -2,7 +2,7 @@ use Rattle.std.proofs.Common.{◌≡◌, ◌∷◌, ◌+◌, ℕ, List, ◌-◌,
 use Rattle.std.proofs.lemmas.List.{length-map}
 use Rattle.std.proofs.lemmas.Result.{IfOk-weaker, on_ok_weaker}
 use Rattle.nv_plain.specs.Faults.{Rose, saturated}
-use Rattle.nv_plain.specs.Layouts.{version_1}
+use Rattle.nv_plain.specs.Layouts.{mount_layout}
 use Rattle.nv_bench.specs.Benches.{BenchState, told_back}
 use Rattle.nv_bench.specs.Holding.{Holding, IsQuietHolding}
 use Rattle.nv_bench.specs.Powered.{powered}
@@ -80,7 +80,7 @@ returns-clause-scheduled g c =
       spare = ran.1.spare;
       closed = ran.3;
     } in
-    let allowed : AreFileNames version_1 basis.names = subst (λ names. AreFileNames version_1 names) (sym named) c.requires.names in
+    let allowed : AreFileNames mount_layout basis.names = subst (λ names. AreFileNames mount_layout names) (sym named) c.requires.names in
     let behind =
     left_behind basis trace mount pass zero _ _ parts held sums came.placed came.tail over c.power_leaves_an_image.ensures (omega (arith, ran.2.many_parts, length-map came.parts.items g.T.Part.Lines.history)) many
     (part_shown g.T.Part.Lines.device g.T.Part.Lines.history g.T.Part.Lines.fault_count g.T.Part.Lines.room came.parts.items)
@@ -358,7 +358,7 @@ returns-clause-used g c is basis begins named =
       spare = ran.1.spare;
       closed = ran.3;
     } in
-    let allowed : AreFileNames version_1 basis.names = subst (λ names. AreFileNames version_1 names) (sym named) c.requires.names in
+    let allowed : AreFileNames mount_layout basis.names = subst (λ names. AreFileNames mount_layout names) (sym named) c.requires.names in
     let behind =
     left_behind basis trace mount pass zero _ _ parts held sums came.placed came.tail over c.power_leaves_an_image.ensures (omega (arith, ran.2.many_parts, length-map came.parts.items g.T.Part.Lines.history)) many
     (part_shown g.T.Part.Lines.device g.T.Part.Lines.history g.T.Part.Lines.fault_count g.T.Part.Lines.room came.parts.items)

@@ -10,7 +10,7 @@ use Rattle.nv_top.specs.Stopping.{ShowsOpen, ShowsRecovered}
 use Rattle.nv_top.proofs.StoppingLemmas.{at_some, if_some, shows}
 use Rattle.std.proofs.Common.{◌∙◌, ◌++◌, ◌<◌, All, length}
 use Rattle.std.proofs.lemmas.List.{length-map}
-use Rattle.nv_plain.specs.Layouts.{version_1}
+use Rattle.nv_plain.specs.Layouts.{mount_layout}
 use Rattle.nv_pmem.specs.RowStates.{row_tells_at}
 use Rattle.nv_header.specs.Regions.{IsAtRest}
 use Rattle.nv_bench.specs.Holding.{named_stores}
@@ -80,7 +80,7 @@ returns-clause-standing g c =
           ∙ back_is old mid region.names was made.lent c.requires.at_home.home told now.states files.held;
       is_so =
           recovered_stands c.images_stand_for_files.ensures.files was region.geometry.page region.geometry.entries region.next region.names c.in_ok-opened.found now.states files.held recovery
-          (row_tells_at (map history back) (IsAtRest version_1 region.geometry.page region.geometry.entries region.names region.next) now.states now_are c.into_parts.ensures.region.tells) files.files_are files.quiet
+          (row_tells_at (map history back) (IsAtRest mount_layout region.geometry.page region.geometry.entries region.names region.next) now.states now_are c.into_parts.ensures.region.tells) files.files_are files.quiet
           (home_distinct old was (g.met.T.Bench.named c.args.bench.now) told c.requires.at_home.home)
           (states_many (map history region.parts.items) now.states now.are ∙ length-map region.parts.items history ∙ at_some old.told (λ holding. length region.parts.items ≡ length holding.parts) was told made.many)
           (sym (states_many (map held backing) files.held files.are ∙ length-map backing held ∙ made.one_each))

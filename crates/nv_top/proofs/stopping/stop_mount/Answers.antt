@@ -3,7 +3,7 @@ use Rattle.std.specs.Result.{result_from_control_flow}
 use Rattle.std.proofs.lemmas.List.{length-map}
 use Rattle.std.proofs.lemmas.Result.{IfOk-weaker}
 use Rattle.nv_plain.specs.Faults.{Rose, saturated}
-use Rattle.nv_plain.specs.Layouts.{version_1}
+use Rattle.nv_plain.specs.Layouts.{mount_layout}
 use Rattle.nv_bench.specs.Benches.{BenchState}
 use Rattle.nv_bench.specs.Holding.{Holding, IsQuietHolding}
 use Rattle.nv_bench.specs.Powered.{powered}
@@ -91,7 +91,7 @@ returns-clause-ran g c =
       out = out;
       closed = by;
     } in
-    let allowed : AreFileNames version_1 basis.names = subst (λ names. AreFileNames version_1 names) (sym named) c.requires.names in
+    let allowed : AreFileNames mount_layout basis.names = subst (λ names. AreFileNames mount_layout names) (sym named) c.requires.names in
     let behind =
     left_behind basis trace mount pass zero _ _ parts held sums came.placed came.tail (closed_over basis trace mount pass zero c.args.plan sorted _ _ parts held sums came.placed came.tail run) c.power_leaves_an_image.ensures
     (omega (arith, ran.2.many_parts, length-map came.parts.items g.T.Part.Lines.history)) many
@@ -180,7 +180,7 @@ returns-in_err-power-clause-life g c basis begins named =
     let tell = by.telling basis.files (subst (λ (o : Opened). OpensLog (mount_of o) o.next) there begins.is_mount.log) (subst (λ (o : Opened). Opens (mount_of o) basis.files) there begins.is_mount.files)
     (subst (λ (values : List Value). All IsTelling values) (sym out.spare) begins.spare) in
     let stay : AreLeftSo history keeps basis trace came.parts.items came.stores.items = record { parts_tell = tell.0; stores_tell = tell.1; life = life } in
-    let allowed : AreFileNames version_1 basis.names = subst (λ names. AreFileNames version_1 names) (sym named) c.requires.names in
+    let allowed : AreFileNames mount_layout basis.names = subst (λ names. AreFileNames mount_layout names) (sym named) c.requires.names in
     let whole : (holding : Holding) → home.told ≡ Some holding → AreWholeStores holding = λ holding is. g.met.T.Bench.whole c.give_back.new.self holding is in
     let as_many = parts_counted _ came.parts.items (1 + mount.board.opened.sizes.entries) pass.spare ran.2.many_parts (ran.2.same_spare ∙ out.spare) in
     let lived : HasLived basis trace made left.stores home.told = lived_home basis trace history keeps came.parts.items came.stores.items made as_many home.told left.stores whole stay
@@ -216,7 +216,7 @@ returns-in_err-sorted-clause-life g c basis begins named =
     let tell = by.telling basis.files (subst (λ (o : Opened). OpensLog (mount_of o) o.next) there begins.is_mount.log) (subst (λ (o : Opened). Opens (mount_of o) basis.files) there begins.is_mount.files)
     (subst (λ (values : List Value). All IsTelling values) (sym out.spare) begins.spare) in
     let stay : AreLeftSo history keeps basis trace came.parts.items came.stores.items = record { parts_tell = tell.0; stores_tell = tell.1; life = life } in
-    let allowed : AreFileNames version_1 basis.names = subst (λ names. AreFileNames version_1 names) (sym named) c.requires.names in
+    let allowed : AreFileNames mount_layout basis.names = subst (λ names. AreFileNames mount_layout names) (sym named) c.requires.names in
     let whole : (holding : Holding) → home.told ≡ Some holding → AreWholeStores holding = λ holding is. g.met.T.Bench.whole c.give_back.new.self holding is in
     let as_many = parts_counted _ came.parts.items (1 + mount.board.opened.sizes.entries) pass.spare ran.2.many_parts (ran.2.same_spare ∙ out.spare) in
     let lived : HasLived basis trace made left.stores home.told = lived_home basis trace history keeps came.parts.items came.stores.items made as_many home.told left.stores whole stay
@@ -256,7 +256,7 @@ returns-clause-life g c basis begins named =
     let tell = by.telling basis.files (subst (λ (o : Opened). OpensLog (mount_of o) o.next) there begins.is_mount.log) (subst (λ (o : Opened). Opens (mount_of o) basis.files) there begins.is_mount.files)
     (subst (λ (values : List Value). All IsTelling values) (sym out.spare) begins.spare) in
     let stay : AreLeftSo history keeps basis trace came.parts.items came.stores.items = record { parts_tell = tell.0; stores_tell = tell.1; life = life } in
-    let allowed : AreFileNames version_1 basis.names = subst (λ names. AreFileNames version_1 names) (sym named) c.requires.names in
+    let allowed : AreFileNames mount_layout basis.names = subst (λ names. AreFileNames mount_layout names) (sym named) c.requires.names in
     let whole : (holding : Holding) → home.told ≡ Some holding → AreWholeStores holding = λ holding is. g.met.T.Bench.whole c.give_back.new.self holding is in
     let as_many = parts_counted _ came.parts.items (1 + mount.board.opened.sizes.entries) pass.spare ran.2.many_parts (ran.2.same_spare ∙ out.spare) in
     let lived : HasLived basis trace made left.stores home.told = lived_home basis trace history keeps came.parts.items came.stores.items made as_many home.told left.stores whole stay
