@@ -5,8 +5,8 @@ and where the disk, or something in the folder, is in its way.
 What stands in the way must end a run in `error device` or in a region that is refused, by no crash and in time; and what was
 answered before must be there once it is gone. A run that is killed at any moment must leave, after a recovery, a front of its
 writes, each whole: with the process gone the files hold all that was written, so a write that was answered may not be missing.
-What a look shows before must be what that recovery leaves, and the look must change nothing. Regions that are made by hand are in
-regions.py.
+What a look shows before must be what that recovery leaves, and the look must change nothing; it must need no right to write, make
+nothing, and let others look beside it. Regions that are made by hand are in regions.py.
 Closes with 'N passed, M failed', and fails where one fails.
 
     folder.py PROGRAM                     all of this; what needs a user of more rights is named and left out
@@ -15,6 +15,7 @@ Closes with 'N passed, M failed', and fails where one fails.
 
 import contextlib
 import fcntl
+import glob
 import os
 import random
 import struct
@@ -30,6 +31,8 @@ ONLY_READ = b"file a\nfd 0 a r\n0 pread 0 0 5\n"
 READ = b"0 0 pread 0 0 5 = 68656c6c6f\nfile a 5 68656c6c6f\nend 1 0 0\n"
 USAGE = (b"error usage\n", 1)
 DEVICE = (b"error device\n", 5)
+LOOKED = (b"region 1 64 16 1 1\nname 0 a\nend 0 0\n", 0)
+FILES_LOOKED = (b"region 1 64 16 1 1\nname 0 a\nfile a 5 68656c6c6f\nend 0 0\n", 0)
 KEPT = (b"recovered 1 1 0\nfile a 5 68656c6c6f\n", 0)
 NO_HEADER = (b"error region truncated 0 18\n", 7)
 # Killed, or without room, before its region was formatted, a run leaves one with no magic or no parts.
@@ -129,10 +132,10 @@ def resized(path, size):
 
 
 @contextlib.contextmanager
-def locked(path):
+def locked(path, how=fcntl.LOCK_EX):
     """Another program has this folder locked in here."""
     held = os.open(path, os.O_RDONLY)
-    fcntl.flock(held, fcntl.LOCK_EX)
+    fcntl.flock(held, how)
     yield
     os.close(held)
 
@@ -187,6 +190,48 @@ def region_of(folder):
             with open(f"{folder}/region/{name}", "rb") as file:
                 found[name] = file.read()
     return found
+
+
+def standing(folder):
+    """All that is in a folder: of each path its rights and when it was changed, and what a file holds."""
+    found = {}
+    for path in sorted(glob.glob(folder + "/**", recursive=True)):
+        was = os.lstat(path)
+        held = open(path, "rb").read() if os.path.isfile(path) else None
+        found[path] = was.st_mode, was.st_mtime_ns, was.st_ctime_ns, held
+    return found
+
+
+def looks(program, folder):
+    """A look makes nothing, changes nothing, and shares its lock with other looks."""
+    region, file, none = folder + "/region", folder + "/files/a", folder + "/none"
+    yield "a look at no folder", call(program, [none, "look"]), DEVICE
+    for words in ["look"], ["look", "--files"]:
+        yield f"{words} at no region", call(program, [folder, *words]), NO_HEADER
+    yield "what the looks made", os.listdir(folder), []
+    yield "hello", call(program, [folder, *RUN], HELLO), (REPORT, 0)
+    was = standing(folder)
+    with locked(region, fcntl.LOCK_SH):
+        yield "a look beside another", call(program, [folder, "look"]), LOOKED
+        yield "a look at the files beside another", call(program, [folder, "look", "--files"]), FILES_LOOKED
+        yield "a run beside a look", call(program, [folder, *RUN], HELLO), DEVICE
+    with locked(region):
+        yield "a look beside a run", call(program, [folder, "look"]), DEVICE
+    yield "what the looks changed", standing(folder) == was, True
+    with replaced(region, nowhere):
+        yield "a look at a link to nowhere", call(program, [folder, "look"]), DEVICE
+    for name, make in ("a link to nowhere", nowhere), ("a pipe", os.mkfifo):
+        with replaced(file, make):
+            yield f"a look at {name} for a file", call(program, [folder, "look", "--files"]), DEVICE
+    os.link(file, region + "/part-17")
+    yield "a look at a part that is a file too", call(program, [folder, "look", "--files"]), DEVICE
+    os.unlink(region + "/part-17")
+    os.rename(file, file + ".away")
+    text = FILES_LOOKED[0].replace(b"5 68656c6c6f", b"0 -")
+    yield "a look at a file that is gone", call(program, [folder, "look", "--files"]), (text, 0)
+    os.rename(folder + "/files", folder + "/away")
+    yield "a look at files that are gone", call(program, [folder, "look", "--files"]), (text, 0)
+    yield "what is there then", sorted(os.listdir(folder)), ["away", "region"]
 
 
 def guarded(program, folder):
@@ -248,6 +293,18 @@ def rights(program, folder):
         yield "a part without rights, a run", call(program, [folder, *RUN], HELLO, **how), DEVICE
         yield "a part without rights, a recovery", call(program, [folder, "recover"], **how), DEVICE
     yield "a part with rights again", call(program, [folder, "recover"], **how), KEPT
+    paths = [path for path in standing(folder)]
+    was = {path: os.lstat(path).st_mode for path in paths}
+    for path in paths:
+        os.chmod(path, 0o555 if os.path.isdir(path) else 0o444)
+    before = standing(folder)
+    yield "a folder that may be read alone, a look", call(program, [folder, "look"], **how), LOOKED
+    yield "a folder that may be read alone, a look at the files", call(program, [folder, "look", "--files"], **how), FILES_LOOKED
+    yield "a folder that may be read alone, a run", call(program, [folder, *RUN], HELLO, **how), DEVICE
+    yield "a folder that may be read alone, a recovery", call(program, [folder, "recover"], **how), DEVICE
+    yield "a folder that may be read alone is as it was", standing(folder) == before, True
+    for path in paths:
+        os.chmod(path, was[path])
 
 
 @contextlib.contextmanager
@@ -286,6 +343,8 @@ def disks(program, folder):
         remount(disk, "ro")
         yield "a read-only disk, a run", call(program, [disk, *RUN], HELLO), DEVICE
         yield "a read-only disk, a recovery", call(program, [disk, "recover"]), DEVICE
+        yield "a read-only disk, a look", call(program, [disk, "look"]), LOOKED
+        yield "a read-only disk, a look at the files", call(program, [disk, "look", "--files"]), FILES_LOOKED
         remount(disk, "rw")
         yield "a disk that may be written again", call(program, [disk, "recover"]), KEPT
         # The parts have their pages, so the log takes the write; the file has none for it, so it stays in the log.
@@ -397,7 +456,7 @@ def killed(program, folder, writes=WRITES):
 
 
 def main(program, option=None, writes=WRITES):
-    runs = [lives, sizes, shown, refusals, obstacles, guarded, remains, rights, disks, full_disks, killed]
+    runs = [lives, sizes, shown, refusals, obstacles, looks, guarded, remains, rights, disks, full_disks, killed]
     if option == "--killed":
         runs = [lambda program, folder: killed(program, folder, int(writes))]
     passed = failed = 0

@@ -206,8 +206,8 @@ def logs(program, folder):
         was = region_of(folder), files_of(folder)
         yield f"{name}, a look", call(program, [folder, "look"]), said(f"{first} {tail}|{names}{listed}{end}")
         yield f"{name}, and its files", call(program, [folder, "look", "--files"]), said(f"{first} {tail}|{names}{listed}{shown}{end}")
-        # A look opens the files that the region names.
-        yield f"{name}, looked at", (region_of(folder), {**dict.fromkeys(held, b""), **was[1]}) == (was[0], files_of(folder)), True
+        # A file that the region names and that isn't there stays away.
+        yield f"{name}, looked at", (region_of(folder), files_of(folder)) == was, True
         yield f"{name}, a recovery", call(program, [folder, "recover"]), said(f"recovered {tail} {next_} {groups}|{shown}")
         yield f"{name}, its files", files_of(folder), {**left, "other": b"other"}
         yield f"{name}, a look behind it", call(program, [folder, "look"]), said(f"{first} {next_}|{names}end 0 0|")

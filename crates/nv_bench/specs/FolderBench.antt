@@ -1,5 +1,5 @@
 -- What contracts see of a bench over a folder. It tells nothing, and is never armed or powered off.
-use Rattle.std.specs.Prelude.{◌≡◌, false, [], map, string_bytes, None, Some}
+use Rattle.std.specs.Prelude.{◌≡◌, Bool, false, [], map, string_bytes, None, Some}
 use Rattle.nv_plain.specs.Faults.{saturated}
 use Rattle.nv_bench.specs.Benches.{BenchState}
 use Rattle.nv_bench.specs.Holding.{Holding}
@@ -25,6 +25,10 @@ module _ {R : Type 0} where
     left = None;
     picked = [];
   }
+
+  -- whether it is looked at alone, and makes and writes nothing
+  abbrev pub is_read_only : FolderBench R → Bool
+  is_read_only bench = bench.is_read_only
 
   pub folder_whole : (bench : FolderBench R) (holding : Holding) → (folder_state bench).told ≡ Some holding → AreWholeStores holding
   folder_whole bench holding told = cc

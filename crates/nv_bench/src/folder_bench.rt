@@ -3,25 +3,28 @@ ghost use Rattle.std.specs.Prelude.{◌≡◌, ◌+◌, List, length, map, sum_b
 ghost use Rattle.nv_plain.specs.Faults.{Rose};
 ghost use Rattle.nv_store.specs.FileStore.{store_faults};
 ghost use Rattle.nv_bench.specs.Benches.{with_faults, store_lent};
-ghost use Rattle.nv_bench.specs.FolderBench.{folder_named, folder_state, folder_whole, new_folder};
+ghost use Rattle.nv_pmem.specs.FilePart.{part_faults};
+ghost use Rattle.nv_bench.specs.FolderBench.{folder_named, folder_state, folder_whole, is_read_only, new_folder};
 ghost use Rattle.nv_bench.specs.declared.bench.BenchError.TheVariants.{Failed, NoMemory as NoRoom};
 
 use crate::file_ids::FileIds;
 use crate::folder_parts::{
-    faults_of_parts, faults_of_stores, lock_folder, make_folder, open_parts,
+    are_blank, faults_of_parts, faults_of_stores, is_there, lock_folder, make_folder, open_parts,
+    parts_there, share_folder,
 };
 use crate::{Bench, BenchError};
 use nv_plain::NoMemory;
 use nv_pmem::{FilePart, Geometry, Pick};
 use nv_store::FileStore;
 use std::alloc::Global;
-use std::fs::File;
+use std::fs::{self, File};
 use std::io;
 use std::rt::Files;
 
-/// Files of a folder: the parts of the region are `region/part-0`, `region/part-1` and so on in it, and a store is the file of its
-/// name in `files`. It tells nothing, and can't lose power. While its region is lent no other bench can open it. What was
-/// stored in a part and not flushed and fenced isn't in its file, so it is gone when the part has come back.
+/// Files of a folder: the parts of the region are `region/part-0`, `region/part-1` and so on in it, and a
+/// store is the file of its name in `files`. It tells nothing, and can't lose power. While its region is lent
+/// no other bench can open it, but that those which are read-only can be open together. What was stored in a
+/// part and not flushed and fenced isn't in its file, so it is gone when the part has come back.
 #[derive(Drop)]
 pub struct FolderBench<R> {
     rt: R,
@@ -29,8 +32,9 @@ pub struct FolderBench<R> {
     folder: String,
     region: String,
     files: String,
+    is_read_only: bool,
     is_open: bool,
-    // The region's folder, locked while the region is lent.
+    // The region's folder, locked while the region is lent. None where a look found no such folder.
     lock: Option<File>,
     // The names of the stores that are lent.
     lent: Vec<String>,
@@ -39,10 +43,58 @@ pub struct FolderBench<R> {
     faults: u64,
 }
 
+// Opens the store of this path, and notes which file it is, where there is one.
+fn open_path<R: Files<File = File>>(
+    rt: &R,
+    ids: &mut FileIds,
+    path: &str,
+    is_read_only: bool,
+) -> Result<FileStore<File>, BenchError>
+    ensures { IfOk result (λ store. store_faults store ≡ 0) }
+{
+    if !is_read_only {
+        let store = FileStore::open(rt, path)?;
+        ids.note(rt, path)?;
+        return Ok(store);
+    }
+    let store = FileStore::read_only(rt, path)?;
+    if is_there(rt, path)? {
+        ids.note(rt, path)?;
+    }
+    Ok(store)
+}
+
+// A region that is open: its folder's lock, its parts, and which files these are.
+struct Opened<R> {
+    lock: Option<File>,
+    parts: Vec<FilePart<R>>,
+    ids: FileIds,
+}
+
 impl<R: Files<File = File> + Copy> FolderBench<R> {
     /// A bench over a folder. It opens nothing yet.
     pub fn new(rt: R, alloc: Global, folder: &str) -> Result<Self, NoMemory>
-        ensures { IfOk result (λ bench. folder_state bench ≡ new_folder) }
+        ensures new { IfOk result (λ bench. folder_state bench ≡ new_folder) }
+        ensures writable { IfOk result (λ bench. is_read_only bench ≡ false) }
+    {
+        Self::over(rt, alloc, folder, false)
+    }
+
+    /// A bench over a folder that is to be looked at. It needs no right to write, and makes, writes and syncs
+    /// nothing: what isn't there is lent as a region of no part and as stores that are empty, and of what it
+    /// shows a power failure may leave less. Its lock keeps out those that write, and only while its region
+    /// is lent. A region that would have to be made is refused, and so are a fence behind a flush and a write
+    /// to a store.
+    pub fn read_only(rt: R, alloc: Global, folder: &str) -> Result<Self, NoMemory>
+        ensures new { IfOk result (λ bench. folder_state bench ≡ new_folder) }
+        ensures read_only { IfOk result (λ bench. is_read_only bench ≡ true) }
+    {
+        Self::over(rt, alloc, folder, true)
+    }
+
+    fn over(rt: R, alloc: Global, folder: &str, looks: bool) -> Result<Self, NoMemory>
+        ensures new { IfOk result (λ bench. folder_state bench ≡ new_folder) }
+        ensures kind { IfOk result (λ bench. is_read_only bench ≡ looks) }
     {
         Ok(FolderBench {
             rt,
@@ -50,6 +102,7 @@ impl<R: Files<File = File> + Copy> FolderBench<R> {
             folder: String::from_str(alloc, folder)?,
             region: format!(in alloc; "{folder}/region")?,
             files: format!(in alloc; "{folder}/files")?,
+            is_read_only: looks,
             is_open: false,
             lock: None,
             lent: Vec::new(alloc),
@@ -67,6 +120,36 @@ impl<R: Files<File = File> + Copy> FolderBench<R> {
         lock_folder(&self.rt, self.region.as_str())
     }
 
+    // Locks the region's folder, and opens its parts.
+    fn open_all(&self, want: Option<Geometry>) -> Result<Opened<R>, BenchError>
+        ensures { IfOk result (λ opened. sum_by part_faults opened.parts.items ≡ 0) }
+    {
+        if self.is_read_only {
+            return self.open_to_look(want);
+        }
+        let lock = Some(self.lock()?);
+        let (parts, ids) = open_parts(self.rt, self.alloc, self.region.as_str(), want)?;
+        Ok(Opened { lock, parts, ids })
+    }
+
+    // The same where nothing is to be made: a region without its folder has no part, and needs no lock. Refused
+    // where parts are wanted that aren't there.
+    fn open_to_look(&self, want: Option<Geometry>) -> Result<Opened<R>, BenchError>
+        ensures { IfOk result (λ opened. sum_by part_faults opened.parts.items ≡ 0) }
+    {
+        fs::metadata(&self.rt, self.folder.as_str())?;
+        let lock = share_folder(&self.rt, self.region.as_str())?;
+        let mut ids = FileIds::new(self.alloc);
+        let parts = match lock {
+            Some(_) => parts_there(self.rt, self.alloc, self.region.as_str(), true, &mut ids)?,
+            None => Vec::new(self.alloc),
+        };
+        if want.is_some() && are_blank(&parts) {
+            return Err(BenchError::Failed);
+        }
+        Ok(Opened { lock, parts, ids })
+    }
+
     // Lends the store of a name.
     fn lend(&mut self, name: &str) -> Result<FileStore<File>, BenchError>
         ensures lent { OnOk result (folder_state self.new ≡ store_lent name.now (folder_state self.old)) }
@@ -77,8 +160,7 @@ impl<R: Files<File = File> + Copy> FolderBench<R> {
         let files = self.files.as_str();
         let path = format!(in self.alloc; "{files}/{name}")?;
         self.lent.reserve(1)?;
-        let store = FileStore::open(&self.rt, path.as_str())?;
-        self.ids.note(&self.rt, path.as_str())?;
+        let store = open_path(&self.rt, &mut self.ids, path.as_str(), self.is_read_only)?;
         self.lent.push_reserved(lent);
         Ok(store)
     }
@@ -118,13 +200,9 @@ impl<R: Files<File = File> + Copy + Drop + Send> Bench for FolderBench<R> {
     }
 
     fn open_region(&mut self, want: Option<Geometry>) -> Result<Vec<FilePart<R>>, BenchError> {
-        let lock = match self.lock() {
-            Ok(lock) => lock,
-            Err(_) => return Err(self.refuse(BenchError::Failed)),
-        };
-        match open_parts(self.rt, self.alloc, self.region.as_str(), want) {
-            Ok((parts, ids)) => {
-                self.lock = Some(lock);
+        match self.open_all(want) {
+            Ok(Opened { lock, parts, ids }) => {
+                self.lock = lock;
                 self.ids = ids;
                 self.is_open = true;
                 Ok(parts)

@@ -33,6 +33,17 @@ pub(crate) fn lock_folder<R: Files<File = File>>(rt: &R, path: &str) -> io::Resu
     Ok(folder)
 }
 
+/// A folder, locked together with all others that look at it, as long as what this gives lives; none where
+/// there is none. Refused where another has it locked alone.
+pub(crate) fn share_folder<R: Files<File = File>>(rt: &R, path: &str) -> io::Result<Option<File>> {
+    if !is_there(rt, path)? {
+        return Ok(None);
+    }
+    let folder = File::open(rt, path)?;
+    folder.try_lock_shared()?;
+    Ok(Some(folder))
+}
+
 /// The parts of the region that stand in a folder, and which files they are; where they are blank and a geometry is wanted, the
 /// parts of that. Refused where two are one file, or where what would be made anew may be the rest of a region.
 pub(crate) fn open_parts<R: Files + Copy>(
@@ -44,7 +55,7 @@ pub(crate) fn open_parts<R: Files + Copy>(
     ensures { IfOk result (λ opened. sum_by part_faults opened.0.items ≡ 0) }
 {
     let mut ids = FileIds::new(alloc);
-    let there = parts_there(rt, alloc, folder, &mut ids)?;
+    let there = parts_there(rt, alloc, folder, false, &mut ids)?;
     match want {
         Some(geometry) if are_blank(&there) => {
             refuse_remains(&rt, alloc, folder, &there)?;
@@ -56,11 +67,12 @@ pub(crate) fn open_parts<R: Files + Copy>(
     }
 }
 
-// The parts from number 0 on, up to the first that isn't there.
-fn parts_there<R: Files + Copy>(
+/// The parts from number 0 on, up to the first that isn't there.
+pub(crate) fn parts_there<R: Files + Copy>(
     rt: R,
     alloc: Global,
     folder: &str,
+    is_read_only: bool,
     ids: &mut FileIds,
 ) -> Result<Vec<FilePart<R>>, BenchError>
     ensures { IfOk result (λ parts. sum_by part_faults parts.items ≡ 0) }
@@ -71,13 +83,19 @@ fn parts_there<R: Files + Copy>(
         if !is_there(&rt, path.as_str())? {
             break;
         }
-        parts.push(FilePart::open(rt, alloc, path.as_str(), 0)?)?;
+        let part = if is_read_only {
+            FilePart::read_only(rt, alloc, path.as_str())?
+        } else {
+            FilePart::open(rt, alloc, path.as_str(), 0)?
+        };
+        parts.push(part)?;
         ids.note(&rt, path.as_str())?;
     }
     Ok(parts)
 }
 
-fn are_blank<R: Files + Copy>(parts: &[FilePart<R>]) -> bool {
+/// Whether a region of these parts is blank: it has no part 0, no line in it, or 0 in its first word.
+pub(crate) fn are_blank<R: Files + Copy>(parts: &[FilePart<R>]) -> bool {
     match parts.first() {
         None => true,
         Some(header) if header.lines() == 0 => true,
@@ -180,8 +198,8 @@ fn part_path(alloc: Global, folder: &str, i: u64) -> Result<String, AllocError> 
     format!(in alloc; "{folder}/part-{i}")
 }
 
-// Whether anything has this path, be it a link that leads nowhere.
-fn is_there<R: Files>(rt: &R, path: &str) -> io::Result<bool> {
+/// Whether anything has this path, be it a link that leads nowhere.
+pub(crate) fn is_there<R: Files>(rt: &R, path: &str) -> io::Result<bool> {
     match fs::symlink_metadata(rt, path) {
         Ok(_) => Ok(true),
         Err(error) if error.kind() == ErrorKind::NotFound => Ok(false),

@@ -1,5 +1,5 @@
--- What contracts see of a part over a file: how many lines it has, and how often it has failed. It tells nothing.
-use Rattle.std.specs.Prelude.{◌≡◌, ℕ, [], ◌∷◌, length, vec_len}
+-- What contracts see of a part over a file: how many lines it has, how often it has failed, and whether it may write. It tells nothing.
+use Rattle.std.specs.Prelude.{◌≡◌, ℕ, Bool, [], ◌∷◌, length, vec_len}
 use Rattle.nv_pmem.specs.declared.file_part.FilePart.{FilePart}
 use Rattle.nv_pmem.specs.Part.{Part}
 use Rattle.nv_pmem.specs.Room.{Room}
@@ -21,6 +21,10 @@ module _ {R : Type 0} where
   -- how often it has failed, up to 2^64 - 1
   abbrev pub part_faults : FilePart R → ℕ
   part_faults part = part.fault_counter
+
+  -- whether it is looked at alone, and writes nothing
+  abbrev pub is_read_only : FilePart R → Bool
+  is_read_only part = part.is_read_only
 
   pub part_told_lines : (part : FilePart R) (now : Part) (past : PartHistory) → part_history part ≡ now ∷ past → length now ≡ (part_room part).lines
   part_told_lines part now past told = cc

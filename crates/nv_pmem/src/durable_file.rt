@@ -14,6 +14,16 @@ pub fn open_durable<R: Files>(rt: &R, path: &str) -> io::Result<R::File> {
     Ok(file)
 }
 
+/// Opens a file to read it alone; none where there is none. Nothing is made, changed or synced, so of what is
+/// read a power failure may leave less. What stands there and is no file, or a link that leads to none, is
+/// refused.
+pub fn open_to_read<R: Files>(rt: &R, path: &str) -> io::Result<Option<R::File>> {
+    if !is_file_there(rt, path)? {
+        return Ok(None);
+    }
+    Ok(Some(File::open(rt, path)?))
+}
+
 /// Makes durable which files the folder of a path has.
 pub fn sync_folder_of<R: Files>(rt: &R, path: &str) -> io::Result<()> {
     match Path::new(path).parent() {
@@ -22,20 +32,23 @@ pub fn sync_folder_of<R: Files>(rt: &R, path: &str) -> io::Result<()> {
     }
 }
 
-// A new file is made at no link, and nothing but a file is opened, since the opening or the reading of other things may never end.
+// A new file is made at no link.
 fn open_or_make<R: Files>(rt: &R, path: &str) -> io::Result<R::File> {
     let mut how = OpenOptions::new();
     how.read(true).write(true);
-    match fs::symlink_metadata(rt, path) {
-        Err(error) if error.kind() == ErrorKind::NotFound => {
-            how.create_new(true);
-        }
-        Err(error) => return Err(error),
-        Ok(_) => {
-            if !fs::metadata(rt, path)?.is_file() {
-                return Err(ErrorKind::Unsupported.into());
-            }
-        }
+    if !is_file_there(rt, path)? {
+        how.create_new(true);
     }
     how.open(rt, path)
+}
+
+// Whether a file stands there. Anything else is refused, since the opening or the reading of other things may
+// never end.
+fn is_file_there<R: Files>(rt: &R, path: &str) -> io::Result<bool> {
+    match fs::symlink_metadata(rt, path) {
+        Err(error) if error.kind() == ErrorKind::NotFound => Ok(false),
+        Err(error) => Err(error),
+        Ok(_) if fs::metadata(rt, path)?.is_file() => Ok(true),
+        Ok(_) => Err(ErrorKind::Unsupported.into()),
+    }
 }

@@ -1,14 +1,14 @@
 //! Trusted edge: a part over a file.
-ghost use Rattle.std.specs.Prelude.{◌≡◌, ◌<◌, ◌≤◌, vec_len, IfOk};
-ghost use Rattle.nv_pmem.specs.FilePart.{part_device, part_history, part_room, part_faults, part_told_lines};
+ghost use Rattle.std.specs.Prelude.{◌≡◌, ◌<◌, ◌≤◌, true, false, vec_len, IfOk};
+ghost use Rattle.nv_pmem.specs.FilePart.{is_read_only, part_device, part_history, part_room, part_faults, part_told_lines};
 
-use crate::durable_file::open_durable;
+use crate::durable_file::{open_durable, open_to_read};
 use crate::fault_counter::FaultCounter;
 use crate::mem_line::word_of_bytes;
 use crate::{LineFault, Lines};
 use std::alloc::{AllocError, AllocFailed, Global};
 use std::fs::{OpenFile, OpenOptions};
-use std::io::{self, Read, Seek, SeekFrom, Write};
+use std::io::{self, ErrorKind, Read, Seek, SeekFrom, Write};
 use std::rt::Files;
 use thiserror::Error;
 
@@ -23,14 +23,17 @@ pub enum PartError {
     NoMemory,
 }
 
-/// A part over a file, of lines of 64 bytes; what stands behind the last whole line is not read. It holds its lines in memory,
-/// and a fence writes those that were flushed, as they are then, to the file and syncs it. The file is open inside a call alone, so
-/// a process may have more parts than files open. It tells nothing. It is trusted that the host leaves each word of a line of a
-/// file old or new where power fails, and keeps what a sync that went well was given.
+/// A part over a file, of lines of 64 bytes; what stands behind the last whole line is not read. It holds its
+/// lines in memory, and a fence writes those that were flushed, as they are then, to the file and syncs it.
+/// The file is open inside a call alone, so a process may have more parts than files open. One that is
+/// read-only writes nothing: its fence is refused where a line was flushed. It tells nothing. It is trusted
+/// that the host leaves each word of a line of a file old or new where power fails, and keeps what a sync
+/// that went well was given.
 #[derive(Drop)]
 pub struct FilePart<R> {
     rt: R,
     path: String,
+    is_read_only: bool,
     lines: Vec<FileLine>,
     fault_counter: FaultCounter,
 }
@@ -47,6 +50,7 @@ impl<R: Files + Copy> FilePart<R> {
     pub fn open(rt: R, alloc: Global, path: &str, least: u64) -> Result<Self, PartError>
         ensures lines { IfOk result (λ part. least ≤ (part_room part).lines) }
         ensures faults { IfOk result (λ part. part_faults part ≡ 0) }
+        ensures writable { IfOk result (λ part. is_read_only part ≡ false) }
     {
         let mut file = open_durable(&rt, path)?;
         let lines = (file.metadata()?.len() / 64).max(least);
@@ -57,12 +61,34 @@ impl<R: Files + Copy> FilePart<R> {
     pub fn sized(rt: R, alloc: Global, path: &str, lines: u64) -> Result<Self, PartError>
         ensures lines { IfOk result (λ part. (part_room part).lines ≡ lines) }
         ensures faults { IfOk result (λ part. part_faults part ≡ 0) }
+        ensures writable { IfOk result (λ part. is_read_only part ≡ false) }
     {
         let mut file = open_durable(&rt, path)?;
         if lines < file.metadata()?.len().div_ceil(64) {
             file.set_len(lines.saturating_mul(64))?;
         }
         Self::over(rt, alloc, path, &mut file, lines)
+    }
+
+    /// The part over the file of this path, with its lines, to be looked at: no right to write is needed, and
+    /// nothing is made, written or synced, so of what the lines hold a power failure may leave less. Refused
+    /// where there is no file. It takes about 72 bytes a line.
+    pub fn read_only(rt: R, alloc: Global, path: &str) -> Result<Self, PartError>
+        ensures faults { IfOk result (λ part. part_faults part ≡ 0) }
+        ensures read_only { IfOk result (λ part. is_read_only part ≡ true) }
+    {
+        let Some(mut file) = open_to_read(&rt, path)? else {
+            return Err(PartError::Failed);
+        };
+        let path = String::from_str(alloc, path)?;
+        let lines = file.metadata()?.len() / 64;
+        Ok(FilePart {
+            rt,
+            path,
+            is_read_only: true,
+            lines: read_lines(alloc, &mut file, lines as usize)?,
+            fault_counter: FaultCounter::new(None),
+        })
     }
 
     // The part of so many lines over this file, which is made longer where it has less. What stands behind its last whole line is
@@ -76,6 +102,7 @@ impl<R: Files + Copy> FilePart<R> {
     ) -> Result<Self, PartError>
         ensures lines { IfOk result (λ part. (part_room part).lines ≡ lines) }
         ensures faults { IfOk result (λ part. part_faults part ≡ 0) }
+        ensures writable { IfOk result (λ part. is_read_only part ≡ false) }
     {
         let path = String::from_str(alloc, path)?;
         let whole = file.metadata()?.len() / 64;
@@ -87,6 +114,7 @@ impl<R: Files + Copy> FilePart<R> {
         Ok(FilePart {
             rt,
             path,
+            is_read_only: false,
             lines: read_lines(alloc, file, lines as usize)?,
             fault_counter: FaultCounter::new(None),
         })
@@ -104,6 +132,9 @@ impl<R: Files + Copy> FilePart<R> {
     fn write_flushed(&self) -> io::Result<()> {
         if !self.lines.iter().any(|line| line.is_flushed) {
             return Ok(());
+        }
+        if self.is_read_only {
+            return Err(ErrorKind::PermissionDenied.into());
         }
         let mut file = OpenOptions::new()
             .write(true)

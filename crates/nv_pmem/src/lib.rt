@@ -16,7 +16,7 @@ mod picker;
 mod told;
 
 pub use durable::store_durably;
-pub use durable_file::{open_durable, sync_folder_of};
+pub use durable_file::{open_durable, open_to_read, sync_folder_of};
 pub use fault_counter::{FaultCounter, Refused};
 pub use file_part::{FilePart, PartError};
 pub use fuse::Fuse;

@@ -1,6 +1,6 @@
 //! Trusted edge: the program over a folder, which the first word names; the words behind it are the command. A trace comes on
 //! standard input; the report, or one line that says why there is none, goes to standard output, and the exit status is that of
-//! `nv_main`.
+//! `nv_main`. A look is given a bench that writes nothing.
 #![tactic(auto)]
 
 use nv_bench::FolderBench;
@@ -18,7 +18,13 @@ fn main(rt: HostRuntime) -> ExitCode {
     let Some((folder, command)) = words.split_first() else {
         return ExitCode::from(say(&mut sink, USAGE, b"error usage\n"));
     };
-    let Ok(mut bench) = FolderBench::new(rt, alloc, folder.as_str()) else {
+    let is_look = command.first().is_some_and(|word| word.as_str() == "look");
+    let opened = if is_look {
+        FolderBench::read_only(rt, alloc, folder.as_str())
+    } else {
+        FolderBench::new(rt, alloc, folder.as_str())
+    };
+    let Ok(mut bench) = opened else {
         return ExitCode::from(say(&mut sink, NO_MEMORY, b"error no memory\n"));
     };
     let mut source = ReaderSource::new(rt.reader());
