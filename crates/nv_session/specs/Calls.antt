@@ -1,5 +1,5 @@
 -- Calls: what a call of a session does. It has its place and its reply, or its refusal's cause, and its pass goes on.
-use Rattle.std.specs.Prelude.{◌≡◌, ◌≢◌, ℕ, false, List, Some, Result, Ok, Err, IfOk, OnErr, OnOk}
+use Rattle.std.specs.Prelude.{◌≡◌, ◌≢◌, ℕ, zero, suc, false, List, Some, Result, Ok, Err, IfOk, OnErr, OnOk}
 use Rattle.nv_table.specs.invariant.Idle.{IsLater}
 use Rattle.nv_table.specs.state.States.{PassState}
 use Rattle.nv_mount.specs.ClosedAtRest.{HasEmptiedLog}
@@ -67,12 +67,20 @@ AnswersLast (Ok cleaned) result = ⊥
 AnswersLast (Err (Idle at)) result = result ≡ Ok tt
 AnswersLast (Err refusal) result = result ≡ Err refusal
 
--- Batches of at most so many entries came one after another, and nothing else; the last one answers, and where it found nothing to clean it has left the log empty.
+-- So many batches of at most so many entries came one after another, and nothing else. Each carried entries to their files.
+abbrev pub HaveCarried : (most count : ℕ) (start now : PassState) → Type 0
+HaveCarried most zero start now = now ≡ start
+HaveCarried most (suc count) start now =
+    (middle : PassState) × HaveCarried most count start middle × (cleaned : Cleaned) × IsCleanOver most middle now (Ok cleaned)
+
+-- Batches of at most so many entries came one after another, and nothing else. Each before the last one carried entries; the last one answers, and where it found nothing to clean it has left the log empty.
 pub record HasCleanedAll (most : ℕ) (old new : PassState) (result : Result (Unit {0}) CleanRefusal) : Type 0 where
   pub later : IsLater old new
   pub spare : new.spare ≡ old.spare
   pub kept : IsUnplaced old.view new.view
+  pub count : ℕ
   pub last : PassState
+  pub carried : HaveCarried most count old last
   pub before : IsUnplaced old.view last.view
   pub batch : Result Cleaned CleanRefusal
   pub over : IsCleanOver most last new batch
