@@ -52,7 +52,8 @@ impl MemBench {
 
     /// A bench of no part and no store. The device calls of these numbers fail.
     pub fn new(alloc: Global, fails: &[u64]) -> Result<Self, NoMemory>
-        ensures { IfOk result (λ bench. let nothing : Holding = record { parts = []; stores = [] } in mem_state bench ≡ new_state nothing) }
+        ensures made { IfOk result (λ bench. let nothing : Holding = record { parts = []; stores = [] } in mem_state bench ≡ new_state nothing) }
+        ensures quiet { IfOk result (λ bench. IfSome (mem_state bench).told IsQuietHolding) }
     {
         Ok(MemBench {
             alloc,

@@ -9,7 +9,7 @@ use nv_bench::{Bench, MemBench, power_leaves_an_image};
 use nv_header::Names;
 use nv_open::{Opened, open, recover_region};
 use nv_plain::{Bytes, NoMemory};
-use nv_pmem::{Geometry, MemPart, Pick, images_follow_calls};
+use nv_pmem::{Geometry, MemPart, Pick};
 use nv_store::{Backing, MemStore, StoreFault};
 use std::alloc::Global;
 use std::test::Fail;
@@ -93,7 +93,6 @@ fn new_bench(alloc: Global) -> Result<MemBench, NoMemory>
     ensures home { IfOk result (λ bench. (mem_state bench).lent ≡ []) }
     ensures quiet { IfOk result (λ bench. IfSome (mem_state bench).told IsQuietHolding) }
 {
-    images_follow_calls();
     MemBench::new(alloc, &[])
 }
 

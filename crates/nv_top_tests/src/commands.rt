@@ -6,7 +6,6 @@ ghost use Rattle.nv_top.specs.Words.{names_schedule};
 
 use nv_bench::MemBench;
 use nv_plain::NoMemory;
-use nv_pmem::images_follow_calls;
 use nv_top::{OpenGate, nv_main};
 use nv_trace::{MemSink, MemSource};
 use std::alloc::Global;
@@ -103,7 +102,6 @@ pub(crate) fn new_bench(alloc: Global, fails: &[u64]) -> Result<MemBench, NoMemo
     ensures arms { IfOk result (λ bench. (mem_state bench).arms ≡ 0) }
     ensures settled { IfOk result (λ bench. (mem_state bench).settled ≤ (mem_state bench).faults) }
 {
-    images_follow_calls();
     MemBench::new(alloc, fails)
 }
 
