@@ -11,6 +11,7 @@ ghost use Rattle.nv_clean.specs.CleanSteps.{first_refusal, refusal_at};
 ghost use Rattle.nv_clean.specs.Cleaning.{Fits, IsBegun, IsClaim, IsEnd, IsFront, IsLow, IsOnEntries, IsPlain, IsUndoing, control_of, files_from, files_then, inner_at};
 
 use crate::{CleanControl, CleanMachine, CleanRefusal};
+use nv_op::EntryWord;
 use nv_table::{HEADER, Layout};
 
 impl CleanMachine {
@@ -99,8 +100,9 @@ impl CleanMachine {
         requires small { self.now.batch.reached ≤ 2 ^ 60 }
         ensures { result ≡ may_pass self.now.batch found }
     {
-        let count = found / 8 % 128;
-        found % 8 == 2
+        let word = EntryWord { word: found };
+        let count = word.count();
+        word.is_ready()
             && (self.reached == self.tail || self.reached - self.tail + count <= self.most)
     }
 
@@ -116,15 +118,16 @@ impl CleanMachine {
         ensures files { self.new.batch.files ≡ self.old.batch.files }
         ensures refusal { (sizes : Sizes) → self.new.refusal ≡ refusal_at sizes self.old.batch self.old.refusal (cleans.LoadEntry at) found }
     {
+        let word = EntryWord { word: found };
         if at == 0 && !self.may_pass(found) {
             self.refuse(CleanRefusal::Idle { at: self.tail });
             self.finish();
             return;
         }
         if at == 0 {
-            self.count = found / 8 % 128;
+            self.count = word.count();
         }
-        self.pages.push(found / 1024);
+        self.pages.push(word.page());
         self.control = if at + 1 < self.count {
             CleanControl::LoadEntry { at: at + 1 }
         } else {

@@ -5,11 +5,8 @@ ghost use Rattle.nv_table.specs.state.Keys.{sizes_of};
 ghost use Rattle.nv_mirror.specs.Loads.{Fits, IsNoTake, behind_store, load_after, load_control_then, load_noted, load_op, scanning_from};
 
 use crate::Refusal;
-use nv_op::{Op, Word};
+use nv_op::{EntryWord, Op, Word};
 use nv_table::Layout;
-
-// The kind of an entry that is ready, in its word.
-const READY: u64 = 2;
 
 /// Where it stands: what its next step is, or what came of it.
 #[derive(Clone, Copy, Debug, PartialEq, Eq)]
@@ -64,7 +61,8 @@ pub struct LoadMachine {
 fn is_ready_of(word: u64, page: u64) -> bool
     ensures { result ≡ is_entry_of ready page word }
 {
-    word % 8 == READY && word / 1024 == page
+    let word = EntryWord { word };
+    word.is_ready() && word.page() == page
 }
 
 // What is next behind the store, where the page isn't loaded.

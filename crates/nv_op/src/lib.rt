@@ -5,6 +5,7 @@
 
 mod asked;
 mod cleaner_op;
+mod entry_word;
 mod kinds;
 mod op;
 mod performing;
@@ -12,6 +13,7 @@ mod word;
 
 pub use asked::Asked;
 pub use cleaner_op::CleanerOp;
+pub use entry_word::EntryWord;
 pub use kinds::Kind;
 pub use op::Op;
 pub use performing::{perform, perform_after};

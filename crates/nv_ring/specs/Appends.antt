@@ -1,7 +1,7 @@
 -- Appends: a write's way through the log, from its first entry to its place and its new length, as the core's control state.
 use Rattle.std.specs.Prelude.{◌≡◌, ℕ, ◌+◌, ◌-◌, ◌*◌, ◌<◌, ◌≤◌, ◌^◌, ◌==◌, nat_lt, Bool, true, false, if◌then◌else◌, List, ◌∷◌, ◌++◌, length, Option, Some, None}
 use Rattle.nv_plain.specs.declared.call.FileCall.{FileCall}
-use Rattle.nv_core.specs.state.Words.{slot_of_entry}
+use Rattle.nv_core.specs.state.Words.{entry_word, ready, slot_of_entry}
 use Rattle.nv_core.specs.state.Passes.{Control, SeizeEntry, CommitGroup, PledgePage, ReadyEntry, TakePlace, GrowLength, GiveSize, GivePage, GiveBack, BreakEntry, IsAllowed, first_page, page_count}
 use Rattle.nv_core.specs.state.Words.{Sizes, Word, SIZE, ENTRY}
 use Rattle.nv_table.specs.state.States.{PassState}
@@ -67,8 +67,8 @@ IsPlain control = IsOpen control
 abbrev pub ready_number : AppendMachine → (ready : ℕ) → ℕ
 ready_number m ready = if ready + 1 == m.pages then m.number else m.number + (ready + 1)
 
-abbrev pub ready_word_of : AppendMachine → (ready : ℕ) → ℕ
-ready_word_of m ready = if ready + 1 == m.pages then 2 + 8 * m.pages + 1024 * m.page else 2 + 1024 * (m.page + (ready + 1))
+abbrev pub ready_word_of : AppendMachine → (behind : ℕ) → ℕ
+ready_word_of m behind = if behind + 1 == m.pages then entry_word ready m.pages m.page else entry_word ready 0 (m.page + (behind + 1))
 
 -- behind the device calls of its commit, of which one has failed or not
 abbrev pub committed_op : AppendMachine → (failed : Bool) → Op

@@ -6,7 +6,7 @@ ghost use Rattle.nv_ring.specs.Appends.{Fits, HasStepped, IsPlain, IsUnderWay, a
 
 use nv_core::{runs_are_sound, runs_keep_content};
 use nv_mirror::Refusal;
-use nv_op::{Op, perform};
+use nv_op::{EntryWord, Op, perform};
 use nv_plain::history_goes_on;
 use nv_pmem::Lines;
 use nv_store::Backing;
@@ -68,14 +68,16 @@ impl<'a> AppendMachine<'a> {
 
     fn ready_word(self, ready: u64) -> u64
         requires own { ready < self.pages }
+        requires few { self.pages ≤ 16 }
         requires low { self.page + self.pages ≤ 2 ^ 50 }
         ensures { result ≡ ready_word_of self.entry ready }
     {
-        if ready + 1 == self.pages {
-            2 + 8 * self.pages + 1024 * self.page
+        let word = if ready + 1 == self.pages {
+            EntryWord::ready(self.pages, self.page)
         } else {
-            2 + 1024 * (self.page + (ready + 1))
-        }
+            EntryWord::ready(0, self.page + (ready + 1))
+        };
+        word.word
     }
 
     // The next step, where no device call has failed.
