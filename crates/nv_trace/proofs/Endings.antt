@@ -4,7 +4,7 @@ use Rattle.std.proofs.Math.Dec.{eqb-suc-zero}
 use Rattle.std.proofs.Math.Nat.{zero-add}
 use Rattle.std.specs.List.{list_all}
 use Rattle.std.proofs.lemmas.Bool.{false≢true, ltb-true, lt-ltb, lt-leb, le-leb, cases_lt, cond-true, cond-false, eq-eqb, eqb-true}
-use Rattle.std.proofs.lemmas.List.{append-nil, length-append, length-take, take-append-drop, take-append-le, take_all, get_or-take}
+use Rattle.std.proofs.lemmas.List.{append-nil, length-append, length-take, take-append-drop, take_all, get_or-take}
 use Rattle.std.proofs.Math.Seq.{take-append-add}
 use Rattle.nv_trace.specs.Lines.{fields_of, parts_between}
 use Rattle.nv_trace.specs.Traced.{Traced, empty_trace}
@@ -14,12 +14,12 @@ use Rattle.nv_trace.specs.declared.bad_line.BadLine.{BadLine}
 use Rattle.nv_trace.specs.declared.bad_line.Why.{Why}
 use Rattle.nv_trace.specs.declared.bad_line.Why.TheVariants.{Long as LongLine, Bytes as OddBytes}
 use Rattle.nv_trace.specs.declared.trace.Form.{Form}
-use Rattle.nv_trace.specs.Pending.{onto_line, counted_lines, ending_after, ending_from, lines_end, input_ends, room_for}
-use Rattle.nv_trace.specs.declared.reader.LineReader.{LineReader}
+use Rattle.nv_trace.specs.Pending.{onto_line, counted_lines, ending_after, ending_from, lines_end, room_for}
+use Rattle.nv_trace.specs.declared.pending_line.PendingLine.{PendingLine}
 use Rattle.nv_trace.proofs.Parts.{parts_some, onto_line_some, onto_line-append, parts-append, counted_more}
 
 -- more bytes don't change what such a line says
-abbrev is_settled : List ℕ → Bool
+abbrev pub is_settled : List ℕ → Bool
 is_settled [] = false
 is_settled (first ∷ rest) = cond (eqb first 35) true (ltb longest_line (length (first ∷ rest)))
 
@@ -84,7 +84,7 @@ same_start (byte ∷ line) part room some = refl
 abbrev most_kept : List ℕ → ℕ
 most_kept line = cond (eqb (get_or line 0 0) 35) 1 (longest_line + 1)
 
-kept_settled : (line part : List ℕ) (test : Bool) → eqb (get_or (line ++ part) 0 0) 35 ≡ test → cond test 1 (longest_line + 1) - length line < length part → is_settled (line ++ take (cond test 1 (longest_line + 1) - length line) part) ≡ true
+pub kept_settled : (line part : List ℕ) (test : Bool) → eqb (get_or (line ++ part) 0 0) 35 ≡ test → cond test 1 (longest_line + 1) - length line < length part → is_settled (line ++ take (cond test 1 (longest_line + 1) - length line) part) ≡ true
 kept_settled line part true hash less =
     let room = 1 - length line in
     settled_skipped (line ++ take room part) (omega (arith, length-append line (take room part), length-take room part))
@@ -142,7 +142,7 @@ unfolding ending_from ending_after ending_of
 ending_at_start form input =
     ap (λ count. cond (leb count largest_input) (ending_after true (empty_trace form) 1 [] input) (long_unless_bad (ending_after false (empty_trace form) 1 [] (take largest_input input)))) (zero-add (length input))
 
-take_past : (room : ℕ) (bytes rest : List ℕ) → length bytes ≤ room → take room (bytes ++ rest) ≡ bytes ++ take (room - length bytes) rest
+pub take_past : (room : ℕ) (bytes rest : List ℕ) → length bytes ≤ room → take room (bytes ++ rest) ≡ bytes ++ take (room - length bytes) rest
 take_past room bytes rest fits =
     let count : room ≡ length bytes + (room - length bytes) = omega arith in
     ap (λ n. take n (bytes ++ rest)) count ∙ take-append-add bytes rest (room - length bytes)
@@ -151,39 +151,46 @@ same_cond : (test : Bool) (ending : Ending) → cond test ending ending ≡ endi
 same_cond true ending = refl
 same_cond false ending = refl
 
+-- how an input ends, behind what is kept of an pending line
+abbrev pub ends_from : Traced → PendingLine → (taken : ℕ) → (rest : List ℕ) → Ending
+ends_from trace pending taken rest = ending_from trace pending.number pending.line.items taken rest
+
 -- more bytes were taken, within the limit
-pub continued : (old new : LineReader) (bytes rest : List ℕ) → new.taken ≤ largest_input → new.taken ≡ old.taken + length bytes → ((whole : Bool) (rest : List ℕ) → lines_end whole new rest ≡ lines_end whole old (bytes ++ rest)) → input_ends new rest ≡ input_ends old (bytes ++ rest)
+pub continued : (old_trace trace : Traced) (old pending : PendingLine) (before taken : ℕ) (bytes rest : List ℕ) → taken ≤ largest_input → taken ≡ before + length bytes
+    → ((whole : Bool) (rest : List ℕ) → lines_end whole trace pending rest ≡ lines_end whole old_trace old (bytes ++ rest))
+    → ends_from trace pending taken rest ≡ ends_from old_trace old before (bytes ++ rest)
 unfolding ending_from
-continued old new bytes rest fits taken goes_on =
-    let count : new.taken + length rest ≡ old.taken + length (bytes ++ rest) = omega (arith, length-append bytes rest) in
-    let room : largest_input - old.taken - length bytes ≡ largest_input - new.taken = omega arith in
-    let cut : bytes ++ take (largest_input - new.taken) rest ≡ take (largest_input - old.taken) (bytes ++ rest) =
-    sym (take_past (largest_input - old.taken) bytes rest (omega arith) ∙ ap (λ n. bytes ++ take n rest) room) in
-    let test = leb (old.taken + length (bytes ++ rest)) largest_input in
-    ap (λ n. cond (leb n largest_input) (lines_end true new rest) (long_unless_bad (lines_end false new (take (largest_input - new.taken) rest)))) count
-    ∙ ap (λ ending. cond test ending (long_unless_bad (lines_end false new (take (largest_input - new.taken) rest)))) (goes_on true rest)
-    ∙ ap (λ ending. cond test (lines_end true old (bytes ++ rest)) (long_unless_bad ending)) (goes_on false (take (largest_input - new.taken) rest) ∙ ap (lines_end false old) cut)
+continued old_trace trace old pending before taken bytes rest fits is_taken goes_on =
+    let count : taken + length rest ≡ before + length (bytes ++ rest) = omega (arith, length-append bytes rest) in
+    let room : largest_input - before - length bytes ≡ largest_input - taken = omega arith in
+    let cut : bytes ++ take (largest_input - taken) rest ≡ take (largest_input - before) (bytes ++ rest) =
+    sym (take_past (largest_input - before) bytes rest (omega arith) ∙ ap (λ n. bytes ++ take n rest) room) in
+    let test = leb (before + length (bytes ++ rest)) largest_input in
+    ap (λ n. cond (leb n largest_input) (lines_end true trace pending rest) (long_unless_bad (lines_end false trace pending (take (largest_input - taken) rest)))) count
+    ∙ ap (λ ending. cond test ending (long_unless_bad (lines_end false trace pending (take (largest_input - taken) rest)))) (goes_on true rest)
+    ∙ ap (λ ending. cond test (lines_end true old_trace old (bytes ++ rest)) (long_unless_bad ending)) (goes_on false (take (largest_input - taken) rest) ∙ ap (lines_end false old_trace old) cut)
 
 -- they have a bad line
-pub stopped : (old : LineReader) (bytes rest : List ℕ) (line : BadLine) → old.taken + length bytes ≤ largest_input → ((whole : Bool) (rest : List ℕ) → lines_end whole old (bytes ++ rest) ≡ Bad line) → input_ends old (bytes ++ rest) ≡ Bad line
+pub stopped : (old_trace : Traced) (old : PendingLine) (before : ℕ) (bytes rest : List ℕ) (line : BadLine) → before + length bytes ≤ largest_input
+    → ((whole : Bool) (rest : List ℕ) → lines_end whole old_trace old (bytes ++ rest) ≡ Bad line) → ends_from old_trace old before (bytes ++ rest) ≡ Bad line
 unfolding ending_from
-stopped old bytes rest line fits bad =
-    let test = leb (old.taken + length (bytes ++ rest)) largest_input in
-    let cut = take_past (largest_input - old.taken) bytes rest (omega arith) in
-    ap (λ ending. cond test ending (long_unless_bad (lines_end false old (take (largest_input - old.taken) (bytes ++ rest))))) (bad true rest)
-    ∙ ap (λ ending. cond test (Bad line) (long_unless_bad ending)) (ap (lines_end false old) cut ∙ bad false (take (largest_input - old.taken - length bytes) rest))
+stopped old_trace old before bytes rest line fits bad =
+    let test = leb (before + length (bytes ++ rest)) largest_input in
+    let cut = take_past (largest_input - before) bytes rest (omega arith) in
+    ap (λ ending. cond test ending (long_unless_bad (lines_end false old_trace old (take (largest_input - before) (bytes ++ rest))))) (bad true rest)
+    ∙ ap (λ ending. cond test (Bad line) (long_unless_bad ending)) (ap (lines_end false old_trace old) cut ∙ bad false (take (largest_input - before - length bytes) rest))
     ∙ same_cond test (Bad line)
 
 -- bytes that pass the limit: those within it decide
-pub past_limit : (old : LineReader) (bytes rest front : List ℕ) → old.taken ≤ largest_input → largest_input < old.taken + length bytes → front ≡ take (largest_input - old.taken) bytes → input_ends old (bytes ++ rest) ≡ long_unless_bad (lines_end false old (front ++ []))
+pub past_limit : (old_trace : Traced) (old : PendingLine) (before : ℕ) (bytes : List ℕ) → largest_input < before + length bytes
+    → ends_from old_trace old before bytes ≡ long_unless_bad (lines_end false old_trace old (take (largest_input - before) bytes))
 unfolding ending_from
-past_limit old bytes rest front fits past is_front =
-    cond-false (leb (old.taken + length (bytes ++ rest)) largest_input) (lines_end true old (bytes ++ rest)) (long_unless_bad (lines_end false old (take (largest_input - old.taken) (bytes ++ rest))))
-    (lt-leb (old.taken + length (bytes ++ rest)) largest_input (omega (arith, length-append bytes rest)))
-    ∙ ap (λ bytes. long_unless_bad (lines_end false old bytes)) (take-append-le (largest_input - old.taken) bytes rest (omega arith) ∙ sym is_front ∙ sym (append-nil front))
+past_limit old_trace old before bytes past =
+    cond-false (leb (before + length bytes) largest_input) (lines_end true old_trace old bytes) (long_unless_bad (lines_end false old_trace old (take (largest_input - before) bytes)))
+    (lt-leb (before + length bytes) largest_input past)
 
 -- nothing is left
-pub at_end : (reader : LineReader) → reader.taken ≤ largest_input → input_ends reader [] ≡ lines_end true reader []
+pub at_end : (trace : Traced) (pending : PendingLine) (taken : ℕ) → taken ≤ largest_input → ends_from trace pending taken [] ≡ lines_end true trace pending []
 unfolding ending_from
-at_end reader fits =
-    cond-true (leb (reader.taken + 0) largest_input) (lines_end true reader []) (long_unless_bad (lines_end false reader (take (largest_input - reader.taken) []))) (le-leb (reader.taken + 0) largest_input (omega arith))
+at_end trace pending taken fits =
+    cond-true (leb (taken + 0) largest_input) (lines_end true trace pending []) (long_unless_bad (lines_end false trace pending (take (largest_input - taken) []))) (le-leb (taken + 0) largest_input (omega arith))

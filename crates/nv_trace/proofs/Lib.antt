@@ -1,11 +1,18 @@
 mod Endings
 mod Fields
+mod Fitting
+mod Forgotten
 mod Inputs
+mod NextRounds
 pub mod Numbered
 mod Numbers
 mod Parts
 mod Refusals
+mod RoundCalls
+mod RoundChains
+mod RoundEnds
 mod Schedules
 mod Shapes
 mod TokenLists
+mod WholeRounds
 pub mod Writing

@@ -7,7 +7,8 @@ use Rattle.std.proofs.lemmas.List.{get_or_append_left, get_or_push, length_push,
 use Rattle.std.proofs.lemmas.List.Elements.{All-map, All-push, All-weaker}
 use Rattle.nv_trace.specs.Reading.{with_statement}
 use Rattle.nv_trace.specs.Shape.{IsNumberedBelow}
-use Rattle.nv_trace.specs.Traced.{Traced}
+use Rattle.nv_trace.specs.Traced.{Traced, empty_trace}
+use Rattle.nv_trace.specs.declared.trace.Form.{Form}
 use Rattle.nv_trace.specs.declared.statement.Statement.{Statement}
 use Rattle.nv_trace.specs.declared.statement.Statement.TheVariants.{File, Opened, Call, Round}
 use Rattle.nv_trace.specs.declared.trace_call.TracedCall.{TracedCall}
@@ -47,3 +48,7 @@ numbered_on trace number (File name) numbered = let on = numbered_later trace nu
 numbered_on trace number (Opened descriptor) numbered = let on = numbered_later trace number numbered in record { line_order = on.line_order; below = on.below; few = on.few }
 numbered_on trace number (Call thread call) numbered = numbered_call trace number (record { line = number; round = trace.rounds; thread = thread; call = call }) refl numbered
 numbered_on trace number Round numbered = let on = numbered_later trace number numbered in record { line_order = on.line_order; below = on.below; few = on.few }
+
+-- a trace of no lines
+pub numbered_none : (form : Form) (number : ℕ) → 0 < number → IsNumberedBelow number (empty_trace form)
+numbered_none form number some = record { line_order = λ k in_range. absurd (omega arith); below = λ k d in_range. absurd (omega arith); few = some }

@@ -1,7 +1,8 @@
 -- The parts of an input, as its bytes come.
 use Rattle.std.proofs.Common.{◌≡◌, ◌≢◌, ℕ, suc, ◌+◌, ◌<◌, Bool, true, false, eqb, cond, List, [], ◌∷◌, ◌++◌, length, get_or, take, drop, refl, sym, ap, ◌∙◌, arith}
 use Rattle.std.proofs.lemmas.Bool.{ne_eqb}
-use Rattle.std.proofs.lemmas.List.{append_assoc, drop_more, take-append-drop}
+use Rattle.std.proofs.Math.Seq.{take-add}
+use Rattle.std.proofs.lemmas.List.{append_assoc, drop_more, take-append-drop, take_more}
 use Rattle.nv_trace.specs.Lines.{onto_first, parts_between}
 use Rattle.nv_trace.specs.Pending.{onto_line, counted_lines}
 
@@ -47,8 +48,21 @@ counted_more true [] first rest = refl
 counted_more true (byte ∷ line) first rest = refl
 counted_more false line first rest = refl
 
--- a line feed within some bytes, with more behind them
-pub feed_within : (bytes more : List ℕ) (end : ℕ) → end < length bytes → get_or bytes end 0 ≡ 10 → take end bytes ++ (10 ∷ (drop (end + 1) bytes ++ more)) ≡ bytes ++ more
-feed_within bytes more end within feed =
-    let behind : drop end bytes ≡ 10 ∷ drop (end + 1) bytes = drop_more bytes end 0 within ∙ ap (λ byte. byte ∷ drop (end + 1) bytes) feed in
-    ap (λ rest. take end bytes ++ (rest ++ more)) (sym behind) ∙ sym (append_assoc (take end bytes) (drop end bytes) more) ∙ ap (λ all. all ++ more) (take-append-drop end bytes)
+-- the bytes up to a line feed, and with it
+pub feed_cut : (bytes : List ℕ) (used end : ℕ) → end < length (drop used bytes) → get_or (drop used bytes) end 0 ≡ 10
+    → bytes ≡ (take used bytes ++ take end (drop used bytes)) ++ 10 ∷ drop (end + 1) (drop used bytes)
+feed_cut bytes used end within feed =
+    let rest = drop used bytes in
+    let behind : drop end rest ≡ 10 ∷ drop (end + 1) rest = drop_more rest end 0 within ∙ ap (λ byte. byte ∷ drop (end + 1) rest) feed in
+    sym (append_assoc (take used bytes) (take end rest) (10 ∷ drop (end + 1) rest)
+    ∙ ap (λ all. take used bytes ++ (take end rest ++ all)) (sym behind)
+    ∙ ap (λ all. take used bytes ++ all) (take-append-drop end rest)
+    ∙ take-append-drop used bytes)
+
+pub feed_taken : (bytes : List ℕ) (used end : ℕ) → end < length (drop used bytes) → get_or (drop used bytes) end 0 ≡ 10
+    → take (used + (end + 1)) bytes ≡ (take used bytes ++ take end (drop used bytes)) ++ 10 ∷ []
+feed_taken bytes used end within feed =
+    let rest = drop used bytes in
+    take-add used (end + 1) bytes
+    ∙ ap (λ all. take used bytes ++ all) (take_more rest end 0 within ∙ ap (λ byte. take end rest ++ byte ∷ []) feed)
+    ∙ sym (append_assoc (take used bytes) (take end rest) (10 ∷ []))

@@ -8,7 +8,12 @@ pub mod Reading
 pub mod Said
 pub mod Shape
 pub mod Refused
+pub mod Rounds
 pub mod Pending
+pub mod NextRound
+pub mod Ahead
+pub mod ReadRounds
+pub mod RoundCalls
 pub mod Report
 pub mod MemStreams
 pub mod RealStreams

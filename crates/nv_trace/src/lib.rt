@@ -3,8 +3,11 @@
 
 mod bad_line;
 mod call_lines;
+mod laws;
+mod line;
 mod mem_sink;
 mod mem_source;
+mod pending_line;
 mod plan;
 mod read_error;
 mod reader;
@@ -20,10 +23,12 @@ mod trace_call;
 mod writer_sink;
 
 pub use bad_line::{BadLine, Why};
+pub use laws::{rounds_hold_their_calls, rounds_make_the_trace};
+pub use line::read_line;
 pub use mem_sink::MemSink;
 pub use mem_source::MemSource;
 pub use read_error::{LineError, ReadError};
-pub use reader::{read_line, read_trace};
+pub use reader::{LineReader, read_trace};
 pub use reader_source::ReaderSource;
 pub use report::{
     Fate, Refusal, end_line, file_line, history_line, open_line, recovered_line, refused_line,

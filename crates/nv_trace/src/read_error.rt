@@ -10,7 +10,6 @@ ghost use Rattle.nv_trace.specs.declared.read_error.ReadError.TheVariants as rea
 use crate::Failed;
 use crate::bad_line::{BadLine, Unsaid};
 use nv_plain::NoMemory;
-use std::alloc::AllocError;
 use thiserror::Error;
 
 /// Why a line was not taken.
@@ -72,10 +71,10 @@ impl From<Failed> for ReadError {
     }
 }
 
-impl From<AllocError> for ReadError {
+impl From<NoMemory> for ReadError {
     ghost from_gives = { λ _ error. error ≡ read_errors.NoMemory };
 
-    fn from(_: AllocError) -> Self {
+    fn from(_: NoMemory) -> Self {
         ReadError::NoMemory
     }
 }

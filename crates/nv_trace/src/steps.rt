@@ -10,8 +10,8 @@ ghost use Rattle.nv_trace.specs.Tokens.{tokens_of};
 ghost use Rattle.nv_trace.specs.declared.bad_line.Why.TheVariants as why;
 
 use crate::bad_line::{Unsaid, Why};
+use crate::line::check_line;
 use crate::read_error::{LineError, line_error};
-use crate::reader::check_line;
 use crate::token::{Token, token_of};
 use crate::trace::Trace;
 use std::alloc::Global;

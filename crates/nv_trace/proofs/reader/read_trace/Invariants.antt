@@ -1,17 +1,18 @@
-use Rattle.std.proofs.Common.{◌≡◌, ◌-◌, vec_len}
+use Rattle.std.proofs.Common.{◌≡◌, ◌-◌}
+use Rattle.nv_trace.specs.NextRound.{IsAtLine}
 use Rattle.nv_trace.specs.Reading.{largest_input}
-use Rattle.nv_trace.specs.Pending.{IsWithinLines}
-use Rattle.nv_trace.proofs.Inputs.{EndsAlike}
+use Rattle.nv_trace.specs.Shape.{IsNumberedBelow}
+use Rattle.nv_trace.proofs.WholeRounds.{EndsAlike}
 use Rattle.nv_trace.proofs.reader.read_trace.Given as goal
 
-abbrev pub invariant-loop-buffer : goal.invariant-loop-buffer
-invariant-loop-buffer g l = record {
-  ends : EndsAlike l.fn.form (g.I.Source.left l.fn.src) (g.I.Source.left l.src) l.reader;
+abbrev pub invariant-loop-reader : goal.invariant-loop-reader
+invariant-loop-reader g l = record {
+  within : IsAtLine l.reader;
+  ends : EndsAlike l.fn.form (g.I.Source.left l.fn.src) (g.I.Source.left l.src) l.trace l.reader;
   faults : g.I.Source.fault_count l.src ≡ g.I.Source.fault_count l.fn.src;
-  room : vec_len l.buffer ≡ 65536;
-  within : IsWithinLines l.reader;
-  form : l.reader.trace.form ≡ l.fn.form;
+  form : l.trace.form ≡ l.fn.form;
+  numbered : IsNumberedBelow l.reader.pending.number l.trace;
 }
 
-abbrev pub decreases-loop-buffer : goal.decreases-loop-buffer
-decreases-loop-buffer g l = largest_input - l.reader.taken
+abbrev pub decreases-loop-reader : goal.decreases-loop-reader
+decreases-loop-reader g l = largest_input - l.reader.taken

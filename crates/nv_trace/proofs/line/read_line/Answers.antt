@@ -3,7 +3,7 @@ use Rattle.std.proofs.lemmas.Result.{IfErr-weaker}
 use Rattle.nv_trace.specs.Reading.{after_line}
 use Rattle.nv_trace.specs.Refused.{IsBadAs}
 use Rattle.nv_trace.proofs.Schedules.{as_schedule, some_rest}
-use Rattle.nv_trace.proofs.reader.read_line.Goals as goal
+use Rattle.nv_trace.proofs.line.read_line.Goals as goal
 
 pub returns-then-is_some-clause-read : goal.returns-then-is_some-clause-read
 returns-then-is_some-clause-read c =

@@ -7,7 +7,7 @@ use Rattle.nv_trace.specs.Said.{IsUnsaid, said}
 use Rattle.nv_trace.specs.Shape.{IsNumberedBelow}
 use Rattle.nv_trace.proofs.Numbered.{numbered_on}
 use Rattle.nv_trace.proofs.Schedules.{other_read, unsaid_on}
-use Rattle.nv_trace.proofs.reader.take_line.Goals as goal
+use Rattle.nv_trace.proofs.line.take_line.Goals as goal
 
 pub returns-in_err-statement-clause-bad : goal.returns-in_err-statement-clause-bad
 returns-in_err-statement-clause-bad c =
