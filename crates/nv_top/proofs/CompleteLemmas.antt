@@ -11,8 +11,8 @@ use Rattle.nv_top.specs.Stops.{IsOwnStop}
 use Rattle.nv_top.specs.Stopping.{IsSettledStop}
 use Rattle.nv_top.specs.declared.ending.Stop.{Stop}
 use Rattle.nv_top.specs.declared.ending.Stop.TheVariants.{Usage, BadLine as BadLineStop, InputLong, Read, Device, Region, NoMemory, Turns}
-use Rattle.nv_top.specs.declared.words.Command.{Command}
-use Rattle.nv_top.specs.declared.words.Command.TheVariants.{Run, Sched, Recover, Look, Gen}
+use Rattle.nv_words.specs.declared.words.Command.{Command}
+use Rattle.nv_words.specs.declared.words.Command.TheVariants.{Run, Sched, Recover, Look, Gen}
 use Rattle.nv_top.proofs.CommandLemmas.{if_told, told_at}
 
 -- what a refusal of a command is

@@ -51,7 +51,7 @@ use Rattle.nv_runner.specs.Reports.{OpenCall, Report, ShownRefusal}
 use Rattle.nv_top.specs.Commands.{IsBasis}
 use Rattle.nv_top.specs.Stopping.{next_in}
 use Rattle.nv_top.specs.NextCommands.{FindsFiles, HasOwnNames, IsReportOf, NextFindsLooked, NextFindsRecovered, NextFindsRun, NextFindsScheduled, NextFindsShown, NextFindsStopped, RunsHaveOneHistory, done_by, done_so, done_write}
-use Rattle.nv_top.specs.declared.words.RunOptions.{RunOptions}
+use Rattle.nv_words.specs.declared.words.RunOptions.{RunOptions}
 use Rattle.nv_top.proofs.FollowedLemmas.{report_all}
 use Rattle.nv_top.proofs.NameLemmas.{descriptors_known, wanted_known}
 

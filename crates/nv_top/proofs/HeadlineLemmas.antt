@@ -21,12 +21,12 @@ use Rattle.nv_trace.specs.Traced.{Traced}
 use Rattle.nv_top.specs.Endings.{OfRead}
 use Rattle.nv_top.specs.Headline.{IsCommandRefused, IsRunRefused, command_over, may_stop, possible}
 use Rattle.nv_top.specs.Ready.{IsRunnable}
-use Rattle.nv_top.specs.Words.{AreInLimits, command_of}
-use Rattle.nv_top.specs.declared.words.Command.{Command}
-use Rattle.nv_top.specs.declared.words.Command.TheVariants.{Run, Sched, Recover, Look, Gen}
-use Rattle.nv_top.specs.declared.words.RunOptions.{RunOptions}
+use Rattle.nv_words.specs.Words.{AreInLimits, command_of}
+use Rattle.nv_words.specs.declared.words.Command.{Command}
+use Rattle.nv_words.specs.declared.words.Command.TheVariants.{Run, Sched, Recover, Look, Gen}
+use Rattle.nv_words.specs.declared.words.RunOptions.{RunOptions}
 use Rattle.nv_top.proofs.CommandLemmas.{if_told, told_at}
-use Rattle.nv_top.proofs.WordLemmas.{and_then_some, load_in_limits, run_in_limits, sched_in_limits, stop_from_one}
+use Rattle.nv_words.proofs.LimitLemmas.{and_then_some, load_in_limits, run_in_limits, sched_in_limits, stop_from_one}
 
 -- ---- words
 

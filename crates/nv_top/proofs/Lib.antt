@@ -7,7 +7,6 @@ pub mod HomeLemmas
 pub mod PoweredHomes
 pub mod LoadLemmas
 pub mod NameLemmas
-pub mod NumberLemmas
 pub mod ReadingLemmas
 pub mod ReportedLemmas
 pub mod RestLemmas
@@ -21,7 +20,6 @@ pub mod StoppingLemmas
 pub mod TestBenches
 pub mod UnhinderedLemmas
 pub mod UnrefusedLemmas
-pub mod WordLemmas
 pub mod LifeLemmas
 pub mod CompleteLemmas
 pub mod NextLemmas

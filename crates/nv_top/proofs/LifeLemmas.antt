@@ -42,8 +42,8 @@ use Rattle.nv_trace.specs.Reading.{ending_of, Whole}
 use Rattle.nv_trace.specs.declared.trace.Form.{Form}
 use Rattle.nv_trace.specs.declared.trace.Form.TheVariants as forms
 use Rattle.nv_trace.specs.Traced.{Traced}
-use Rattle.nv_top.specs.declared.words.Command.{Command}
-use Rattle.nv_top.specs.declared.words.Command.TheVariants.{Run, Sched, Recover, Look, Gen}
+use Rattle.nv_words.specs.declared.words.Command.{Command}
+use Rattle.nv_words.specs.declared.words.Command.TheVariants.{Run, Sched, Recover, Look, Gen}
 use Rattle.nv_open.proofs.GivenBack.{still_stands, still_untouched}
 use Rattle.nv_runner.specs.Faithful.{Basis}
 use Rattle.nv_runner.specs.Histories.{PlacedCall}
@@ -53,7 +53,7 @@ use Rattle.nv_load.specs.Generated.{generated}
 use Rattle.nv_top.specs.Loads.{load_options}
 use Rattle.nv_top.specs.Lives.{AreLeftSo, HasLived, LeavesLife, LeavesRun, LeavesTrace}
 use Rattle.nv_top.specs.Ready.{IsRunnable}
-use Rattle.nv_top.specs.declared.words.RunOptions.{RunOptions}
+use Rattle.nv_words.specs.declared.words.RunOptions.{RunOptions}
 use Rattle.nv_top.proofs.CommandLemmas.{if_told, told_at}
 use Rattle.nv_top.proofs.HomeLemmas.{any_images}
 use Rattle.nv_top.proofs.PoweredHomes.{found_powered, powered_many}

@@ -29,10 +29,10 @@ use Rattle.nv_top.specs.Leaving.{Leaves}
 use Rattle.nv_top.specs.NextCommands.{BeginsAt, IsReady, NextBeginsBehind, NextBeginsBehindRecovery, NextBeginsBehindSchedule, NextBeginsBehindStop, NextIsReady}
 use Rattle.nv_top.specs.Scheduling.{IsBackPowered}
 use Rattle.nv_top.specs.Stopping.{IsPoweredBack, RestsWith, next_in}
-use Rattle.nv_top.specs.declared.words.Command.TheVariants.{Run, Sched, Recover, Look, Gen}
+use Rattle.nv_words.specs.declared.words.Command.TheVariants.{Run, Sched, Recover, Look, Gen}
 use Rattle.nv_top.proofs.CommandLemmas.{told_at}
 use Rattle.nv_trace.specs.Traced.{Traced}
-use Rattle.nv_top.specs.declared.words.RunOptions.{RunOptions}
+use Rattle.nv_words.specs.declared.words.RunOptions.{RunOptions}
 use Rattle.nv_runner.specs.Faithful.{Basis}
 
 abbrev Still : List NamedStore → Type 0

@@ -41,11 +41,11 @@ use Rattle.nv_top.specs.Stops.{CountHasCause, IsCauseOf, IsFollowed, IsOwnStop, 
 use Rattle.nv_top.specs.declared.ending.Stop.{Stop}
 use Rattle.nv_top.specs.declared.ending.Stop.TheVariants.{Usage, BadLine, InputLong, Read, Device, Region, NoMemory, Turns}
 use Rattle.nv_top.specs.declared.show.Show.TheVariants.{Report}
-use Rattle.nv_top.specs.declared.words.Command.{Command}
-use Rattle.nv_top.specs.declared.words.Command.TheVariants.{Run, Sched, Recover, Look, Gen}
-use Rattle.nv_top.specs.declared.words.RunOptions.{RunOptions}
-use Rattle.nv_top.specs.declared.words.WordsError.{WordsError}
-use Rattle.nv_top.specs.declared.words.WordsError.TheVariants as words_errors
+use Rattle.nv_words.specs.declared.words.Command.{Command}
+use Rattle.nv_words.specs.declared.words.Command.TheVariants.{Run, Sched, Recover, Look, Gen}
+use Rattle.nv_words.specs.declared.words.RunOptions.{RunOptions}
+use Rattle.nv_words.specs.declared.words.WordsError.{WordsError}
+use Rattle.nv_words.specs.declared.words.WordsError.TheVariants as words_errors
 use Rattle.nv_top.proofs.CommandLemmas.{if_told, told_at}
 use Rattle.nv_top.proofs.CompleteLemmas.{settled_counts, settled_done}
 use Rattle.nv_top.proofs.HeadlineLemmas.{same_some}

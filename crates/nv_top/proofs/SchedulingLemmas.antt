@@ -56,7 +56,7 @@ use Rattle.nv_top.specs.Scheduling.{HasScheduledOn, HasUsedTurns, IsArmedAt, IsA
 use Rattle.nv_top.specs.Stopping.{IsSettledStop, RestsWith, ShowsOpen, StopSettles}
 use Rattle.nv_top.specs.declared.ending.Stop.{Stop}
 use Rattle.nv_top.specs.declared.ending.Stop.TheVariants as stops
-use Rattle.nv_top.specs.declared.words.RunOptions.{RunOptions}
+use Rattle.nv_words.specs.declared.words.RunOptions.{RunOptions}
 use Rattle.nv_top.proofs.FollowedLemmas.{files_are, is_faithful, schedule_more}
 use Rattle.nv_top.proofs.NameLemmas.{names_plain}
 use Rattle.nv_top.proofs.StoppingLemmas.{HasClosedOver, each_allowed, lost_power, names_read}

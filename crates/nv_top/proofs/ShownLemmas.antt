@@ -32,8 +32,8 @@ use Rattle.nv_top.specs.Loads.{load_options}
 use Rattle.nv_top.specs.Stopping.{next_in}
 use Rattle.nv_top.specs.declared.show.Show.{Show}
 use Rattle.nv_top.specs.declared.show.Show.TheVariants.{Report, Summary}
-use Rattle.nv_top.specs.declared.words.Command.TheVariants.{Run, Sched, Recover, Look, Gen}
-use Rattle.nv_top.specs.declared.words.RunOptions.{RunOptions}
+use Rattle.nv_words.specs.declared.words.Command.TheVariants.{Run, Sched, Recover, Look, Gen}
+use Rattle.nv_words.specs.declared.words.RunOptions.{RunOptions}
 use Rattle.nv_top.proofs.UnrefusedLemmas.{header_allowed, region_allowed}
 
 -- ---- names

@@ -9,12 +9,12 @@ use Rattle.nv_top.specs.Commands.{IsGivenBack}
 use Rattle.nv_top.specs.Headline.{IsLeftAfter, IsLeftBy, command_over, possible}
 use Rattle.nv_top.specs.Scheduling.{IsBackPowered}
 use Rattle.nv_top.specs.Stopping.{IsPoweredBack}
-use Rattle.nv_top.specs.Words.{command_of, names_schedule}
-use Rattle.nv_top.specs.declared.words.Command.{Command}
-use Rattle.nv_top.specs.declared.words.Command.TheVariants.{Run, Sched, Recover, Look, Gen}
-use Rattle.nv_top.specs.declared.words.RunOptions.{RunOptions}
+use Rattle.nv_words.specs.Words.{command_of, names_schedule}
+use Rattle.nv_words.specs.declared.words.Command.{Command}
+use Rattle.nv_words.specs.declared.words.Command.TheVariants.{Run, Sched, Recover, Look, Gen}
+use Rattle.nv_words.specs.declared.words.RunOptions.{RunOptions}
 use Rattle.nv_top.proofs.HeadlineLemmas.{schedules_on}
-use Rattle.nv_top.proofs.WordLemmas.{and_then_some, only_sched}
+use Rattle.nv_words.proofs.LimitLemmas.{and_then_some, only_sched}
 
 -- nothing is lent then; and it was armed at most once more by another command than a schedule
 pub record IsFree (schedules : Bool) (old new : BenchState) : Type 0 where

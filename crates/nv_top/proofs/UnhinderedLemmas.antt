@@ -16,7 +16,7 @@ use Rattle.nv_trace.specs.declared.trace.Form.TheVariants as forms
 use Rattle.nv_top.specs.Commands.{IsNotRun}
 use Rattle.nv_top.specs.Endings.{IsTrace}
 use Rattle.nv_top.specs.Headline.{PlainIsUnhindered}
-use Rattle.nv_top.specs.declared.words.RunOptions.{RunOptions}
+use Rattle.nv_words.specs.declared.words.RunOptions.{RunOptions}
 
 never_both : {test : Bool} → test ≡ true → test ≡ false → ⊥
 never_both one other = cc

@@ -25,7 +25,7 @@ use Rattle.nv_top.specs.Reports.{RecoveryReport, recovery_text}
 use Rattle.nv_top.specs.Runs.{next_behind}
 use Rattle.nv_top.specs.Shows.{text_as}
 use Rattle.nv_top.specs.declared.show.Show.{Show}
-use Rattle.nv_top.specs.declared.words.RunOptions.{RunOptions}
+use Rattle.nv_words.specs.declared.words.RunOptions.{RunOptions}
 
 -- the bench is as it was, but for what it holds and its count of faults
 abbrev pub IsGivenBack : (old new : BenchState) → Type 0

@@ -27,10 +27,10 @@ use Rattle.nv_top.specs.Endings.{IsTrace, OfRead}
 use Rattle.nv_top.specs.Scheduling.{HasScheduledOn, HasUsedTurns, IsArmedAt, IsArmedAtSome, IsBackPowered}
 use Rattle.nv_top.specs.Stopped.{HasStoppedOn}
 use Rattle.nv_top.specs.Stopping.{IsPickedOnce, IsPoweredBack}
-use Rattle.nv_top.specs.Words.{command_of}
-use Rattle.nv_top.specs.declared.words.Command.{Command}
-use Rattle.nv_top.specs.declared.words.Command.TheVariants.{Run, Sched, Recover, Look, Gen}
-use Rattle.nv_top.specs.declared.words.RunOptions.{RunOptions}
+use Rattle.nv_words.specs.Words.{command_of}
+use Rattle.nv_words.specs.declared.words.Command.{Command}
+use Rattle.nv_words.specs.declared.words.Command.TheVariants.{Run, Sched, Recover, Look, Gen}
+use Rattle.nv_words.specs.declared.words.RunOptions.{RunOptions}
 
 -- a bench may stop a run, if it is to be stopped: only one whose devices can be armed and powered off does
 abbrev pub may_stop : (images : Bool) → (stop : Option ℕ) → Bool

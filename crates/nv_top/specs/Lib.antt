@@ -1,4 +1,3 @@
-pub mod Words
 pub mod Ready
 pub mod RegionTexts
 pub mod Endings

@@ -18,9 +18,9 @@ use Rattle.nv_trace.specs.Traced.{Traced}
 use Rattle.nv_top.specs.Commands.{IsBasis}
 use Rattle.nv_top.specs.Endings.{OfRead}
 use Rattle.nv_top.specs.Loads.{load_options}
-use Rattle.nv_top.specs.declared.words.Command.{Command}
-use Rattle.nv_top.specs.declared.words.Command.TheVariants.{Run, Sched, Recover, Look, Gen}
-use Rattle.nv_top.specs.declared.words.RunOptions.{RunOptions}
+use Rattle.nv_words.specs.declared.words.Command.{Command}
+use Rattle.nv_words.specs.declared.words.Command.TheVariants.{Run, Sched, Recover, Look, Gen}
+use Rattle.nv_words.specs.declared.words.RunOptions.{RunOptions}
 
 -- Calls of a trace were made from a basis: some of them have their place, in a legal history, and whatever a power failure leaves of what the bench tells recovers to the files after it and then some others,
 -- each whole. The bench has so many parts, and each store of another name is as it was among these.

@@ -10,7 +10,7 @@ use Rattle.nv_load.specs.declared.load.Load.{Load}
 use Rattle.nv_top.specs.Commands.{HasRunOn}
 use Rattle.nv_top.specs.Shows.{summary_text}
 use Rattle.nv_top.specs.declared.show.Show.TheVariants.{Summary}
-use Rattle.nv_top.specs.declared.words.RunOptions.{RunOptions}
+use Rattle.nv_words.specs.declared.words.RunOptions.{RunOptions}
 
 -- how they are run: in a file of 96 pages, by a log of 16 entries, with a worker
 abbrev pub load_options : RunOptions

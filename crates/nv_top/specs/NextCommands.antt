@@ -30,8 +30,8 @@ use Rattle.nv_top.specs.Headline.{HasFollowed, HasInput, HasStopped, IsLeftBy, I
 use Rattle.nv_top.specs.Runs.{next_behind}
 use Rattle.nv_top.specs.Stopping.{next_in}
 use Rattle.nv_top.specs.declared.show.Show.{Show}
-use Rattle.nv_top.specs.declared.words.Command.{Command}
-use Rattle.nv_top.specs.declared.words.RunOptions.{RunOptions}
+use Rattle.nv_words.specs.declared.words.Command.{Command}
+use Rattle.nv_words.specs.declared.words.RunOptions.{RunOptions}
 
 -- A bench is as a command asks for it.
 pub record IsReady (bench : BenchState) : Type 0 where

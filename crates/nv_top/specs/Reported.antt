@@ -15,9 +15,9 @@ use Rattle.nv_top.specs.Stopping.{IsSettledStop}
 use Rattle.nv_top.specs.Stops.{ComesBeforeOpening, IsCauseOf, IsFollowed, IsOwnStop}
 use Rattle.nv_top.specs.declared.ending.Stop.{Stop}
 use Rattle.nv_top.specs.declared.ending.Stop.TheVariants.{Usage, Read, Device, Region, NoMemory, Turns}
-use Rattle.nv_top.specs.declared.words.Command.{Command}
-use Rattle.nv_top.specs.declared.words.Command.TheVariants.{Run, Sched, Recover, Look, Gen}
-use Rattle.nv_top.specs.declared.words.RunOptions.{RunOptions}
+use Rattle.nv_words.specs.declared.words.Command.{Command}
+use Rattle.nv_words.specs.declared.words.Command.TheVariants.{Run, Sched, Recover, Look, Gen}
+use Rattle.nv_words.specs.declared.words.RunOptions.{RunOptions}
 
 -- What a command comes to, if the words are one: its report, or why there is none, each with its cause. The source held the input `given`, and holds `left` of it, with so many faults before and now; the bench was `old`, and is `new`.
 pub record HasReported (over : Option Command) (given left : Option (List ℕ)) (before now : ℕ) (old new : BenchState) (result : Result (Vec ℕ) Stop) : Type 0 where

@@ -32,7 +32,7 @@ use Rattle.nv_top.specs.Readings.{HavePlainNames}
 use Rattle.nv_top.specs.Reports.{report_text}
 use Rattle.nv_top.specs.Behind.{HasLostPowerBehind}
 use Rattle.nv_top.specs.Stopping.{ShowsOpen, ShowsRecovered}
-use Rattle.nv_top.specs.declared.words.RunOptions.{RunOptions}
+use Rattle.nv_words.specs.declared.words.RunOptions.{RunOptions}
 
 -- All that was lent came back to a bench that may have been armed meanwhile, and have lost power since: it is as it was, but for what it tells, its counts, and what power left, with which picks.
 abbrev pub IsBackPowered : (old new : BenchState) → Type 0

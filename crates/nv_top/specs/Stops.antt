@@ -14,8 +14,8 @@ use Rattle.nv_trace.specs.Reading.{ending_of, Bad, Long}
 use Rattle.nv_trace.specs.declared.trace.Form.{Form}
 use Rattle.nv_trace.specs.declared.read_error.ReadError.{ReadError}
 use Rattle.nv_trace.specs.declared.read_error.ReadError.TheVariants as read_errors
-use Rattle.nv_top.specs.declared.words.WordsError.{WordsError}
-use Rattle.nv_top.specs.declared.words.WordsError.TheVariants as words_errors
+use Rattle.nv_words.specs.declared.words.WordsError.{WordsError}
+use Rattle.nv_words.specs.declared.words.WordsError.TheVariants as words_errors
 use Rattle.nv_top.specs.declared.ending.Stop.{Stop}
 use Rattle.nv_top.specs.declared.ending.Stop.TheVariants.{Usage, BadLine, InputLong, Read, Device, Region, NoMemory, Turns}
 use Rattle.nv_top.specs.declared.ending.TheConstants.{USAGE, BAD_INPUT, READ_FAULT, DEVICE_FAULT, NO_MEMORY, BAD_REGION, TURNS_USED}

@@ -6,10 +6,10 @@ ghost use Rattle.nv_top.specs.Headline.{HasInput, HasRefusal, command_over, poss
 ghost use Rattle.nv_top.specs.Ready.{IsReady, IsRunnable};
 ghost use Rattle.nv_top.specs.Reported.{HasReported, HasRunTrace};
 ghost use Rattle.nv_top.specs.Said.{IsSaid, Outcome};
-ghost use Rattle.nv_top.specs.Words.{AreInLimits};
-ghost use Rattle.nv_top.specs.declared.words.Command.{Command};
-ghost use Rattle.nv_top.specs.declared.words.Command.TheVariants as commands;
-ghost use Rattle.nv_top.specs.declared.words.WordsError.TheVariants as words_errors;
+ghost use Rattle.nv_words.specs.Words.{AreInLimits};
+ghost use Rattle.nv_words.specs.declared.words.Command.{Command};
+ghost use Rattle.nv_words.specs.declared.words.Command.TheVariants as commands;
+ghost use Rattle.nv_words.specs.declared.words.WordsError.TheVariants as words_errors;
 
 use crate::ending::{DONE, Stop, say, say_stop};
 use crate::laws::a_refused_region_shows_nothing;
@@ -20,11 +20,11 @@ use crate::run::run_to_end;
 use crate::scheduling::schedule;
 use crate::show::Show;
 use crate::stopping::run_to_stop;
-use crate::words::{Command, RunOptions, WordsError, parse_command};
 use nv_bench::Bench;
 use nv_pmem::images_follow_calls;
 use nv_runner::Gate;
 use nv_trace::{Form, Sink, Source, Trace, read_trace};
+use nv_words::{Command, RunOptions, WordsError, parse_command};
 use std::alloc::Global;
 use std::sync::Wait;
 use std::thread::Threads;

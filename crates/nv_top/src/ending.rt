@@ -8,7 +8,6 @@ ghost use Rattle.nv_top.specs.Said.{IsSaid};
 ghost use Rattle.nv_top.specs.Stops.{stop_of_mount, stop_of_opening, stop_of_read, stop_of_recovery, stop_of_run, stop_of_words};
 
 use crate::region_text::region_line_of;
-use crate::words::WordsError;
 use nv_mount::OpenError as MountError;
 use nv_open::{OpenError, Refusal};
 use nv_plain::NoMemory;
@@ -16,6 +15,7 @@ use nv_recover::RecoverError;
 use nv_runner::RunError;
 use nv_store::StoreFault;
 use nv_trace::{BadLine, ReadError, Sink, Why, write_all};
+use nv_words::WordsError;
 use std::alloc::{AllocError, AllocFailed, Global};
 
 /// The statuses of a program: the report is written.

@@ -21,7 +21,6 @@ mod show;
 mod stopping;
 mod summary;
 mod text;
-mod words;
 
 pub use command::nv_main;
 pub use ending::{
@@ -33,5 +32,5 @@ pub use laws::{
     report_has_one_reading, statuses_tell_what_came,
 };
 pub use nv_runner::{Gate, OpenGate, Point};
+pub use nv_words::{Command, RunOptions};
 pub use program::program_words;
-pub use words::{Command, RunOptions};

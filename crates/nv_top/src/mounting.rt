@@ -12,18 +12,18 @@ ghost use Rattle.nv_trace.specs.Said.{said_place};
 ghost use Rattle.nv_trace.specs.Shape.{IsWellFormed};
 ghost use Rattle.nv_top.specs.Runs.{BeginsMount, HasCache, IsQuietSpare, basis_over};
 ghost use Rattle.nv_top.specs.Stops.{StopHasCause};
-ghost use Rattle.nv_top.specs.Words.{AreInLimits};
+ghost use Rattle.nv_words.specs.Words.{AreInLimits};
 ghost use Rattle.nv_top.specs.declared.ending.Stop.TheVariants as stops;
 
 use crate::ending::Stop;
 use crate::names::open_fds;
-use crate::words::RunOptions;
 use nv_header::Region;
 use nv_mount::{Mount, Unopened};
 use nv_pmem::Lines;
 use nv_store::Backing;
 use nv_table::Pass;
 use nv_trace::Trace;
+use nv_words::RunOptions;
 use std::alloc::Global;
 
 /// The devices of a region that was not mounted, and why not.

@@ -23,7 +23,7 @@ ghost use Rattle.nv_top.specs.Ready.{IsAtHome, IsRunnable};
 ghost use Rattle.nv_top.specs.Runs.{BeginsMount, HasRunOver, IsQuietSpare, basis_over};
 ghost use Rattle.nv_top.specs.Shows.{IsShownLoad, text_as, trace_run};
 ghost use Rattle.nv_top.specs.Stops.{CountHasCause, RunHasCause};
-ghost use Rattle.nv_top.specs.Words.{AreInLimits};
+ghost use Rattle.nv_words.specs.Words.{AreInLimits};
 ghost use Rattle.nv_top.specs.declared.ending.Stop.TheVariants as stops;
 ghost use Rattle.nv_top.specs.declared.show.Show.{Show as AnyShow};
 
@@ -35,7 +35,6 @@ use crate::ran::{RanCalls, run_shown};
 use crate::show::Show;
 use crate::summary::show_summary;
 use crate::text::text_of;
-use crate::words::RunOptions;
 use nv_bench::Bench;
 use nv_core::{
     crashes_leave_whole_writes, empty_logs_rest, passes_are_left_alone, runs_are_sound,
@@ -50,6 +49,7 @@ use nv_runner::{Gate, Plan, runs_leave_lives, show_refusals, unstopped_runs_leav
 use nv_store::Backing;
 use nv_table::Pass;
 use nv_trace::Trace;
+use nv_words::RunOptions;
 use std::alloc::Global;
 use std::sync::Wait;
 use std::thread::Threads;

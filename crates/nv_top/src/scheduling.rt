@@ -26,7 +26,7 @@ ghost use Rattle.nv_top.specs.Runs.{BeginsMount, HasCache, basis_over};
 ghost use Rattle.nv_top.specs.Scheduling.{HasScheduledOn, HasUsedTurns, IsArmedAt, IsArmedAtSome, IsBackPowered, ShowsOutcome};
 ghost use Rattle.nv_top.specs.Stopping.{IsAway, IsPickedOnce, IsSettledStop};
 ghost use Rattle.nv_top.specs.Ready.{IsAtHome, IsReady, IsRunnable};
-ghost use Rattle.nv_top.specs.Words.{AreInLimits};
+ghost use Rattle.nv_words.specs.Words.{AreInLimits};
 ghost use Rattle.nv_top.specs.declared.ending.Stop.TheVariants as stops;
 
 use crate::ending::Stop;
@@ -34,7 +34,6 @@ use crate::mounting::{Unmounted, mount_over};
 use crate::names::copy_names;
 use crate::recovery::recover;
 use crate::stopping::show_recovered;
-use crate::words::RunOptions;
 use nv_bench::{Bench, power_leaves_an_image};
 use nv_header::a_header_has_one_answer;
 use nv_mount::Mount;
@@ -48,6 +47,7 @@ use nv_schedule::{
 };
 use nv_table::Pass;
 use nv_trace::Trace;
+use nv_words::RunOptions;
 use std::alloc::Global;
 
 /// Follows the schedule of a trace over a bench: opens its region, of these sizes where it is blank, with the files of the trace, lets callers follow the tokens over a mount of them, gives all back, powers

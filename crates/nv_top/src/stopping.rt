@@ -24,7 +24,7 @@ ghost use Rattle.nv_top.specs.Runs.{BeginsMount, basis_over};
 ghost use Rattle.nv_top.specs.Stopped.{HasStoppedOn};
 ghost use Rattle.nv_top.specs.Stopping.{IsAway, IsBackUnarmed, IsPickedOnce, IsPoweredBack, IsSettledStop, ShowsOpen, ShowsRecovered};
 ghost use Rattle.nv_top.specs.Stops.{CountHasCause};
-ghost use Rattle.nv_top.specs.Words.{AreInLimits};
+ghost use Rattle.nv_words.specs.Words.{AreInLimits};
 ghost use Rattle.nv_top.specs.declared.ending.Stop.TheVariants as stops;
 
 use crate::ending::Stop;
@@ -33,7 +33,6 @@ use crate::files::read_files;
 use crate::mounting::{Unmounted, mount_over};
 use crate::names::copy_names;
 use crate::text::text_of;
-use crate::words::RunOptions;
 use nv_bench::{Bench, power_leaves_an_image};
 use nv_header::{Names, a_header_has_one_answer};
 use nv_mount::Mount;
@@ -47,6 +46,7 @@ use nv_runner::{
 use nv_store::Backing;
 use nv_table::Pass;
 use nv_trace::{Trace, TracedCall};
+use nv_words::RunOptions;
 use std::alloc::Global;
 use std::sync::Wait;
 use std::thread::Threads;

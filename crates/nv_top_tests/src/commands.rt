@@ -2,7 +2,7 @@
 ghost use Rattle.std.specs.Prelude.{◌≡◌, ◌+◌, ◌≤◌, [], false, map, string_bytes, IfOk, IfSome};
 ghost use Rattle.nv_bench.specs.Holding.{IsQuietHolding};
 ghost use Rattle.nv_bench.specs.MemBench.{mem_state};
-ghost use Rattle.nv_top.specs.Words.{names_schedule};
+ghost use Rattle.nv_words.specs.Words.{names_schedule};
 
 use nv_bench::MemBench;
 use nv_plain::NoMemory;

@@ -5,8 +5,8 @@ use Rattle.nv_top.specs.Headline.{command_over}
 use Rattle.nv_top.specs.Lives.{LeavesLife}
 use Rattle.nv_top.specs.Reported.{HasReported}
 use Rattle.nv_top.specs.Stops.{stop_of_words}
-use Rattle.nv_top.specs.declared.words.Command.{Command}
-use Rattle.nv_top.specs.declared.words.Command.TheVariants.{Recover, Look, Gen}
+use Rattle.nv_words.specs.declared.words.Command.{Command}
+use Rattle.nv_words.specs.declared.words.Command.TheVariants.{Recover, Look, Gen}
 use Rattle.nv_open.specs.Unopened.{HasHeader, IsGood, IsUntouched, StandsAsBefore, TellsOf}
 use Rattle.nv_top.proofs.CommandLemmas.{if_told, told_at}
 use Rattle.nv_top.proofs.CompleteLemmas.{look_settled, look_unarmed}

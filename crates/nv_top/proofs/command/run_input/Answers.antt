@@ -5,7 +5,7 @@ use Rattle.nv_trace.specs.declared.trace.Form.TheVariants as forms
 use Rattle.nv_top.specs.Headline.{IsRunRefused, IsShown, IsShownOf}
 use Rattle.nv_top.specs.Reported.{HasReported}
 use Rattle.nv_top.specs.Stops.{stop_of_read}
-use Rattle.nv_top.specs.declared.words.Command.TheVariants.{Run}
+use Rattle.nv_words.specs.declared.words.Command.TheVariants.{Run}
 use Rattle.nv_top.proofs.HeadlineLemmas.{of_held}
 use Rattle.nv_top.proofs.LifeLemmas.{life_from, life_unopened}
 use Rattle.nv_top.proofs.ReportedLemmas.{by_error, on_ok, read_reported, settled_reported, was_read}

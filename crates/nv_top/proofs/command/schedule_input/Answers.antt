@@ -8,7 +8,7 @@ use Rattle.nv_top.specs.Headline.{HasFollowed, HasUsedTurnsOn, IsShown}
 use Rattle.nv_top.specs.Reported.{HasReported}
 use Rattle.nv_top.specs.Scheduling.{IsArmedAt, IsArmedAtSome}
 use Rattle.nv_top.specs.Stops.{stop_of_read}
-use Rattle.nv_top.specs.declared.words.Command.TheVariants.{Sched}
+use Rattle.nv_words.specs.declared.words.Command.TheVariants.{Sched}
 use Rattle.nv_top.proofs.HeadlineLemmas.{of_held, of_read, schedule_refused}
 use Rattle.nv_top.proofs.LifeLemmas.{schedule_from, schedule_unopened}
 use Rattle.nv_top.proofs.ReportedLemmas.{by_error, never_turns, read_reported, settled_reported, was_read}

@@ -11,7 +11,7 @@ use Rattle.nv_top.specs.Loads.{HasGenerated, load_options}
 use Rattle.nv_top.specs.Ready.{IsRunnable}
 use Rattle.nv_top.specs.Shows.{trace_run}
 use Rattle.nv_top.specs.declared.show.Show.TheVariants.{Summary}
-use Rattle.nv_top.specs.declared.words.RunOptions.{RunOptions}
+use Rattle.nv_words.specs.declared.words.RunOptions.{RunOptions}
 use Rattle.nv_top.proofs.CommandLemmas.{if_told, told_at}
 use Rattle.nv_top.proofs.LifeLemmas.{still_run}
 use Rattle.nv_top.proofs.LoadLemmas.{generated_so}
