@@ -37,6 +37,7 @@ use nv_bench::{Bench, power_leaves_an_image};
 use nv_header::{Names, a_header_has_one_answer};
 use nv_mount::Mount;
 use nv_open::{Opened, open, recover_region};
+use nv_plain::{Bytes, NoMemory};
 use nv_pmem::{Geometry, images_follow_calls, rows_have_states};
 use nv_recover::{Recovered, images_stand_for_files};
 use nv_runner::{
@@ -250,15 +251,30 @@ fn show_fates<B: Backing>(
     ensures cause { CountHasCause (sum_by B.fault_count stores.old.items) (sum_by B.fault_count stores.new.items) result }
 {
     let files = read_files(alloc, stores)?;
+    let text = show_open(alloc, sorted, begun, names, found, &files)?;
+    Ok(text)
+}
+
+// The report of the calls of such a run, and of these files.
+fn show_open(
+    alloc: Global,
+    sorted: SortedCalls<'_>,
+    begun: &[&TracedCall],
+    names: &Names,
+    found: &Recovered,
+    files: &[Bytes],
+) -> Result<Vec<u8>, NoMemory>
+    requires { length files.now ≡ length names.now }
+    ensures { IfOk result (λ text. ShowsOpen sorted.entry (map (λ call. call.now) begun.now) found.now names.now (record { contents = files.now }) text.items) }
+{
     let fated = open_fates(alloc, &sorted.open_calls, begun, found)?;
     let shown = show_refusals(alloc, sorted.refused)?;
-    let text = text_of(
+    text_of(
         alloc,
         &sorted.placed,
         &shown,
         &fated,
         names.as_slice(),
-        &files,
-    )?;
-    Ok(text)
+        files,
+    )
 }
