@@ -27,7 +27,7 @@ use Rattle.nv_table.specs.state.Opened.{IsRunOf, Opened, mount_of, state_of}
 use Rattle.nv_mount.specs.WholeWrites.{WasDrawn}
 
 -- a device call changes no group
-worked_group : (pass : Pass) (ending : CallEnding) (control : Control) (log : Log) (n : ℕ) → (log_worked pass ending control log).group n ≡ log.group n
+pub worked_group : (pass : Pass) (ending : CallEnding) (control : Control) (log : Log) (n : ℕ) → (log_worked pass ending control log).group n ≡ log.group n
 worked_group pass ending (CommitGroup calls) log n = refl
 worked_group pass ending control log n = refl
 

@@ -38,6 +38,7 @@ use Rattle.nv_table.specs.state.Views.{PassView, pass_of, made_of}
 use Rattle.nv_table.proofs.state.LayoutLaws.{cell_there}
 use Rattle.nv_mount.specs.WholeWrites.{WasDrawn}
 use Rattle.nv_mount.proofs.DrawnGroups.{run_drawn}
+use Rattle.nv_mount.proofs.PlacedCalls.{AreNumbered, calls_are_numbered}
 use Rattle.nv_mount.proofs.WholeRunLaws.{all_taken, joined_then}
 
 -- ---- a pass that holds nothing has no write that is to be placed
@@ -95,6 +96,7 @@ pub record LastLog (view : PassView) (files : Files) (names : List (List ℕ)) :
   pub content : LogContent view.opened.sizes (mount_of view.opened).values files tails log placed (state_of view.opened view.run)
   pub region : HasRegion view.opened.sizes names tails log (state_of view.opened view.run)
   pub drawn : (n : ℕ) → InWindow (state_of view.opened view.run) n → WasDrawn view.opened view.run (log.group n).call (log.group n).first
+  pub numbered : AreNumbered view.opened view.run log placed
 
 pub last_log : RunsAreSound → RunsKeepTheLog → RunsKeepRegion → (view : PassView) → IsMount (mount_of view.opened) → IsRunOf view.opened view.run → (files : Files) (names : List (List ℕ))
     → OpensLog (mount_of view.opened) view.opened.next → Opens (mount_of view.opened) files → OpensRegion (mount_of view.opened) names → LastLog view files names
@@ -108,6 +110,7 @@ last_log sound keeps region_stays view mount is_run files names log opens region
       content = keeps (mount_of view.opened) files view.opened.next first (λ _. false) view.run mount log opens.stores is_run;
       region = region_stays (mount_of view.opened) files names first (λ _. false) view.run mount log opens.stores region is_run;
       drawn = λ n inside. run_drawn sound view.opened mount view.run first is_run n inside.0 inside.1;
+      numbered = calls_are_numbered sound view.opened mount keeps files log opens.stores first view.run is_run;
     }
 
 -- ---- its cells keep these parts

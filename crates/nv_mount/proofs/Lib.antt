@@ -15,3 +15,4 @@ mod WholeWriteLaws
 mod ListLaws
 mod ImageLaws
 mod DrawnGroups
+mod PlacedCalls

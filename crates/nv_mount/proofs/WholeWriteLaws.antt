@@ -2,12 +2,13 @@
 use Rattle.std.proofs.Common.{◌≡◌, ◌≢◌, ◌⊎◌, ℕ, zero, suc, ◌+◌, ◌-◌, ◌<◌, ◌≤◌, ◌==◌, ◌&&◌, ◌||◌, nat_le, nat_lt, not, Bool, true, false, if◌then◌else◌, List, [], ◌∷◌, ◌++◌, length, inl, inr, refl, sym, ap, subst, ◌∙◌, arith, IsPermutation}
 use Rattle.std.specs.Prelude.{filter}
 use Rattle.std.specs.List.{flat_map, list_any, range_with_len}
-use Rattle.std.proofs.lemmas.Bool.{cases_Bool, cases_eq, cases_lt, and_from, and_parts, or_cases, eqb-true, ltb-true, lt-ltb, leb-true}
+use Rattle.std.proofs.lemmas.Bool.{cases_Bool, cases_eq, cases_lt, and_from, and_parts, or_cases, eqb-true, eq-eqb, true≢false, ltb-true, lt-ltb, leb-true}
 use Rattle.std.proofs.lemmas.Nat.{mod_below}
 use Rattle.std.proofs.lemmas.List.Sorted.{IsPermutation-sym}
 use Rattle.std.proofs.lemmas.List.Sums.{sum_by-append}
 use Rattle.nv_core.specs.steps.Order.{Values}
 use Rattle.nv_plain.specs.Files.{Files}
+use Rattle.nv_plain.specs.Histories.{Answered}
 use Rattle.nv_plain.specs.Images.{Entry, Image, entry_at, entry_of, header_of}
 use Rattle.nv_plain.specs.Layouts.{mount_layout}
 use Rattle.nv_plain.specs.Recovered.{recovered}
@@ -56,9 +57,10 @@ use Rattle.nv_table.specs.state.Views.{Past, PassView, AreDistinctNumbers, pass_
 use Rattle.nv_table.proofs.passes.BetweenLaws.{distinct_run}
 use Rattle.nv_mount.specs.ClosedAtRest.{files_then}
 use Rattle.nv_mount.specs.WholeRuns.{history_then}
-use Rattle.nv_mount.specs.WholeWrites.{IsGroupOfRun, LeavesWholeWrites, WasDrawn, at_hand, faults_then, flights_then, is_kept, kept_writes}
+use Rattle.nv_mount.specs.WholeWrites.{IsGroupOfRun, IsPlacedOrFlies, IsPlacedThere, LeavesWholeWrites, WasDrawn, at_hand, faults_then, flights_then, is_kept, kept_writes}
 use Rattle.nv_mount.proofs.LastStateLaws.{LastLog, none_hold}
 use Rattle.nv_mount.proofs.ListLaws.{or_left, or_right, any_one, one_any, one_behind, one_of_flat, flat_one, number_of}
+use Rattle.nv_mount.proofs.PlacedCalls.{IsNoted}
 use Rattle.nv_mount.proofs.ReorderLaws.{AreKeyed, AreLeft, all_left, count, counted_there, found, left, moved_count, moved_one}
 use Rattle.nv_mount.proofs.WholeRunLaws.{all_taken, joined_then}
 
@@ -146,6 +148,21 @@ kept_number test from (suc many) n one = go (kept_number test (from + 1) many n)
         wider : (from + 1 ≤ n) × (test n ≡ true) → (from ≤ n) × (test n ≡ true)
         wider there = let low = there.0 in (omega (arith, low), there.1)
     go later false e = let there = later (subst (λ b. IsOneOf (if b then from ∷ rest else rest) n) e one) in let low = there.0 in (omega (arith, low), there.1)
+
+-- and a number of a range that passes it is there
+number_kept : (test : ℕ → Bool) (from many n : ℕ) → from ≤ n → n < from + many → test n ≡ true → IsOneOf (filter test (range_with_len from many)) n
+number_kept test from zero n low high is = absurd (omega (arith, low, high))
+number_kept test from (suc many) n low high is = elim (cases_eq n from) [
+  | inl same ↦ subst (λ b. IsOneOf (if b then from ∷ rest else rest) n) (sym is ∙ ap test same) (inl same)
+  | inr ne ↦ go (test from) (number_kept test (from + 1) many n (omega (arith, low, ne)) (omega (arith, high)) is)
+]
+  where
+    rest : List ℕ
+    rest = filter test (range_with_len (from + 1) many)
+
+    go : (b : Bool) → IsOneOf rest n → IsOneOf (if b then from ∷ rest else rest) n
+    go true there = inr there
+    go false there = there
 
 -- ---- what recovery finds of the last state of a mount
 
@@ -589,7 +606,69 @@ module _ (sound : RunsAreSound) (tell : OwnEventsTell) (in_images : GroupsAreInI
   group_of_run : (n : ℕ) → IsOneOf groups n → IsGroupOfRun view image n
   group_of_run n one =
       let there = group_there n one in
-      record { call = (last.log.group n).call; drawn = subst (WasDrawn view.opened view.run (last.log.group n).call) there.leads (last.drawn n there.inside); whole = there.whole }
+      record {
+        call = (last.log.group n).call;
+        drawn = subst (WasDrawn view.opened view.run (last.log.group n).call) there.leads (last.drawn n there.inside);
+        whole = there.whole;
+        who = who_drew n there;
+      }
+    where
+      -- it is one of a write that has its place, or of one in flight
+      who_drew : (n : ℕ) → IsGroupThere n → IsPlacedOrFlies view (last.log.group n).call n
+      who_drew n there = elim (cases_Bool (last.placed n)) [
+        | inl flag ↦ (let of = last.numbered.numbers n flag in inl (of.earlier, of.answered, of.call_is, of.was))
+        | inr none ↦
+            let flies = and_from ((last.log.group n).first == n) (not (last.placed n)) (eq-eqb (last.log.group n).first n there.leads) (ap not none) in
+            let has = (flights sizes at_opening last.log last.placed core n is_sound last.content.groups last.content.flight last.content.unready last.content.faults there.inside).0 flies in
+            inr (has.1, all_flights.each has.0 has.1 has.2, has.2.0, ap (λ (g : Group). g.call) (sym (group_is has.0 has.1 has.2) ∙ ap last.log.group has.3), has.3)
+      ]
+
+  -- ---- the writes of the history
+
+  -- the commit word of a group that is whole is its own
+  whole_commits : (call : FileCall) (n : ℕ) → ReadsWhole sizes call n image → (entry_of (image (1 + slot_of_entry sizes n))).commit ≡ n + 1
+  whole_commits (Write file at bytes) n whole = let same : n + 0 ≡ n = omega arith in subst (λ m. (entry_of (image (1 + slot_of_entry sizes m))).commit ≡ n + 1) same whole.committed
+  whole_commits (Read file at len) n whole = absurd whole
+  whole_commits (Sync file) n whole = absurd whole
+
+  group_where : (n : ℕ) → InWindow core n → first ≤ n → (call : FileCall) → ReadsWhole sizes call n image → IsOneOf groups n
+  group_where n inside high call whole =
+      number_kept (λ m. (entry_at image m).commit == m + 1) (header_of image).tail (header_of image).entries n high
+      (let entries = reads.entries_is in let tail = survives.low in let room = is_sound.window.room in let less = inside.1 in omega (arith, entries, tail, room, less))
+      (eq-eqb (entry_at image n).commit (n + 1) (ap (λ (e : Entry). e.commit) (entry_is sizes names (image 0 1 0) image reads n) ∙ whole_commits call n whole))
+
+  noted_there : (call : FileCall) (n : ℕ) → IsNoted view.opened view.run last.log last.placed call n → (n < first) ⊎ (IsOneOf groups n × ReadsWhole sizes call n image)
+  noted_there call n noted = elim (cases_lt n first) [
+    | inl below ↦ inl below
+    | inr high ↦ inr (there high)
+  ]
+    where
+      there : first ≤ n → IsOneOf groups n × ReadsWhole sizes call n image
+      there high =
+          let tail = survives.low in
+          let inside : InWindow core n = (omega (arith, tail, high), noted.below) in
+          let entries : 1 ≤ sizes.entries = some_entries sizes names (image 0 1 0) image reads in
+          let at : first ≡ image 0 1 0 = reads.tail_is in
+          let low : last.tails.least ≤ n = elim (which_tail sizes at_opening names last.tails last.log core last.content.header last.region image is) [
+            | inl least ↦ omega (arith, at, high, least)
+            | inr next ↦ (let order = last.content.retired.order in omega (arith, at, high, next, order))
+          ] in
+          let ready : is_ready sizes core n ≡ true = elim (cases_Bool (is_ready sizes core n)) [
+            | inl ready ↦ ready
+            | inr unready ↦ absurd (true≢false (sym noted.flag ∙ last.content.unready.unplaced n record {
+              within = inside;
+              leads = noted.leads;
+              unready = λ ready. true≢false (sym ready ∙ unready);
+              unfreed = λ by freed. let less = freed_low by n freed in omega (arith, less, high);
+            }))
+          ] in
+          let whole = subst (λ c. ReadsWhole sizes c n image) noted.call_is ((in_images sizes at_opening files last.tails last.log last.placed core entries is_sound last.content).whole n inside low noted.leads ready image is) in
+          (group_where n inside high call whole, whole)
+
+  placed_there : (earlier later : List Answered) (answered : Answered) → history_then view ≡ earlier ++ answered ∷ later → is_write answered.call ≡ true → IsPlacedThere view image bytes earlier answered
+  placed_there earlier later answered stands write =
+      let has = last.numbered.history earlier later answered stands in
+      record { number = has.number; placed = has.was; there = noted_there answered.call has.number (has.noted write) }
 
   pub leaves : LeavesWholeWrites view files names image bytes
   leaves = record {
@@ -605,4 +684,5 @@ module _ (sound : RunsAreSound) (tell : OwnEventsTell) (in_images : GroupsAreInI
         let from = flat_one faulted everybody fault one in
         (fated sizes at_opening files names last.tails last.log last.placed core from.0.number fault image bytes is_sound last.content last.region is held
         (subst (λ (p : Pass). IsOneOf p.faulted fault) (sym (pass_is from.0 from.1)) from.2) write).0;
+    placed = placed_there;
   }

@@ -42,13 +42,13 @@ unbarred_file sizes fds (Pwrite fd at bytes) write early = by (slice_get fds fd)
 unbarred_file sizes fds (Fsync fd) write early = absurd write
 
 -- an open write is one of some faults
-abbrev IsFoundIn : OpenWrite → List Fault → Type 0
+abbrev pub IsFoundIn : OpenWrite → List Fault → Type 0
 IsFoundIn write faults = (found : Fault) × IsOneOf faults found × (is_write found.call ≡ true) × (write ≡ record { call = found.call; first = found.first })
 
 found_later : (fault : Fault) (before : List Fault) (write : OpenWrite) → IsFoundIn write before → IsFoundIn write (fault ∷ before)
 found_later fault before write found = (found.0, inr found.1, found.2, found.3)
 
-fault_of_open : (faults : List Fault) (write : OpenWrite) → IsOneOf (open_in faults) write → IsFoundIn write faults
+pub fault_of_open : (faults : List Fault) (write : OpenWrite) → IsOneOf (open_in faults) write → IsFoundIn write faults
 fault_of_open [] write one = absurd one
 fault_of_open (fault ∷ before) write one = by (fault_of_open before write) (is_write fault.call) refl one
   where
@@ -67,7 +67,7 @@ fault_flies view fault one =
     (one_right (at_hand (pass from.0) (pass from.0).control) (pass from.0).faulted fault from.2)
 
 -- as the sizes of a run say it
-has_write : (sizes : Sizes) (own : RunSizes) (call : FileCall) (number : ℕ) (image : Image) → own.page ≡ sizes.page → own.entries ≡ sizes.entries → ReadsWhole sizes call number image → HasWrite own image number call
+pub has_write : (sizes : Sizes) (own : RunSizes) (call : FileCall) (number : ℕ) (image : Image) → own.page ≡ sizes.page → own.entries ≡ sizes.entries → ReadsWhole sizes call number image → HasWrite own image number call
 has_write sizes own (Write file at bytes) number image page entries whole =
     subst (λ e. IsWholeGroup own.page number file at bytes (λ i. image (1 + (number + i) % e))) (sym entries)
     (subst (λ p. IsWholeGroup p number file at bytes (λ i. image (1 + (number + i) % sizes.entries))) (sym page) whole)

@@ -26,7 +26,7 @@ use Rattle.nv_recover.specs.declared.recovering.Recovered as recover
 use Rattle.nv_core.specs.crash.CommutingWrites.{after_calls}
 use Rattle.nv_core.specs.state.Values.{Value}
 use Rattle.nv_core.specs.steps.Opening.{IsMount}
-use Rattle.nv_table.specs.state.Opened.{mount_of}
+use Rattle.nv_table.specs.state.Opened.{Opened, mount_of}
 use Rattle.nv_table.specs.state.States.{PassState}
 use Rattle.nv_mount.specs.ClosedAtRest.{files_then}
 use Rattle.nv_mount.specs.Mounts.{MountState}
@@ -44,7 +44,9 @@ use Rattle.nv_trace.specs.declared.trace_call.TraceCall.{TraceCall}
 use Rattle.nv_trace.specs.declared.trace_call.TraceCall.TheVariants.{Pread, Pwrite, Fsync}
 use Rattle.nv_trace.specs.declared.trace_call.TracedCall.{TracedCall}
 use Rattle.nv_runner.specs.Faithful.{Basis, after_fate, after_open, barred, descriptors_in, drawing_calls, file_call, files_shown, history_of, named, placed_in}
-use Rattle.nv_runner.specs.Histories.{CallsOnFiles}
+use Rattle.nv_calls.specs.histories.Faults.{open_in}
+use Rattle.nv_runner.specs.FaithfulRuns.{IsMountOf}
+use Rattle.nv_runner.specs.Histories.{AreHistory, CallsOnFiles}
 use Rattle.nv_runner.specs.Lists.{made_calls}
 use Rattle.nv_runner.specs.OpenRuns.{LeftOpenAreKept}
 use Rattle.nv_runner.specs.OpenWrites.{kept_open}
@@ -64,7 +66,9 @@ use Rattle.nv_schedule.specs.Turns.{CallerState}
 use Rattle.nv_schedule.specs.declared.scheduled.ScheduledCalls.{ScheduledCalls}
 use Rattle.nv_top.specs.Fates.{AreShownOpen, begun_call, begun_fate, fate_of, fated}
 use Rattle.nv_top.specs.Outcomes.{shown_report}
+use Rattle.nv_top.specs.Stopped.{IsRunOfReport}
 use Rattle.nv_top.proofs.FateLemmas.{after_fates, open_writes_are}
+use Rattle.nv_top.proofs.StoppedLemmas.{left_writes}
 use Rattle.nv_top.proofs.StoppingLemmas.{HasClosedOver, all_right, files_open, log_opens, same_files, still_opened, within_open}
 
 -- ---- orders
@@ -330,3 +334,16 @@ module _ (basis : Basis) (trace : Traced) (mount : MountState) (pass zero : Pass
     is_faithful =
         faithful_so basis trace mount batch then_ zero told sorted part_values store_values parts held faults placed tail report formed few rise (one_round trace formed no_rounds) is_mount over.begins.is_mount
         (still_opened basis trace mount pass zero part_values store_values parts held faults placed tail over) followed calls_are over.closed out shows
+
+    -- the run
+    pub of_report : IsRunOfReport basis trace report (map opened_call items) zero.view
+    of_report =
+        let same = still_opened basis trace mount pass zero part_values store_values parts held faults placed tail over in
+        let whole = over.closed.whole in
+        let left_so = followed.left_open (map opened_call items) (subst (λ made. IsPermutation (opened_calls made) (map opened_call items)) calls_are.answered out.left_open) in
+        record {
+          opened = subst (λ fds. IsMountOf basis trace zero.view.opened fds) over.begins.is_mount.fds_are (subst (λ (o : Opened). IsMountOf basis trace o mount.fds) (sym same) over.begins.is_mount);
+          passes = record { is_run = whole.is_run; joined = whole.joined; others = whole.others };
+          history = subst (λ fds. AreHistory fds (map placed_call sorted.placed.items) (history_then zero.view)) over.begins.is_mount.fds_are are_told.placed;
+          flights = subst (λ writes. IsPermutation writes (open_in (flights_then zero.view))) (open_writes_are descriptors mount.fds over.begins.is_mount.fds_are on_files items within ∙ left_writes descriptors items) left_so;
+        }

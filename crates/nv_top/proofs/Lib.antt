@@ -17,6 +17,7 @@ pub mod ShownLemmas
 pub mod StopLemmas
 pub mod StoppedLemmas
 pub mod StoppingLemmas
+pub mod TiedLemmas
 pub mod TestBenches
 pub mod UnhinderedLemmas
 pub mod UnrefusedLemmas

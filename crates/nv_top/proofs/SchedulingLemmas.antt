@@ -57,7 +57,7 @@ use Rattle.nv_top.specs.Stopping.{IsSettledStop, RestsWith, ShowsOpen, StopSettl
 use Rattle.nv_top.specs.declared.ending.Stop.{Stop}
 use Rattle.nv_top.specs.declared.ending.Stop.TheVariants as stops
 use Rattle.nv_words.specs.declared.words.RunOptions.{RunOptions}
-use Rattle.nv_top.proofs.FollowedLemmas.{files_are, is_faithful, schedule_more}
+use Rattle.nv_top.proofs.FollowedLemmas.{files_are, is_faithful, of_report, schedule_more}
 use Rattle.nv_top.proofs.NameLemmas.{names_plain}
 use Rattle.nv_top.proofs.StoppingLemmas.{HasClosedOver, each_allowed, lost_power, names_read}
 
@@ -113,6 +113,8 @@ module _ (basis : Basis) (trace : Traced) (mount : MountState) (pass zero : Pass
         faithful = schedule_more (SawStop zero.view) failed basis trace (shown_report shows_so.sorted shown.open_calls basis.names (files basis.names)) saw
             (is_faithful basis trace mount pass zero part_values store_values parts held faults placed tail over options.batch followed.told.0 shows_so.calls shows_so.sorted followed.told.1 followed.told.2 shows_so.sorted_out
             formed few rise no_rounds is_mount begin_so told_so legal_so faithful_so files_so kept_so stand_so after_power left found shows_so.shown.log shown.open_calls shown.are_open);
+        ran = of_report basis trace mount pass zero part_values store_values parts held faults placed tail over options.batch followed.told.0 shows_so.calls shows_so.sorted followed.told.1 followed.told.2 shows_so.sorted_out
+            formed few rise no_rounds is_mount begin_so told_so legal_so faithful_so files_so kept_so stand_so after_power left found shows_so.shown.log shown.open_calls shown.are_open;
         plain = names_plain mount_layout.name_limit basis.names (files basis.names).contents (each_allowed basis.names allowed);
         text_is = shown.text_is ∙ ap (λ names. report_text (shown_report shows_so.sorted shown.open_calls names (files names))) names_so;
         left = record {

@@ -12,6 +12,7 @@ pub mod Outcomes
 pub mod Stopping
 pub mod Behind
 pub mod Stopped
+pub mod Tied
 pub mod Stops
 pub mod Said
 pub mod Scheduling

@@ -20,7 +20,7 @@ use Rattle.nv_runner.specs.Faithful.{Basis, descriptors_in, files_shown}
 use Rattle.nv_runner.specs.FaithfulRuns.{IsMountOf, as_fd}
 use Rattle.nv_runner.specs.Lists.{MadeCall, made_calls}
 use Rattle.nv_runner.specs.Reports.{Report}
-use Rattle.nv_runner.specs.Sorted.{AreSortedOut}
+use Rattle.nv_runner.specs.Sorted.{AreSortedOut, opened_call}
 use Rattle.nv_runner.specs.declared.sorted.SortedCalls.{SortedCalls}
 use Rattle.nv_schedule.specs.Actors.{Actor}
 use Rattle.nv_schedule.specs.CoreRuns.{AreListed, IsRunBy, IsRunUpTo}
@@ -31,6 +31,7 @@ use Rattle.nv_schedule.specs.declared.scheduled.ScheduledCalls.{ScheduledCalls}
 use Rattle.nv_top.specs.Readings.{HavePlainNames}
 use Rattle.nv_top.specs.Reports.{report_text}
 use Rattle.nv_top.specs.Behind.{HasLostPowerBehind}
+use Rattle.nv_top.specs.Stopped.{IsRunOfReport}
 use Rattle.nv_top.specs.Stopping.{ShowsOpen, ShowsRecovered}
 use Rattle.nv_words.specs.declared.words.RunOptions.{RunOptions}
 
@@ -88,8 +89,9 @@ pub record HasUsedTurns (failed : Type 0) (options : RunOptions) (basis : Basis)
   pub armed_at : IsArmedAt run.played.before old bench
   pub left : HasLostPowerBehind last options.image old.picked basis many others bench
 
--- The text is that of a report of a trace whose schedule was played over a mount of this basis: that was a run of the core. The calls that it lists are those that were begun, with what the core's history and passes tell of them. Power went off
--- behind it; what it left stood for the files that are shown, and the fates are by the log of that. The report is faithful to the trace; devices failed, and a pass saw STOP set, only where this says so.
+-- The text is that of a report of a trace whose schedule was played over a mount of this basis: that was a run of the core, whose history and writes in flight are the report's. The calls that it lists are those that were begun, with what
+-- that run's passes tell of them. Power went off behind it; what it left stood for the files that are shown, and the fates are by the log of that. The report is faithful to the trace; devices failed, and a pass saw STOP set, only where this
+-- says so.
 pub record HasScheduledOn (failed : Type 0) (options : RunOptions) (before : List Pick) (basis : Basis) (trace : Traced) (many : ℕ) (others : List NamedStore) (bench : BenchState) (text : List ℕ) : Type 0 where
   pub opened : Opened
   pub begins : IsOpenedFor basis trace options.cache opened
@@ -104,6 +106,7 @@ pub record HasScheduledOn (failed : Type 0) (options : RunOptions) (before : Lis
   pub sorted_out : AreSortedOut listed sorted
   pub report : Report
   pub faithful : IsFaithfulSchedule failed basis trace report
+  pub ran : IsRunOfReport basis trace report (map opened_call sorted.open_calls.items) last
   pub plain : HavePlainNames report.files
   pub text_is : text ≡ report_text report
   pub left : HasLostPowerBehind last options.image before basis many others bench

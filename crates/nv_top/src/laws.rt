@@ -7,6 +7,7 @@ ghost use Rattle.nv_top.specs.Loads.{NewBenchesAreFresh};
 ghost use Rattle.nv_top.specs.NextCommands.{NextBeginsBehind, NextBeginsBehindRecovery, NextBeginsBehindSchedule, NextBeginsBehindStop, NextFindsLooked, NextFindsRecovered, NextFindsRun, NextFindsScheduled, NextFindsShown, NextFindsStopped, NextIsReady, RunsHaveOneHistory};
 ghost use Rattle.nv_top.specs.Readings.{OneNumber, OneReading, OneRecoveryReading};
 ghost use Rattle.nv_top.specs.Said.{StatusesTellWhatCame};
+ghost use Rattle.nv_top.specs.Tied.{FatesAreTied};
 
 use nv_header::a_header_has_one_answer;
 use nv_recover::images_stand_for_files;
@@ -67,4 +68,12 @@ pub fn a_plain_command_is_unhindered()
     ensures plain { PlainIsUnhindered }
     ensures empty { IsTrace forms.Run [] }
     ensures fresh { NewBenchesAreFresh }
+{}
+
+/// The fates that a report shows can't be guessed, nor the order in which its writes drew their numbers: a run that was stopped, and a schedule, is a
+/// run of the core with the report's history and with its writes in flight (`ran` of what [`nv_main`](crate::nv_main) says of them), and what power
+/// left behind it (`left`) has each write of the history by the number that it drew there: below the first number that recovery found, or as a group
+/// of the write's own file, offset and bytes. A write that was left open leads a group only as itself, and each group is one of these writes.
+pub fn fates_are_tied()
+    ensures { FatesAreTied }
 {}
