@@ -56,6 +56,7 @@ module _ (old mid : BenchState) (names : List (List ℕ)) (holding : Holding) (l
       entries = left.entries;
       next = left.next;
       rest = left.rest;
+      long = left.long;
       many = states_many (map history parts) left.now left.now_are ∙ length-map parts history ∙ many;
       disks = left.disks;
       stores_are = refl;

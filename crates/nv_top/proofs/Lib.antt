@@ -5,6 +5,7 @@ pub mod FateLemmas
 pub mod HeadlineLemmas
 pub mod HomeLemmas
 pub mod PoweredHomes
+pub mod LineLemmas
 pub mod LoadLemmas
 pub mod NameLemmas
 pub mod ReadingLemmas
@@ -22,6 +23,7 @@ pub mod TestBenches
 pub mod UnhinderedLemmas
 pub mod UnrefusedLemmas
 pub mod LifeLemmas
+pub mod AcceptedLemmas
 pub mod CompleteLemmas
 pub mod NextLemmas
 pub mod FoundLemmas

@@ -76,9 +76,16 @@ whole_of name (first ∷ rest) whole =
     either_whole (is_named name first) first.store (store_of name rest) (All-head (λ (named : NamedStore). IsWholeStore named.store) first rest whole)
     (whole_of name rest (All-tail (λ (named : NamedStore). IsWholeStore named.store) first rest whole))
 
-all_whole : (names : List (List ℕ)) (stores : List NamedStore) → All (λ (named : NamedStore). IsWholeStore named.store) stores → All IsWholeStore (stores_named names stores)
+pub all_whole : (names : List (List ℕ)) (stores : List NamedStore) → All (λ (named : NamedStore). IsWholeStore named.store) stores → All IsWholeStore (stores_named names stores)
 all_whole [] stores whole = All-nil IsWholeStore
 all_whole (name ∷ names) stores whole = All-cons IsWholeStore (store_of name stores) (stores_named names stores) (whole_of name stores whole) (all_whole names stores whole)
+
+-- quiet parts have one image
+pub one_image : QuietPartHasOneImage → (parts : List Part) (image : Image) → AreQuiet parts → IsRowImage parts image → image ≡ row_words parts
+one_image one parts image quiet is =
+    let same : (part line word : ℕ) → image part line word ≡ row_words parts part line word =
+    λ part line word. one (slice_index_or parts part []) (image part) line word ((quiet.each part).lines line) (is.each part) in
+    λ i part line word. same part line word i
 
 -- ---- a bench to which the devices came back
 
@@ -124,13 +131,6 @@ module _ (basis : Basis) (trace : Traced) where
       }
 
   -- ---- power
-
-  -- quiet parts have one image
-  one_image : QuietPartHasOneImage → (parts : List Part) (image : Image) → AreQuiet parts → IsRowImage parts image → image ≡ row_words parts
-  one_image one parts image quiet is =
-      let same : (part line word : ℕ) → image part line word ≡ row_words parts part line word =
-      λ part line word. one (slice_index_or parts part []) (image part) line word ((quiet.each part).lines line) (is.each part) in
-      λ i part line word. same part line word i
 
   pub lived_powered : QuietPartHasOneImage → PowerLeavesAnImage → (pick : Pick) (many : ℕ) (stores : List NamedStore) → All (λ (named : NamedStore). IsQuietStore named.store) stores → (home off : Option Holding) → ((holding : Holding) → home ≡ Some holding → AreWholeStores holding) → off ≡ option_map (powered pick) home
       → HasLived basis trace many stores home → HasLived basis trace many stores off

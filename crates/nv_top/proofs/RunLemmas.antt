@@ -47,7 +47,7 @@ use Rattle.nv_table.specs.state.Views.{first_view, values_of}
 use Rattle.nv_table.proofs.state.LayoutLaws.{cell_there}
 use Rattle.nv_mount.specs.ClosedAtRest.{AreAtRest, HasEmptiedLog, files_then}
 use Rattle.nv_mount.specs.RisenCounts.{SawStop}
-use Rattle.nv_mount.specs.Telling.{IsSeen}
+use Rattle.nv_mount.specs.Telling.{HasLongParts, IsSeen}
 use Rattle.nv_mount.specs.WholeRuns.{history_then}
 use Rattle.nv_mount.specs.declared.fds.Fd.{Fd}
 use Rattle.nv_mount.proofs.LastStateLaws.{LastLog, last_log, none_hold}
@@ -71,6 +71,8 @@ use Rattle.nv_top.specs.Outcomes.{shown_report}
 use Rattle.nv_top.specs.Shows.{text_as}
 use Rattle.nv_top.specs.declared.show.Show.{Show}
 use Rattle.nv_top.specs.Runs.{HasRunOver, IsQuietSpare}
+use Rattle.nv_store.proofs.RowReads.{length_now}
+use Rattle.nv_top.proofs.LineLemmas.{have_lines}
 use Rattle.nv_top.proofs.NameLemmas.{each_allowed, names_plain}
 use Rattle.nv_top.proofs.RestLemmas.{all_rest, first_states, is_longer, now_of, same_state, state_at}
 use Rattle.nv_top.proofs.RowLemmas.{Present, present as present_states}
@@ -137,7 +139,7 @@ module _ {L B : Type 0} (device : L → ℕ) (history : L → PartHistory) (faul
     (same_board : ended.view.opened ≡ board.opened) (new : start.view ≡ first_view start.view.opened) (mount : IsMount (mount_of ended.view.opened)) (stop : plan.stop ≡ None)
     (formed : IsWellFormed trace) (few : length trace.calls ≤ MOST_CALLS) (lines : IsStrictlyIncreasing (lines_in trace)) (allowed : AreFileNames mount_layout basis.names)
     (is : IsMountOf basis trace start.view.opened fds) (region : OpensRegion (mount_of ended.view.opened) basis.names) (spare : All IsQuietSpare ended.spare)
-    (out : HasOutcome fds plan trace.calls start (Ok sorted) ended)
+    (long_parts : HasLongParts (mount_of ended.view.opened)) (out : HasOutcome fds plan trace.calls start (Ok sorted) ended)
     (closed : IsClosed device store_device (slot_value (part_value device history faults room) (store_value store_device store_history store_faults)) board ended parts stores placed tail)
     (by : IsClosedBy ended (map (part_value device history faults room) parts) (map (store_value store_device store_history store_faults) stores) (map history parts) (map store_history stores)
     (sum_by faults parts + sum_by store_faults stores) placed tail) where
@@ -312,6 +314,9 @@ module _ {L B : Type 0} (device : L → ℕ) (history : L → PartHistory) (faul
       now = part_states.states;
       now_are = part_states.are;
       rest = all_at_rest;
+      long = have_lines sizes.page sizes.entries part_states.states (omega (arith, many, length_now (map history parts) part_states.states part_states.are, length-map parts history))
+          (λ slot least. by.lines long_parts slot (get_or part_states.states slot []) least
+          (state_at (map history parts) part_states.states slot [] part_states.are (omega (arith, many, least, length-map parts history))));
       disks = store_states.states;
       disks_are = subst (λ (row : List StoreHistory). AreNow row store_states.states) (sym same) store_states.are;
       files_are = files_are;

@@ -157,6 +157,7 @@ module _ (basis : Basis) (trace : Traced) (mount : MountState) (pass zero : Pass
         now = now.now;
         told_is = now.told_is;
         rests = record { rest = now.left.rest; held = now.left.disks; stores_are = now.left.stores_are; files_are = now.left.files_are; durable = now.left.synced };
+        long = now.left.long;
         many_are = now.left.many;
       })))
 

@@ -30,7 +30,8 @@ use Rattle.nv_header.specs.Heads.{first_names}
 use Rattle.nv_header.specs.Regions.{IsAtRest}
 use Rattle.nv_open.specs.Held.{HoldFiles, IsRecovered, files_named, header_names}
 use Rattle.nv_open.specs.Lending.{all_lent, stores_named, without_named, without_stores}
-use Rattle.nv_open.specs.Refusals.{head_image}
+use Rattle.nv_header.specs.Needs.{HasLines}
+use Rattle.nv_open.specs.Refusals.{head_image, rooms_of}
 use Rattle.nv_recover.specs.Standing.{AreStoreImages, ReadableStandsForRecovered, files_of}
 use Rattle.nv_recover.specs.Recovering.{HasFoundAll}
 use Rattle.nv_recover.specs.declared.recovering.Recovered as recover
@@ -127,9 +128,10 @@ pub shows : (old lent : BenchState) (new_told : Option Holding) (holding : Holdi
     → IsRecovered holding.parts page entries names next found
     → HoldFiles row (files_named holding.parts names holding.stores)
     → All (λ history. 0 < length history) parts_row → RowTells parts_row (IsAtRest mount_layout page entries names next)
+    → ((now : List Part) → AreNow parts_row now → HasLines mount_layout page entries (rooms_of now))
     → ((now : List Part) (disks : List Store) → AreNow parts_row now → AreNow row disks → new_told ≡ told_back now disks lent)
     → ShowsRecovered holding sorted begun new_told text
-shows old lent new_told holding sorted begun text found page entries next names shown parts_row row told_is many home lent_is same text_of recovered holds tell rest gives =
+shows old lent new_told holding sorted begun text found page entries next names shown parts_row row told_is many home lent_is same text_of recovered holds tell rest long gives =
     let now = present parts_row tell in
     let header = header_of (head_image holding.parts) in
     let Rests : List (List ℕ) → Type 0 = λ names. RestsWith header.page header.entries names found.next (files_named holding.parts names holding.stores) (length holding.parts) (without_stores names holding.stores) new_told in
@@ -153,6 +155,7 @@ shows old lent new_told holding sorted begun text found page entries next names 
               files_are = holds.files_are;
               durable = holds.quiet;
             };
+            long = long now.states now.are;
             many_are = length_now parts_row now.states now.are ∙ many;
           }))));
     }

@@ -1,12 +1,10 @@
 -- Regions that aren't refused: the header can be read, the lines are there, and the groups are whole. So it is with one that power was lost of.
-use Rattle.std.proofs.Common.{◌≡◌, ℕ, suc, ◌+◌, ◌<◌, ◌≤◌, All, List, [], ◌∷◌, Option, Some, IfSome, option_map, length, map, get_or, refl, sym, ap, subst, ◌∙◌, inl, inr, arith}
-use Rattle.std.proofs.lemmas.List.{get_or-map, get_or-take, length-map, length-take}
+use Rattle.std.proofs.Common.{◌≡◌, ℕ, ◌+◌, ◌≤◌, All, List, [], ◌∷◌, Option, Some, IfSome, option_map, length, map, get_or, refl, sym, ap, subst, ◌∙◌, inl, inr, arith}
 use Rattle.std.proofs.lemmas.List.Elements.{All-nil, All-cons, All-head, All-tail}
 use Rattle.nv_plain.specs.Images.{header_of}
 use Rattle.nv_plain.specs.Layouts.{mount_layout}
 use Rattle.nv_plain.specs.Recovered.{Fits}
 use Rattle.nv_pmem.specs.Draws.{Draws, draws_of}
-use Rattle.nv_pmem.specs.Limits.{entry_lines}
 use Rattle.nv_pmem.specs.Part.{Part}
 use Rattle.nv_pmem.specs.Picked.{picked}
 use Rattle.nv_pmem.specs.Room.{Room}
@@ -23,7 +21,7 @@ use Rattle.nv_bench.specs.Laws.{AreWholeStores, PowerLeavesAnImage}
 use Rattle.nv_bench.specs.Powered.{powered, powered_parts}
 use Rattle.nv_header.specs.Needs.{HasLines, header_lines_in}
 use Rattle.nv_header.specs.Refusals.{ReadIsNotRefused, SpeaksOfImage}
-use Rattle.nv_header.specs.Regions.{ReadsAs, part_lines}
+use Rattle.nv_header.specs.Regions.{ReadsAs}
 use Rattle.nv_header.specs.declared.head.HeadError.{HeadError}
 use Rattle.nv_header.specs.declared.head.HeadError.TheVariants as head
 use Rattle.nv_recover.specs.Groups.{FittingHasNoBad}
@@ -38,29 +36,9 @@ use Rattle.nv_open.specs.declared.error.Refusal.{Refusal}
 use Rattle.nv_open.specs.declared.error.Refusal.TheVariants.{Truncated, BadMagic, BadVersion, BadGeometry, BadName, BadEntry, TooManyFiles}
 use Rattle.nv_trace.specs.Traced.{Traced}
 use Rattle.nv_runner.specs.Faithful.{Basis}
+use Rattle.nv_top.proofs.LineLemmas.{have_lines, room_with}
 use Rattle.nv_top.proofs.RowLemmas.{present}
 use Rattle.nv_top.proofs.StoppingLemmas.{HasClosedOver, all_right, at_some, devices_tell, home_with, power_leaves, still_opened}
-
--- the room of so many lines, as far as it is their count
-abbrev room_with : ℕ → Room
-room_with count = record { lines = count; spare = λ line. 0; after_fence = λ line. 0 }
-
-abbrev room_of : Part → Room
-room_of part = room_with (length part)
-
--- parts that have their lines
-pub have_lines : (page entries : ℕ) (parts : List Part) → 1 + entries ≤ length parts → ((slot : ℕ) → slot ≤ entries → part_lines mount_layout page slot ≤ length (get_or parts slot []))
-    → HasLines mount_layout page entries (rooms_of parts)
-have_lines page entries [] many each = absurd (omega (arith, many))
-have_lines page entries (part ∷ others) many each = record {
-  header = each 0 (omega arith);
-  count = let long = length-map (part ∷ others) room_of in omega (arith, many, long);
-  each = λ k none inside.
-      let below : k < entries = omega (arith, inside, length-take entries (rooms_of others)) in
-      let there : k < length others = omega (arith, many, below) in
-      let Long : Room → Type 0 = λ room. entry_lines page ≤ room.lines in
-      subst Long (sym (get_or-take entries (rooms_of others) k none below ∙ get_or-map room_of others k [] none there)) (each (suc k) (omega (arith, below)));
-}
 
 -- power leaves each part as many lines
 pub powered_rooms : (draws : Draws) (parts : List Part) → rooms_of (powered_parts draws parts).0 ≡ rooms_of parts

@@ -21,4 +21,5 @@ pub mod Loads
 pub mod Headline
 pub mod Lives
 pub mod Reported
+pub mod Accepted
 pub mod NextCommands

@@ -3,17 +3,19 @@ use Rattle.std.specs.Prelude.{◌≡◌, ◌⊎◌, ℕ, ◌+◌, ◌≤◌, fal
 use Rattle.nv_plain.specs.Faults.{Rose}
 use Rattle.nv_plain.specs.Files.{Files}
 use Rattle.nv_plain.specs.Images.{header_of}
+use Rattle.nv_plain.specs.Layouts.{mount_layout}
 use Rattle.nv_plain.specs.Recovered.{recovered}
 use Rattle.nv_pmem.specs.Part.{Part}
 use Rattle.nv_pmem.specs.Rows.{row_words}
 use Rattle.nv_pmem.specs.declared.picker.Pick.{Pick}
+use Rattle.nv_header.specs.Needs.{HasLines}
 use Rattle.nv_open.specs.Lending.{stores_named, without_stores}
 use Rattle.nv_open.specs.Unopened.{IsAtRestWith}
 use Rattle.nv_recover.specs.Standing.{files_of}
 use Rattle.nv_bench.specs.Benches.{BenchState}
 use Rattle.nv_bench.specs.Holding.{Holding, NamedStore, is_named}
 use Rattle.nv_open.specs.Held.{files_named, header_names}
-use Rattle.nv_open.specs.Refusals.{head_image}
+use Rattle.nv_open.specs.Refusals.{head_image, rooms_of}
 use Rattle.nv_recover.specs.Recovering.{HasFoundAll}
 use Rattle.nv_recover.specs.declared.recovering.Recovered as recover
 use Rattle.nv_trace.specs.declared.trace_call.TracedCall.{TracedCall}
@@ -69,12 +71,13 @@ IsSettledStop settled now (Err stop) = StopSettles settled now stop
 abbrev pub IsAway : List (List ℕ) → Holding → Type 0
 IsAway names holding = All (λ name. All (λ named. is_named name named ≡ false) holding.stores) names
 
--- A bench tells that it holds a region of these sizes with these names, in so many parts, at rest with an empty log that goes on with this number; and
--- behind these other stores those of its names, which hold these files, durable.
+-- A bench tells that it holds a region of these sizes with these names, in so many parts with its lines, at rest with an empty log that goes on with
+-- this number; and behind these other stores those of its names, which hold these files, durable.
 pub record RestsWith (page entries : ℕ) (names : List (List ℕ)) (next : ℕ) (files : Files) (many : ℕ) (others : List NamedStore) (told : Option Holding) : Type 0 where
   pub now : Holding
   pub told_is : told ≡ Some now
   pub rests : IsAtRestWith page entries names next files others now
+  pub long : HasLines mount_layout page entries (rooms_of now.parts)
   pub many_are : length now.parts ≡ many
 
 -- The text is that of the report of the sorted calls, with these files, and with what became of those that were left open.

@@ -1,6 +1,7 @@
 //! Laws of reports, and of commands one behind the other.
 ghost use Rattle.std.specs.Prelude.{[]};
 ghost use Rattle.nv_trace.specs.declared.trace.Form.TheVariants as forms;
+ghost use Rattle.nv_top.specs.Accepted.{NextIsAccepted, WhatIsMadeIsGood};
 ghost use Rattle.nv_top.specs.Endings.{IsTrace};
 ghost use Rattle.nv_top.specs.Headline.{PlainIsUnhindered, RefusedIsNotGood, ShownIsNotRefused};
 ghost use Rattle.nv_top.specs.Loads.{NewBenchesAreFresh};
@@ -9,7 +10,9 @@ ghost use Rattle.nv_top.specs.Readings.{OneNumber, OneReading, OneRecoveryReadin
 ghost use Rattle.nv_top.specs.Said.{StatusesTellWhatCame};
 ghost use Rattle.nv_top.specs.Tied.{FatesAreTied};
 
+use nv_bench::power_leaves_an_image;
 use nv_header::a_header_has_one_answer;
+use nv_pmem::images_follow_calls;
 use nv_recover::images_stand_for_files;
 
 /// The text of a report has one reading: reports of one text list the same lines, field by field, those of runs and those of
@@ -77,3 +80,19 @@ pub fn a_plain_command_is_unhindered()
 pub fn fates_are_tied()
     ensures { FatesAreTied }
 {}
+
+/// What a command leaves of a region that was blank or good isn't refused by its bytes, whatever the command came to, and whatever a power failure makes
+/// of it: no field, no name and no entry of it is bad (`next`). So a next command is refused by the region only for lines that are wanting; a recovery
+/// or a look, where it is blank still; and a run for too many files. It says nothing where the source tells an input that is no trace.
+///
+/// A region that a run, a schedule, a recovery or a load has shown, or that a schedule has left whose turns are used up, is good, and has its lines
+/// (`made`): it is refused for nothing but too many files.
+pub fn a_region_stays_accepted()
+    ensures next { NextIsAccepted }
+    ensures made { WhatIsMadeIsGood }
+{
+    images_stand_for_files();
+    a_header_has_one_answer();
+    images_follow_calls();
+    power_leaves_an_image();
+}

@@ -1,10 +1,14 @@
 //! The recovery of a region, and its report.
-ghost use Rattle.std.specs.Prelude.{◌≡◌, [], List, length, map, sum_by, Err, IfOk, IfSome};
+ghost use Rattle.std.specs.Prelude.{◌≡◌, ℕ, List, length, map, sum_by, Err, IfOk, IfSome};
+ghost use Rattle.nv_plain.specs.Layouts.{mount_layout};
+ghost use Rattle.nv_pmem.specs.Part.{Part};
 ghost use Rattle.nv_pmem.specs.RowStates.{AreNow};
 ghost use Rattle.nv_store.specs.Store.{Store};
+ghost use Rattle.nv_header.specs.Needs.{HasLines};
+ghost use Rattle.nv_header.specs.Regions.{HasParts};
 ghost use Rattle.nv_recover.specs.Standing.{files_of};
 ghost use Rattle.nv_open.specs.Held.{told_after};
-ghost use Rattle.nv_open.specs.Refusals.{IsRefusedFor};
+ghost use Rattle.nv_open.specs.Refusals.{IsRefusedFor, rooms_of};
 ghost use Rattle.nv_open.specs.Unopened.{HasHeader, IsGood, IsUntouched, StandsAsBefore, TellsOf};
 ghost use Rattle.nv_top.specs.Commands.{HasRecovered, IsGivenBack};
 ghost use Rattle.nv_top.specs.Ready.{IsAtHome};
@@ -19,6 +23,7 @@ use crate::text::recovery_text_of;
 use nv_bench::Bench;
 use nv_header::Names;
 use nv_open::{Opened, recover_region};
+use nv_pmem::Lines;
 use nv_recover::{Recovered, images_stand_for_files};
 use nv_store::Backing;
 use std::alloc::Global;
@@ -40,8 +45,18 @@ pub(crate) fn recover<T: Bench>(alloc: Global, bench: &mut T) -> Result<Vec<u8>,
     let Opened { region, stores } = opened;
     let mut stores = stores;
     let report = show(alloc, &found, region.names(), &mut stores);
-    bench.give_back(region.into_parts(), stores);
+    let parts = region.into_parts();
+    parts_have_lines(&parts);
+    bench.give_back(parts, stores);
     report
+}
+
+/// The parts of a region that tell have the lines of its layout, as their rooms have.
+pub(crate) fn parts_have_lines<L: Lines>(parts: &Vec<L>)
+    ensures { (page entries : ℕ) (now : List Part) → HasParts mount_layout page entries (map L.room parts.now.items) → AreNow (map L.history parts.now.items) now
+        → HasLines mount_layout page entries (rooms_of now) }
+{
+    let _parts = parts;
 }
 
 // The report of a recovery whose files the stores hold.

@@ -32,6 +32,7 @@ use crate::fates::open_fates;
 use crate::files::read_files;
 use crate::mounting::{Unmounted, mount_over};
 use crate::names::copy_names;
+use crate::recovery::parts_have_lines;
 use crate::text::text_of;
 use nv_bench::{Bench, power_leaves_an_image};
 use nv_header::{Names, a_header_has_one_answer};
@@ -230,7 +231,9 @@ pub(crate) fn show_recovered<T: Bench>(
     let Opened { region, stores } = opened;
     let mut stores = stores;
     let report = show_fates(alloc, sorted, begun, region.names(), &found, &mut stores);
-    bench.give_back(region.into_parts(), stores);
+    let parts = region.into_parts();
+    parts_have_lines(&parts);
+    bench.give_back(parts, stores);
     report
 }
 

@@ -41,7 +41,7 @@ returns-clause-recovered g c =
     let made = c.in_ok-opened.ensures in
     let region = c.in_ok-opened.opened.region in
     let found = c.in_ok-opened.found in
-    let parts_back = c.into_parts.result.items in
+    let parts_back = c.into_parts-parts.result.items in
     let stores_back = c.show-report.new.stores.items in
     let shown : (names : List (List ℕ)) (files : Files) → List ℕ = λ names files. recovery_text (record { first = found.first; next = found.next; groups = length found.groups; files = named names files }) in
     IfOk-weaker c.show-report.result
@@ -53,7 +53,7 @@ returns-clause-recovered g c =
     let files = told_at old.told _ holding told made.files in
     let now = present (map history region.parts.items) (told_at old.told _ holding told made.tell) in
     let names = header_names holding.parts in
-    let same_parts : parts_back ≡ region.parts.items = ap (λ parts. parts.items) c.into_parts.ensures.parts in
+    let same_parts : parts_back ≡ region.parts.items = ap (λ parts. parts.items) c.into_parts-parts.ensures.parts in
     let PartsAre : List _ → Type 0 = λ parts. AreNow (map history parts) now.states in
     let StoresAre : List stores.StoreHistory → Type 0 = λ row. AreNow row files.held in
     let now_are = subst PartsAre (sym same_parts) now.are in
@@ -63,7 +63,8 @@ returns-clause-recovered g c =
       next = region.next;
       now = now.states;
       now_are = now_are;
-      rest = row_tells_at (map history parts_back) (IsAtRest mount_layout region.geometry.page region.geometry.entries region.names region.next) now.states now_are c.into_parts.ensures.region.tells;
+      rest = row_tells_at (map history parts_back) (IsAtRest mount_layout region.geometry.page region.geometry.entries region.names region.next) now.states now_are c.into_parts-parts.ensures.region.tells;
+      long = c.parts_have_lines.ensures region.geometry.page region.geometry.entries now.states c.into_parts-parts.ensures.region.parts now_are;
       disks = files.held;
       disks_are = subst StoresAre (sym c.show-report.ensures.histories) files.are;
       files_are = files.files_are;
@@ -82,7 +83,7 @@ returns-clause-recovered g c =
       long = recovery.long;
       fits = recovery.log.fits;
       plain = subst Plain recovery.names_are
-          (names_plain mount_layout.name_limit region.names (files_named holding.parts region.names holding.stores).contents (each_allowed region.names c.into_parts.ensures.region.names_are));
+          (names_plain mount_layout.name_limit region.names (files_named holding.parts region.names holding.stores).contents (each_allowed region.names c.into_parts-parts.ensures.region.names_are));
       text_is =
           told_text files.held files.are
           ∙ ap (shown c.names.result.now) files.files_are
@@ -117,8 +118,8 @@ returns-clause-standing g c =
     let made = c.in_ok-opened.ensures in
     let region = c.in_ok-opened.opened.region in
     let backing = c.in_ok-opened.opened.stores.items in
-    let back = c.into_parts.result.items in
-    let same : map history back ≡ map history region.parts.items = ap (λ parts. map history parts.items) c.into_parts.ensures.parts in
+    let back = c.into_parts-parts.result.items in
+    let same : map history back ≡ map history region.parts.items = ap (λ parts. map history parts.items) c.into_parts-parts.ensures.parts in
     if_told old.told (λ was. HasHeader was.parts → TellsOf (StandsAsBefore was) then) (λ was told readable.
     let recovery = told_at old.told (λ holding. IsRecovered holding.parts region.geometry.page region.geometry.entries region.names region.next c.in_ok-opened.found) was told made.recovered in
     let files = told_at old.told (λ holding. HoldFiles (map held backing) (files_named holding.parts region.names holding.stores)) was told made.files in
@@ -131,9 +132,9 @@ returns-clause-standing g c =
           ∙ back_is old mid region.names was made.lent c.requires.at_home.home told now.states files.held;
       is_so =
           recovered_stands c.images_stand_for_files.ensures.files was region.geometry.page region.geometry.entries region.next region.names c.in_ok-opened.found now.states files.held recovery
-          (row_tells_at (map history back) (IsAtRest mount_layout region.geometry.page region.geometry.entries region.names region.next) now.states now_are c.into_parts.ensures.region.tells) files.files_are files.quiet
+          (row_tells_at (map history back) (IsAtRest mount_layout region.geometry.page region.geometry.entries region.names region.next) now.states now_are c.into_parts-parts.ensures.region.tells) files.files_are files.quiet
           (home_distinct old was (g.met.T.Bench.named c.args.bench.now) told c.requires.at_home.home)
           (states_many (map history region.parts.items) now.states now.are ∙ length-map region.parts.items history ∙ told_at old.told (λ holding. length region.parts.items ≡ length holding.parts) was told made.many)
           (sym (states_many (map held backing) files.held files.are ∙ length-map backing held ∙ made.one_each))
-          c.into_parts.ensures.region.names_are.distinct readable;
+          c.into_parts-parts.ensures.region.names_are.distinct readable;
     })

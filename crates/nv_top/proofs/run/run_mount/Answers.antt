@@ -32,7 +32,7 @@ use Rattle.nv_top.proofs.RunLemmas.{has_run}
 use Rattle.nv_top.proofs.StoppingLemmas.{failed_same}
 use Rattle.nv_core.specs.content.Content.{Opens}
 use Rattle.nv_core.specs.log.LogContent.{OpensLog}
-use Rattle.nv_mount.specs.Telling.{IsTelling}
+use Rattle.nv_mount.specs.Telling.{HasLongParts, IsTelling}
 use Rattle.nv_top.specs.Lives.{AreLeftSo}
 use Rattle.nv_top.proofs.LifeLemmas.{left_same}
 use Rattle.std.proofs.Common.{refl}
@@ -86,6 +86,7 @@ returns-clause-ran g c =
           (subst (λ (o : Opened). IsMountOf basis trace o mount.fds) (sym c.requires.board.same_mount) begins.is_mount)
           (subst (λ (o : Opened). OpensRegion (mount_of o) basis.names) (sym same_board) begins.region)
           (subst (λ (values : List Value). All IsQuietSpare values) (sym out.run_out.spare) spare)
+          (subst (λ (o : Opened). HasLongParts (mount_of o)) (sym same_board) begins.long)
           out ran.4 ran.5 c.args.show text.items c.match-ended.stores.items
           (ap (λ stores. map held stores.items) w.stores-is ∙ shown.ensures.histories)
           (λ now are. subst (λ these. text.items ≡ text_as c.args.show (shown_report sorted [] these (files_of now))) (sym named) (says c.args.show sorted told.2 now are)))

@@ -36,8 +36,8 @@ returns-clause-shown g c =
     let old = g.T.Bench.state c.args.bench.now in
     let lent = g.T.Bench.state c.recover_region.new.bench in
     let new_told = (g.T.Bench.state c.give_back.new.self).told in
-    let parts_now = c.into_parts.result.items in
-    let same_parts : parts_now ≡ region.parts.items = ap (λ (parts : _). parts.items) c.into_parts.ensures.parts in
+    let parts_now = c.into_parts-parts.result.items in
+    let same_parts : parts_now ≡ region.parts.items = ap (λ (parts : _). parts.items) c.into_parts-parts.ensures.parts in
     IfOk-weaker c.show_fates-report.result
     (λ text. (now : List Store) → AreNow (map held backing) now → ShowsOpen sorted begun found c.names.result.now (files_of now) text.items)
     (λ text. IfSome old.told (λ holding. ShowsRecovered holding sorted begun new_told text.items))
@@ -50,7 +50,8 @@ returns-clause-shown g c =
     (at_some old.told (λ holding. IsRecovered holding.parts region.geometry.page region.geometry.entries region.names region.next found) holding told_is opened.recovered)
     (at_some old.told (λ holding. HoldFiles (map held backing) (files_named holding.parts region.names holding.stores)) holding told_is opened.files)
     (subst Told (sym same_parts) (at_some old.told (λ holding. AllTell (map history region.parts.items)) holding told_is opened.tell))
-    c.into_parts.ensures.region.tells
+    c.into_parts-parts.ensures.region.tells
+    (λ now are. c.parts_have_lines.ensures region.geometry.page region.geometry.entries now c.into_parts-parts.ensures.region.parts are)
     (λ now disks now_are disks_are.
     let At : List stores.StoreHistory → Type 0 = λ row. AreNow row disks in
     c.give_back.ensures.told now disks now_are (subst At (sym c.show_fates-report.ensures.histories) disks_are))))
@@ -66,8 +67,8 @@ returns-clause-standing g c =
     let made = c.in_ok-opened.ensures in
     let region = c.in_ok-opened.opened.region in
     let backing = c.in_ok-opened.opened.stores.items in
-    let back = c.into_parts.result.items in
-    let same : map history back ≡ map history region.parts.items = ap (λ parts. map history parts.items) c.into_parts.ensures.parts in
+    let back = c.into_parts-parts.result.items in
+    let same : map history back ≡ map history region.parts.items = ap (λ parts. map history parts.items) c.into_parts-parts.ensures.parts in
     if_some old.told (λ was. HasHeader was.parts → TellsOf (StandsAsBefore was) then) (λ was told readable.
     let recovery = at_some old.told (λ holding. IsRecovered holding.parts region.geometry.page region.geometry.entries region.names region.next c.in_ok-opened.found) was told made.recovered in
     let files = at_some old.told (λ holding. HoldFiles (map held backing) (files_named holding.parts region.names holding.stores)) was told made.files in
@@ -80,9 +81,9 @@ returns-clause-standing g c =
           ∙ back_is old mid region.names was made.lent c.requires.at_home.home told now.states files.held;
       is_so =
           recovered_stands c.images_stand_for_files.ensures.files was region.geometry.page region.geometry.entries region.next region.names c.in_ok-opened.found now.states files.held recovery
-          (row_tells_at (map history back) (IsAtRest mount_layout region.geometry.page region.geometry.entries region.names region.next) now.states now_are c.into_parts.ensures.region.tells) files.files_are files.quiet
+          (row_tells_at (map history back) (IsAtRest mount_layout region.geometry.page region.geometry.entries region.names region.next) now.states now_are c.into_parts-parts.ensures.region.tells) files.files_are files.quiet
           (home_distinct old was (g.met.T.Bench.named c.args.bench.now) told c.requires.at_home.home)
           (states_many (map history region.parts.items) now.states now.are ∙ length-map region.parts.items history ∙ at_some old.told (λ holding. length region.parts.items ≡ length holding.parts) was told made.many)
           (sym (states_many (map held backing) files.held files.are ∙ length-map backing held ∙ made.one_each))
-          c.into_parts.ensures.region.names_are.distinct readable;
+          c.into_parts-parts.ensures.region.names_are.distinct readable;
     })

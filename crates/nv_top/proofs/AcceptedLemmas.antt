@@ -1,0 +1,306 @@
+-- What a command leaves of a region that was blank or good: none of its bytes is refused, once power went off.
+use Rattle.std.proofs.Common.{◌≡◌, ◌⊎◌, ℕ, ◌≤◌, Bool, true, false, List, [], ◌∷◌, Option, Some, None, Ok, Err, length, map, inl, inr, refl, sym, ap, subst, ◌∙◌, arith}
+use Rattle.std.specs.Global.{Vec}
+use Rattle.std.specs.Prelude.{IfOk, IfSome, IsOk, is_ok, slice_index_or}
+use Rattle.std.proofs.lemmas.Bool.{eqb-true, true≢false}
+use Rattle.nv_plain.specs.Files.{Files}
+use Rattle.nv_plain.specs.Images.{header_of}
+use Rattle.nv_plain.specs.Layouts.{mount_layout}
+use Rattle.nv_plain.specs.Recovered.{Fits, IsBlank}
+use Rattle.nv_pmem.specs.Laws.{QuietPartHasOneImage}
+use Rattle.nv_pmem.specs.Part.{Part}
+use Rattle.nv_pmem.specs.Rows.{IsRowImage, row_words}
+use Rattle.nv_pmem.specs.declared.geometry.Geometry.{Geometry}
+use Rattle.nv_pmem.specs.declared.picker.Pick.{Pick}
+use Rattle.nv_pmem.proofs.ImageLaws.{image_of_now}
+use Rattle.nv_store.specs.Store.{Store}
+use Rattle.nv_bench.specs.Benches.{BenchState}
+use Rattle.nv_bench.specs.Holding.{Holding, IsQuietHolding, NamedStore}
+use Rattle.nv_bench.specs.Laws.{AreWholeStores, PowerLeavesAnImage}
+use Rattle.nv_bench.specs.Opening.{is_blank}
+use Rattle.nv_bench.specs.Powered.{powered}
+use Rattle.nv_header.specs.Heads.{IsHead}
+use Rattle.nv_header.specs.Needs.{HasLines, header_lines_in}
+use Rattle.nv_header.specs.Refusals.{ReadIsNotRefused}
+use Rattle.nv_header.specs.Regions.{IsAtRest}
+use Rattle.nv_header.specs.declared.head.HeadError.TheVariants as head
+use Rattle.nv_recover.specs.Groups.{FittingHasNoBad}
+use Rattle.nv_recover.specs.Standing.{AreStoreImages}
+use Rattle.nv_recover.proofs.AlikeLaws.{empty_fits}
+use Rattle.nv_recover.proofs.EmptyLaws.{empty_none}
+use Rattle.nv_open.specs.Held.{header_names}
+use Rattle.nv_open.specs.Lending.{stores_named}
+use Rattle.nv_open.specs.Looking.{names_until, told_by}
+use Rattle.nv_open.specs.Refusals.{CanBeRead, IsRefusedFor, head_image, header_part, rooms_of}
+use Rattle.nv_open.specs.Unopened.{InEachImage, IsGood, IsUntouched, StandForFiles, StandsAsBefore, StandsOpening, StandsWithSome, TellsOf, names_in}
+use Rattle.nv_open.specs.declared.error.Refusal.{Refusal}
+use Rattle.nv_open.specs.declared.error.Refusal.TheVariants.{Truncated, BadMagic, BadVersion, BadGeometry, BadName, BadEntry, TooManyFiles}
+use Rattle.nv_open.proofs.Stands.{durable_images}
+use Rattle.nv_trace.specs.Traced.{Traced}
+use Rattle.nv_trace.specs.declared.trace.Form.{Form}
+use Rattle.nv_trace.specs.declared.trace.Form.TheVariants as forms
+use Rattle.nv_runner.specs.Faithful.{Basis}
+use Rattle.nv_runner.specs.Histories.{PlacedCall}
+use Rattle.nv_runner.specs.Lives.{RecoversBehind}
+use Rattle.nv_load.specs.Generated.{generated}
+use Rattle.nv_top.specs.Accepted.{IsAcceptedBehindPower, IsBlankOrGood, IsForLines, HasMadeRegion, MayHaveTrace, NextIsAccepted, WhatIsMadeIsGood}
+use Rattle.nv_top.specs.Commands.{IsLookedAt}
+use Rattle.nv_top.specs.Endings.{IsTrace, OfRead}
+use Rattle.nv_top.specs.Headline.{IsShown, IsShownOf, UsesTurns}
+use Rattle.nv_top.specs.Leaving.{Leaves}
+use Rattle.nv_top.specs.Lives.{LeavesRecovery, LeavesRun, LeavesTrace}
+use Rattle.nv_top.specs.Loads.{load_options}
+use Rattle.nv_top.specs.Ready.{IsReady}
+use Rattle.nv_top.specs.Reported.{HasReported}
+use Rattle.nv_top.specs.Said.{Outcome}
+use Rattle.nv_top.specs.Stopping.{RestsWith}
+use Rattle.nv_top.specs.declared.ending.Stop.TheVariants.{Turns}
+use Rattle.nv_words.specs.declared.words.Command.{Command}
+use Rattle.nv_words.specs.declared.words.Command.TheVariants.{Run, Sched, Recover, Look, Gen}
+use Rattle.nv_words.specs.declared.words.RunOptions.{RunOptions}
+use Rattle.nv_top.proofs.CommandLemmas.{told_at}
+use Rattle.nv_top.proofs.LifeLemmas.{all_whole, one_image}
+
+-- ---- what is read of parts
+
+-- a header that can be read of the parts' words can be read of its part, where that has its lines
+read_of : (parts : List Part) → IsHead mount_layout mount_layout.header_lines (row_words parts) → mount_layout.header_lines ≤ length (header_part parts) → CanBeRead parts
+read_of parts read long = record { long_enough = long; fields = read.fields; names = λ i below. let good = read.names i below in record { whole = good.whole; new = good.new } }
+
+-- and the other way round
+head_of : (parts : List Part) → CanBeRead parts → IsHead mount_layout mount_layout.header_lines (row_words parts)
+head_of parts read = record { long_enough = omega arith; fields = read.fields; names = λ i below. let good = read.names i below in record { whole = good.whole; new = good.new } }
+
+blank_is : (parts : List Part) → is_blank parts ≡ true → IsBlank (row_words parts)
+blank_is parts is = eqb-true (header_of (row_words parts)).magic 0 is
+
+-- a good region isn't blank
+not_blank : (parts : List Part) → IsGood parts → is_blank parts ≡ false
+not_blank parts good = go (is_blank parts) refl
+  where
+    go : (b : Bool) → is_blank parts ≡ b → b ≡ false
+    go true e = absurd (let blank = blank_is parts e in let magic = good.readable.fields.magic in omega (arith, blank, magic))
+    go false e = refl
+
+-- ---- refusals
+
+module _ (good_so : FittingHasNoBad) (read_so : ReadIsNotRefused) where
+  allowed : (parts : List Part) → IsHead mount_layout mount_layout.header_lines (row_words parts) → Fits mount_layout (row_words parts) → (why : Refusal) → IsRefusedFor parts why → IsForLines why
+  allowed parts read fits (Truncated found wanted) is = tt
+  allowed parts read fits BadMagic is = absurd (read_so mount_layout (length (header_part parts)) (head_image parts) head.BadMagic (read_of parts read is.0) tt is)
+  allowed parts read fits (BadVersion found) is = absurd (read_so mount_layout (length (header_part parts)) (head_image parts) (head.BadVersion found) (read_of parts read is.0) tt is)
+  allowed parts read fits (BadGeometry field found) is = absurd (read_so mount_layout (length (header_part parts)) (head_image parts) (head.BadGeometry field found) (read_of parts read is.0) tt is)
+  allowed parts read fits (BadName i) is = absurd (read_so mount_layout (length (header_part parts)) (head_image parts) (head.BadName i) (read_of parts read is.0) tt is)
+  allowed parts read fits (BadEntry number) is = absurd (good_so mount_layout (row_words parts) number fits is.2)
+  allowed parts read fits TooManyFiles is = absurd is
+
+  blank_allowed : (parts : List Part) → IsBlank (row_words parts) → (why : Refusal) → IsRefusedFor parts why → IsForLines why ⊎ (why ≡ BadMagic)
+  blank_allowed parts blank (Truncated found wanted) is = inl tt
+  blank_allowed parts blank BadMagic is = inr refl
+  blank_allowed parts blank (BadVersion found) is = absurd (let magic = is.1.0 in omega (arith, blank, magic))
+  blank_allowed parts blank (BadGeometry field found) is = absurd (let magic = is.1.0.magic in omega (arith, blank, magic))
+  blank_allowed parts blank (BadName i) is = absurd (let magic = is.1.magic in omega (arith, blank, magic))
+  blank_allowed parts blank (BadEntry number) is = absurd (let magic = is.0.fields.magic in omega (arith, blank, magic))
+  blank_allowed parts blank TooManyFiles is = absurd is
+
+  -- ---- what is left, whatever power leaves of it
+
+  module _ (one_so : QuietPartHasOneImage) (power_so : PowerLeavesAnImage) (was : Holding) (sound : IsBlankOrGood was.parts) (still : IsQuietHolding was) where
+    abbrev Accepts : Holding → Type 0
+    Accepts now = AreWholeStores now → IsAcceptedBehindPower (is_blank was.parts ≡ true) now
+
+    blank_or : (parts : List Part) → IsBlank (row_words parts) → is_blank was.parts ≡ true → (why : Refusal) → IsRefusedFor parts why → IsForLines why ⊎ ((why ≡ BadMagic) × (is_blank was.parts ≡ true))
+    blank_or parts blank so why refused = elim (blank_allowed parts blank why refused) [ inl lines ↦ inl lines | inr magic ↦ inr (magic, so) ]
+
+    stands : StandForFiles was.parts
+    stands = record {
+      readable = λ not. elim sound [ inl blank ↦ absurd (true≢false (sym blank ∙ not)) | inr good ↦ head_of was.parts good.readable ];
+      fits = λ not. elim sound [ inl blank ↦ absurd (true≢false (sym blank ∙ not)) | inr good ↦ good.fits ];
+    }
+
+    -- an image of the stores of some names
+    bytes_of : (names : List (List ℕ)) (now : Holding) → AreWholeStores now → (bytes : Files) × AreStoreImages (stores_named names now.stores) bytes
+    bytes_of names now whole =
+        (record { contents = map (λ (store : Store). store.durable) (stores_named names now.stores) }, durable_images (stores_named names now.stores) (all_whole names now.stores whole))
+
+    image_of : (now : Holding) → AreWholeStores now → (pick : Pick) → IsRowImage now.parts (row_words (powered pick now).parts)
+    image_of now whole pick = (power_so pick now whole).0.parts
+
+    opening_left : (wanted : List (List ℕ)) (now : Holding) → InEachImage (StandsWithSome was wanted) now → Accepts now
+    opening_left wanted now images whole pick why refused =
+        let image = row_words (powered pick now).parts in
+        let bytes = bytes_of (names_in image) now whole in
+        elim (images image bytes.0 (image_of now whole pick) bytes.1) [
+          | inl blank ↦ blank_or (powered pick now).parts blank.1 blank.0 why refused
+          | inr some ↦ inl (allowed (powered pick now).parts some.readable some.stands.fits why refused)
+        ]
+
+    lived_left : (basis : Basis) (trace : Traced) (history : List PlacedCall) (now : Holding) → InEachImage (RecoversBehind basis trace history) now → Accepts now
+    lived_left basis trace history now images whole pick why refused =
+        let image = row_words (powered pick now).parts in
+        let bytes = bytes_of (names_in image) now whole in
+        let behind = images image bytes.0 (image_of now whole pick) bytes.1 in
+        inl (allowed (powered pick now).parts behind.readable behind.fits why refused)
+
+    recovery_left : IsGood was.parts → (now : Holding) → StandsAsBefore was now → Accepts now
+    recovery_left good now before whole pick why refused =
+        let image = row_words (powered pick now).parts in
+        let bytes = bytes_of (header_names was.parts) now whole in
+        let takes = before.stands image bytes.0 (image_of now whole pick) bytes.1 in
+        inl (allowed (powered pick now).parts takes.header.readable (takes.files good.fits).fits why refused)
+
+    -- the same parts
+    same_left : (now : Holding) → now.parts ≡ was.parts → Accepts now
+    same_left now same whole pick why refused =
+        let parts = (powered pick now).parts in
+        let image : row_words parts ≡ row_words was.parts = one_image one_so was.parts (row_words parts) still.parts (subst (λ p. IsRowImage p (row_words parts)) same (image_of now whole pick)) in
+        elim sound [
+          | inl blank ↦ blank_or parts (subst IsBlank (sym image) (blank_is was.parts blank)) blank why refused
+          | inr good ↦ inl (allowed parts (subst (IsHead mount_layout mount_layout.header_lines) (sym image) (head_of was.parts good.readable)) (subst (Fits mount_layout) (sym image) good.fits) why refused)
+        ]
+
+    -- ---- what a command tells
+
+    module _ (here : Holding) (told : Option Holding) (told_is : told ≡ Some here) where
+      told_so : (P : Holding → Type 0) (tells : TellsOf P told) → ((now : Holding) → P now → Accepts now) → Accepts here
+      told_so P tells each = subst Accepts (same (sym tells.told_is ∙ told_is)) (each tells.now tells.is_so)
+        where
+          same : {x y : Holding} → Some x ≡ Some y → x ≡ y
+          same {x} {y} is = cc
+
+      run_left : (options : RunOptions) (trace : Traced) → LeavesRun options was trace told → Accepts here
+      run_left options trace run = elim (run.stands stands) [
+        | inl none ↦ elim none [
+          | inl own ↦ told_so (StandsOpening (length was.parts) was trace.names) own (λ now is. opening_left trace.names now is.images)
+          | inr made ↦ told_so _ made.left (λ now is. opening_left trace.names now is.images)
+        ]
+        | inr lived ↦ told_so _ lived.lived.images (λ now is. lived_left lived.basis trace lived.lived.history now is.0)
+      ]
+
+      recovered_left : LeavesRecovery was told → Accepts here
+      recovered_left leaves = elim sound [
+        | inr good ↦ told_so (StandsAsBefore was) (leaves.stands (head_of was.parts good.readable)) (recovery_left good)
+        | inl blank ↦ told_so (IsUntouched was) (leaves.untouched (λ good. true≢false (sym blank ∙ not_blank was.parts good))) (λ now is. same_left now (ap (λ (h : Holding). h.parts) is.now_is))
+      ]
+
+      same_told : told ≡ Some was → Accepts here
+      same_told is = same_left here (ap (λ (h : Holding). h.parts) (same (sym told_is ∙ is)))
+        where
+          same : {x y : Holding} → Some x ≡ Some y → x ≡ y
+          same {x} {y} is = cc
+
+      trace_left : (form : Form) (options : RunOptions) (input : Option (List ℕ)) → IfSome input (IsTrace form) → LeavesTrace form options input was told → Accepts here
+      trace_left form options None read leaves = elim leaves [ inl same ↦ same_told same | inr run ↦ run_left options run.0 run.3 ]
+      trace_left form options (Some input) read leaves = run_left options read.0 (leaves read.0 read.1)
+
+  some_parts : (one other : Holding) → Some one ≡ Some other → one.parts ≡ other.parts
+  some_parts one other is = ap (λ (h : Holding). h.parts) (same is)
+    where
+      same : Some one ≡ Some other → one ≡ other
+      same is = cc
+
+  looked : (files : Bool) (old new : BenchState) (was here : Holding) → IsLookedAt files old new → old.told ≡ Some was → new.told ≡ Some here → here.parts ≡ was.parts
+  looked false old new was here is told_was told_here = some_parts here was (sym told_here ∙ ap (λ (s : BenchState). s.told) is ∙ told_was)
+  looked true old new was here is told_was told_here = some_parts here _ (sym told_here ∙ is.1.1 ∙ ap (told_by (names_until is.1.0)) told_was)
+
+  -- by the command
+  module _ (one_so : QuietPartHasOneImage) (power_so : PowerLeavesAnImage) (given left : Option (List ℕ)) (before now : ℕ) (old new : BenchState) (result : Outcome) (was here : Holding)
+      (ready : IsReady old) (told_was : old.told ≡ Some was) (told_here : new.told ≡ Some here) (whole : AreWholeStores here) (sound : IsBlankOrGood was.parts) where
+    still_was : IsQuietHolding was
+    still_was = told_at old.told IsQuietHolding was told_was ready.at_home.quiet
+
+    by_command : (command : Command) → HasReported (Some command) given left before now old new result → MayHaveTrace command given → IsAcceptedBehindPower (is_blank was.parts ≡ true) here
+    by_command (Run options) came read = trace_left one_so power_so was sound still_was here new.told told_here forms.Run options given read (told_at old.told _ was told_was (came.life (Run options) refl)) whole
+    by_command (Sched options) came read = trace_left one_so power_so was sound still_was here new.told told_here forms.Sched options given read (told_at old.told _ was told_was (came.life (Sched options) refl)) whole
+    by_command Recover came read = recovered_left one_so power_so was sound still_was here new.told told_here (told_at old.told _ was told_was (came.life Recover refl)) whole
+    by_command (Look files) came read = same_left one_so power_so was sound still_was here (looked files old new was here (came.back (Look files) refl) told_was told_here) whole
+    by_command (Gen load) came read = run_left one_so power_so was sound still_was here new.told told_here load_options (generated load) (told_at old.told _ was told_was (came.life (Gen load) refl)) whole
+
+  pub next_is_accepted : QuietPartHasOneImage → PowerLeavesAnImage → NextIsAccepted
+  next_is_accepted one_so power_so command given left before now old new result was here came ready told_was told_here whole read sound =
+      by_command one_so power_so given left before now old new result was here ready told_was told_here whole sound command came read
+
+-- ---- what is made is good
+
+-- the words of parts are an image of them
+own_image : (parts : List Part) → IsRowImage parts (row_words parts)
+own_image parts = record { each = λ i. image_of_now (slice_index_or parts i []) }
+
+first_long : (parts : List Part) → mount_layout.header_lines ≤ header_lines_in (rooms_of parts) → mount_layout.header_lines ≤ length (header_part parts)
+first_long [] enough = enough
+first_long (part ∷ parts) enough = enough
+
+rest_good : (page entries next : ℕ) (names : List (List ℕ)) (parts : List Part) → IsAtRest mount_layout page entries names next parts → HasLines mount_layout page entries (rooms_of parts) → IsGood parts
+rest_good page entries next names parts rest long =
+    let empty = rest.empty (row_words parts) (own_image parts) in
+    let header = empty.header in
+    let Long : ℕ → ℕ → Type 0 = λ page entries. HasLines mount_layout page entries (rooms_of parts) in
+    let Of : ℕ → Type 0 = λ page. Long page (header_of (head_image parts)).entries in
+    record {
+      readable = read_of parts header.readable (first_long parts long.header);
+      long = subst Of (sym header.page_is) (subst (Long page) (sym header.entries_is) long);
+      fits = empty_fits mount_layout (row_words parts) (empty_none page entries names next (row_words parts) empty);
+    }
+
+same_parts : (now here : Holding) (told : Option Holding) → told ≡ Some now → told ≡ Some here → IsGood now.parts → IsGood here.parts
+same_parts now here told one other good = subst (λ (h : Holding). IsGood h.parts) (same (sym one ∙ other)) good
+  where
+    same : Some now ≡ Some here → now ≡ here
+    same is = cc
+
+module _ (here : Holding) (told : Option Holding) (told_is : told ≡ Some here) where
+  leaves_good : {want : Option Geometry} {names : List (List ℕ)} {files : Files} {was : Holding} → Leaves want names files was told → IsGood here.parts
+  leaves_good {want} {names} {files} {was} leaves =
+      let left = leaves.left in
+      same_parts leaves.now here told leaves.told_is told_is (rest_good left.page left.entries left.next names leaves.now.parts left.rest left.long)
+
+  rests_good : {page entries next many : ℕ} {names : List (List ℕ)} {files : Files} {others : List NamedStore} → RestsWith page entries names next files many others told → IsGood here.parts
+  rests_good {page} {entries} {next} {many} {names} {files} {others} rests = same_parts rests.now here told rests.told_is told_is (rest_good page entries next names rests.now.parts rests.rests.rest rests.long)
+
+of_read : (form : Form) (input : Option (List ℕ)) (P : Traced → Type 0) (Q : Type 0) → ((trace : Traced) → P trace → Q) → OfRead form input P → Q
+of_read form None P Q each read = each read.0 read.3
+of_read form (Some input) P Q each read = each read.0 read.2
+
+module _ (given left : Option (List ℕ)) (before now : ℕ) (old new : BenchState) (result : Outcome) (was here : Holding) (told_was : old.told ≡ Some was) (told_here : new.told ≡ Some here) where
+  abbrev Came : Command → Type 0
+  Came command = HasReported (Some command) given left before now old new result
+
+  shown_run : (options : RunOptions) (stop : Option ℕ) (trace : Traced) (text : List ℕ) → IsShownOf stop options old new was trace text → IsGood here.parts
+  shown_run options None trace text shown = leaves_good here new.told told_here shown.left
+  shown_run options (Some k) trace text shown = rests_good here new.told told_here shown.stopped.left.lost.rests
+
+  shown_good : (command : Command) (text : List ℕ) → HasMadeRegion command result → IsShown command given old new was text → IsGood here.parts
+  shown_good (Run options) text made shown = of_read forms.Run given _ (IsGood here.parts) (λ trace run. shown_run options options.stop trace text run) shown
+  shown_good (Sched options) text made shown = of_read forms.Sched given _ (IsGood here.parts) (λ trace run. rests_good here new.told told_here run.scheduled.left.lost.rests) shown
+  shown_good Recover text made shown = leaves_good here new.told told_here shown.left
+  shown_good (Look files) text made shown = absurd made
+  shown_good (Gen load) text made shown = leaves_good here new.told told_here shown.ran.left
+
+  shown_ok : (command : Command) → Came command → HasMadeRegion command result → (text : Vec ℕ) → result ≡ Ok text → IsGood here.parts
+  shown_ok command came made text is =
+      let Shows : Outcome → Type 0 = λ outcome. IfOk outcome (λ text. (command_too : Command) → Some command ≡ Some command_too → IfSome old.told (λ holding. IsShown command_too given old new holding text.items)) in
+      shown_good command text.items made (told_at old.told (λ holding. IsShown command given old new holding text.items) was told_was (subst Shows is came.report command refl))
+
+  turns_good : (command : Command) → Came command → result ≡ Err Turns → IsGood here.parts
+  turns_good command came is =
+      let turns = came.turns is in
+      of_read forms.Sched given _ (IsGood here.parts) (λ trace used. rests_good here new.told told_here used.used.left.lost.rests)
+      (told_at old.told (UsesTurns turns.0 given old new) was told_was (came.turns_used is turns.0 turns.1))
+
+  ok_or_turns : (command : Command) → Came command → HasMadeRegion command result → IsOk result ⊎ (result ≡ Err Turns) → IsGood here.parts
+  ok_or_turns command came made (inr turns) = turns_good command came turns
+  ok_or_turns command came made (inl ok) = go result refl
+    where
+      go : (outcome : Outcome) → result ≡ outcome → IsGood here.parts
+      go (Ok text) e = shown_ok command came made text e
+      go (Err stop) e = absurd (true≢false (sym ok ∙ ap (λ (o : Outcome). is_ok o) e))
+
+  made_good : (command : Command) → Came command → HasMadeRegion command result → IsGood here.parts
+  made_good (Look files) came made = absurd made
+  made_good (Run options) came made = ok_or_turns (Run options) came made made
+  made_good (Sched options) came made = ok_or_turns (Sched options) came made made
+  made_good Recover came made = ok_or_turns Recover came made made
+  made_good (Gen load) came made = ok_or_turns (Gen load) came made made
+
+pub what_is_made_is_good : WhatIsMadeIsGood
+what_is_made_is_good command given left before now old new result was here came told_was told_here made = made_good given left before now old new result was here told_was told_here command came made

@@ -1,0 +1,55 @@
+-- Lines: parts that have those of their region.
+use Rattle.std.proofs.Common.{◌≡◌, ℕ, zero, suc, ◌+◌, ◌<◌, ◌≤◌, List, [], ◌∷◌, length, map, get_or, sym, subst, ◌∙◌, arith}
+use Rattle.std.proofs.lemmas.List.{get_or-map, get_or-take, length-map, length-take}
+use Rattle.nv_plain.specs.Layouts.{mount_layout}
+use Rattle.nv_pmem.specs.Limits.{entry_lines}
+use Rattle.nv_pmem.specs.Part.{Part}
+use Rattle.nv_pmem.specs.Room.{Room}
+use Rattle.nv_pmem.specs.RowStates.{AreNow}
+use Rattle.nv_pmem.specs.Steps.{PartHistory}
+use Rattle.nv_store.proofs.RowReads.{length_now}
+use Rattle.nv_header.specs.Needs.{HasLines}
+use Rattle.nv_header.specs.Regions.{HasParts, part_lines}
+use Rattle.nv_open.specs.Refusals.{rooms_of}
+
+-- the room of so many lines, as far as it is their count
+abbrev pub room_with : ℕ → Room
+room_with count = record { lines = count; spare = λ line. 0; after_fence = λ line. 0 }
+
+abbrev pub room_of : Part → Room
+room_of part = room_with (length part)
+
+-- parts that have their lines
+pub have_lines : (page entries : ℕ) (parts : List Part) → 1 + entries ≤ length parts → ((slot : ℕ) → slot ≤ entries → part_lines mount_layout page slot ≤ length (get_or parts slot []))
+    → HasLines mount_layout page entries (rooms_of parts)
+have_lines page entries [] many each = absurd (omega (arith, many))
+have_lines page entries (part ∷ others) many each = record {
+  header = each 0 (omega arith);
+  count = let long = length-map (part ∷ others) room_of in omega (arith, many, long);
+  each = λ k none inside.
+      let below : k < entries = omega (arith, inside, length-take entries (rooms_of others)) in
+      let there : k < length others = omega (arith, many, below) in
+      let Long : Room → Type 0 = λ room. entry_lines page ≤ room.lines in
+      subst Long (sym (get_or-take entries (rooms_of others) k none below ∙ get_or-map room_of others k [] none there)) (each (suc k) (omega (arith, below)));
+}
+
+-- what stands at a place of parts that tell has the lines of its room
+module _ {L : Type 0} (history : L → PartHistory) (room : L → Room) (told_lines : (part : L) (now : Part) (past : PartHistory) → history part ≡ now ∷ past → length now ≡ (room part).lines) where
+  line_at : (parts : List L) (states : List Part) → AreNow (map history parts) states → (slot : ℕ) (none : Room) → slot < length parts → (get_or (map room parts) slot none).lines ≡ length (get_or states slot [])
+  line_at [] states are slot none less = absurd (omega (arith, less))
+  line_at (part ∷ parts) [] are slot none less = absurd are
+  line_at (part ∷ parts) (now ∷ states) are zero none less = sym (told_lines part now are.0.past are.0.is)
+  line_at (part ∷ parts) (now ∷ states) are (suc slot) none less = line_at parts states are.1 slot none (omega (arith, less))
+
+  -- so those of a region have its lines
+  pub region_lines : (page entries : ℕ) (parts : List L) → HasParts mount_layout page entries (map room parts) → (states : List Part) → AreNow (map history parts) states → HasLines mount_layout page entries (rooms_of states)
+  region_lines page entries parts has states are =
+      let many = has.count in
+      let long = length-map parts room in
+      let rows = length-map parts history in
+      let as_many = length_now (map history parts) states are in
+      have_lines page entries states (omega (arith, many, long, rows, as_many))
+      (λ slot least.
+      let there = (has.each slot (room_with 0) least).there in
+      let same = line_at parts states are slot (room_with 0) (omega (arith, least, many, long)) in
+      omega (arith, there, same))
