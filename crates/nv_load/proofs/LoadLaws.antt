@@ -24,7 +24,7 @@ use Rattle.nv_trace.specs.declared.trace_call.TraceCall.{TraceCall}
 use Rattle.nv_trace.specs.declared.trace_call.TracedCall.{TracedCall}
 use Rattle.nv_trace.specs.Traced.{lines_in}
 use Rattle.nv_runner.specs.Entries.{entries_of_calls, entries_taken}
-use Rattle.nv_runner.specs.Faithful.{Basis, IsAllowedRefusal, IsFaithful, IsLeftOpen, WasRefused, after_open, barred, descriptors_in, drawing_calls, file_call, files_shown, history_of, listed_calls, named, is_later, open_calls_of}
+use Rattle.nv_runner.specs.Faithful.{Basis, IsAllowedRefusal, IsFaithful, IsLeftOpen, RetiresNothing, WasRefused, after_open, barred, descriptors_in, drawing_calls, file_call, files_shown, history_of, listed_calls, named, is_later, open_calls_of}
 use Rattle.nv_runner.specs.Histories.{ComesBefore, KeepOrder, PlacedCall}
 use Rattle.nv_runner.specs.Reports.{OpenCall, Report, ShownRefusal}
 use Rattle.nv_runner.proofs.HistoryMembers.{contained, of_each, of_one, one_either, one_left, one_mapped, one_moved, one_right}
@@ -210,7 +210,7 @@ module _ (load : Load) (report : Report) (limits : IsLoad load) (faithful : IsFa
   shaped = all_shaped load limits
 
   shaped_listed : (call : TracedCall) → IsOneOf (listed_calls report) call → HasShape load.threads call
-  shaped_listed call there = shaped call (one_moved (listed_calls report) calls call faithful.each_once there)
+  shaped_listed call there = shaped call (one_moved (listed_calls report) calls call faithful.made there)
 
   none_open : (list : List OpenCall) → All (IsLeftOpen ⊥ fresh_basis (opened load)) (map (λ (o : OpenCall). o.call) list) → list ≡ []
   none_open [] all = refl
@@ -224,7 +224,7 @@ module _ (load : Load) (report : Report) (limits : IsLoad load) (faithful : IsFa
         | inl left ↦ one_left (placed ++ refused) (open_calls_of report) call (one_left placed refused call left)
         | inr right ↦ one_right (placed ++ refused) (open_calls_of report) call right
       ])) in
-      let many = length_permutation (listed_calls report) calls faithful.each_once in
+      let many = length_permutation (listed_calls report) calls faithful.made in
       let one = length-append placed (open_calls_of report) in
       let two = length-append (placed ++ refused) (open_calls_of report) in
       let three = length-append placed refused in
@@ -232,7 +232,7 @@ module _ (load : Load) (report : Report) (limits : IsLoad load) (faithful : IsFa
       let most = mul-le-mul limits.few_threads limits.calls in
       omega (arith, drew, many, one, two, three, long, most)
 
-  not_refused : (call : TracedCall) (refusal : Refusal) → HasShape load.threads call → WasRefused ⊥ true fresh_basis (drawing_calls report) call refusal → ⊥
+  not_refused : (call : TracedCall) (refusal : Refusal) → HasShape load.threads call → WasRefused ⊥ (RetiresNothing true fresh_basis) fresh_basis (drawing_calls report) call refusal → ⊥
   not_refused call BadDescriptor shape was = was
   not_refused call TooFar shape was = was
   not_refused call TooLong shape was = was
@@ -241,18 +241,18 @@ module _ (load : Load) (report : Report) (limits : IsLoad load) (faithful : IsFa
       let few = fewer (λ (t : TracedCall). entries_taken basis.sizes.page t.call) (λ other. not (is_later call other)) (drawing_calls report) in
       let one = taken_few load.threads call shape in
       absurd (omega (arith, was.spent, was.drawn, few, drew_few, one))
-  not_refused call (Again head tail) shape was = absurd (differ was.0) where
+  not_refused call (Again head tail) shape was = absurd (differ was.retired.0) where
     differ : true ≡ false → ⊥
     differ is = cc
   not_refused call RegionFault shape was = was.1
   not_refused call StoreFault shape was = was.1
 
   none_refused : (list : List ShownRefusal) → ((r : ShownRefusal) → IsOneOf list r → HasShape load.threads r.call)
-      → All (λ r. IsAllowedRefusal ⊥ true fresh_basis (opened load) (drawing_calls report) r.call r.refusal) list → list ≡ []
+      → All (λ r. IsAllowedRefusal ⊥ (RetiresNothing true fresh_basis) fresh_basis (opened load) (drawing_calls report) r.call r.refusal) list → list ≡ []
   none_refused [] shapes all = refl
   none_refused (r ∷ rest) shapes all =
-      let allowed = All-head (λ (r : ShownRefusal). IsAllowedRefusal ⊥ true fresh_basis (opened load) (drawing_calls report) r.call r.refusal) r rest all in
-      let Match : Option Refusal → Type 0 = λ (bars : Option Refusal). MatchOption bars (WasRefused ⊥ true fresh_basis (drawing_calls report) r.call r.refusal) (λ cause. r.refusal ≡ cause) in
+      let allowed = All-head (λ (r : ShownRefusal). IsAllowedRefusal ⊥ (RetiresNothing true fresh_basis) fresh_basis (opened load) (drawing_calls report) r.call r.refusal) r rest all in
+      let Match : Option Refusal → Type 0 = λ (bars : Option Refusal). MatchOption bars (WasRefused ⊥ (RetiresNothing true fresh_basis) fresh_basis (drawing_calls report) r.call r.refusal) (λ cause. r.refusal ≡ cause) in
       let shape = shapes r (inl refl) in
       absurd (not_refused r.call r.refusal shape (subst Match (free load r.call shape) allowed))
 
@@ -276,7 +276,7 @@ module _ (load : Load) (report : Report) (limits : IsLoad load) (faithful : IsFa
       ∙ ap (λ (open_calls : List OpenCall). (placed ++ []) ++ map (λ (o : OpenCall). o.call) open_calls) no_open ∙ append-nil (placed ++ []) ∙ append-nil placed
 
   moved : IsPermutation placed calls
-  moved = subst (λ (l : List TracedCall). IsPermutation l calls) all_placed faithful.each_once
+  moved = subst (λ (l : List TracedCall). IsPermutation l calls) all_placed faithful.made
 
   moved_back : IsPermutation calls placed
   moved_back = IsPermutation-sym placed calls moved

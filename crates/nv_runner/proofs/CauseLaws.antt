@@ -29,7 +29,7 @@ use Rattle.nv_trace.specs.declared.trace_call.TracedCall.{TracedCall}
 use Rattle.nv_runner.specs.Entries.{entries_of_calls, entries_taken}
 use Rattle.nv_runner.specs.declared.plan.Plan.{Plan}
 use Rattle.nv_runner.specs.EndedRuns.{batch_of}
-use Rattle.nv_runner.specs.Faithful.{Basis, RunSizes, IsAllowedRefusal, WasRefused, barred, barred_by, descriptor_at, descriptors_in, not_later, placed_in}
+use Rattle.nv_runner.specs.Faithful.{Basis, RunSizes, IsAllowedRefusal, RetiresNothing, WasRefused, barred, barred_by, descriptor_at, descriptors_in, not_later, placed_in}
 use Rattle.nv_runner.specs.FaithfulRuns.{IsMountOf, as_fd, shown_refusal}
 use Rattle.nv_runner.specs.Histories.{PlacedCall}
 use Rattle.nv_runner.specs.Lists.{MadeCall}
@@ -189,7 +189,7 @@ no_worker plan none = by plan.worker none
 module _ (failed : Type 0) (basis : Basis) (trace : Traced) (opened : Opened) (fds : List Fd) (is : IsMountOf basis trace opened fds) (plan : Plan) (drew : List TracedCall) where
   -- it is shown with its cause
   why_shown : (call : TracedCall) (now : PassState) → now.view.opened ≡ opened → StoodSo failed basis (batch_of plan) drew call now → (refusal : mirror.Refusal)
-      → IsCause opened.sizes (batch_of plan) call.call now refusal → MatchOption (shown_refusal refusal) ⊥ (λ shown. WasRefused failed plan.worker basis drew call shown)
+      → IsCause opened.sizes (batch_of plan) call.call now refusal → MatchOption (shown_refusal refusal) ⊥ (λ shown. WasRefused failed (RetiresNothing plan.worker basis) basis drew call shown)
   why_shown call now same stood why.BadFd cause = cause
   why_shown call now same stood why.TooFar cause = cause
   why_shown call now same stood why.TooLong cause = cause
@@ -206,7 +206,7 @@ module _ (failed : Type 0) (basis : Basis) (trace : Traced) (opened : Opened) (f
       let takes = cause.1.takes in let full = cause.1.full in let most = cause.1.head_most in let bound = stood.head in
       let least = cause.1.tail_least in let tail_most = cause.1.tail_most in let retired = stood.tail cause.0 in
       let first = ap (λ (o : Opened). o.next) same in let next = is.next in let entries = is.entries in
-      (no_worker plan cause.0, record { takes = omega arith; retired = omega arith; full = omega arith; drawn = omega arith })
+      record { takes = omega arith; retired = (no_worker plan cause.0, omega arith); full = omega arith; drawn = omega arith }
   why_shown call now same stood why.RegionFault cause = (cause.0, stood.stopped cause.1)
   why_shown call now same stood why.StoreFault cause = (cause.0, stood.stopped cause.1)
 
@@ -222,21 +222,21 @@ module _ (failed : Type 0) (basis : Basis) (trace : Traced) (opened : Opened) (f
       (subst (λ (o : Opened). MatchOption (early_of_call o.sizes fds call.call) (IsCause o.sizes (batch_of plan) call.call now refusal) (λ bar. refusal ≡ bar)) same cause)
     where
       by : (early : Option mirror.Refusal) → HasShown early → MatchOption early (IsCause opened.sizes (batch_of plan) call.call now refusal) (λ bar. refusal ≡ bar) → is_some (shown_refusal refusal) ≡ true
-      by None none cause = shown_some (shown_refusal refusal) (λ shown. WasRefused failed plan.worker basis drew call shown) (why_shown call now same stood refusal cause)
+      by None none cause = shown_some (shown_refusal refusal) (λ shown. WasRefused failed (RetiresNothing plan.worker basis) basis drew call shown) (why_shown call now same stood refusal cause)
       by (Some bar) shown cause = ap (λ (r : mirror.Refusal). is_some (shown_refusal r)) cause ∙ shown
 
   -- and allowed
   pub is_allowed_so : (call : TracedCall) (now : PassState) → now.view.opened ≡ opened → IsCallWithin (length trace.descriptors) call.call → StoodSo failed basis (batch_of plan) drew call now
       → (refusal : mirror.Refusal) (shown : Refusal) → shown_refusal refusal ≡ Some shown → HasCause fds (batch_of plan) call.call now refusal
-      → IsAllowedRefusal failed plan.worker basis (descriptors_in basis.names trace) drew call shown
+      → IsAllowedRefusal failed (RetiresNothing plan.worker basis) basis (descriptors_in basis.names trace) drew call shown
   is_allowed_so call now same within stood refusal shown shows cause =
-      subst (λ (bar : Option Refusal). MatchOption bar (WasRefused failed plan.worker basis drew call shown) (λ cause. shown ≡ cause)) (bar_is basis trace opened fds is call.call within)
+      subst (λ (bar : Option Refusal). MatchOption bar (WasRefused failed (RetiresNothing plan.worker basis) basis drew call shown) (λ cause. shown ≡ cause)) (bar_is basis trace opened fds is call.call within)
       (by (early_of_call opened.sizes fds call.call)
       (subst (λ (o : Opened). MatchOption (early_of_call o.sizes fds call.call) (IsCause o.sizes (batch_of plan) call.call now refusal) (λ bar. refusal ≡ bar)) same cause))
     where
       by : (early : Option mirror.Refusal) → MatchOption early (IsCause opened.sizes (batch_of plan) call.call now refusal) (λ bar. refusal ≡ bar)
-          → MatchOption (shown_bar early) (WasRefused failed plan.worker basis drew call shown) (λ cause. shown ≡ cause)
+          → MatchOption (shown_bar early) (WasRefused failed (RetiresNothing plan.worker basis) basis drew call shown) (λ cause. shown ≡ cause)
       by None cause =
-          subst (λ (o : Option Refusal). MatchOption o ⊥ (λ s. WasRefused failed plan.worker basis drew call s)) shows (why_shown call now same stood refusal cause)
+          subst (λ (o : Option Refusal). MatchOption o ⊥ (λ s. WasRefused failed (RetiresNothing plan.worker basis) basis drew call s)) shows (why_shown call now same stood refusal cause)
       by (Some bar) cause =
-          subst (λ (o : Option Refusal). MatchOption o (WasRefused failed plan.worker basis drew call shown) (λ cause. shown ≡ cause)) (sym shows ∙ ap shown_refusal cause) refl
+          subst (λ (o : Option Refusal). MatchOption o (WasRefused failed (RetiresNothing plan.worker basis) basis drew call shown) (λ cause. shown ≡ cause)) (sym shows ∙ ap shown_refusal cause) refl

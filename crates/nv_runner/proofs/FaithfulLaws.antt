@@ -40,7 +40,7 @@ use Rattle.nv_runner.specs.declared.plan.Plan.{Plan}
 use Rattle.nv_runner.specs.declared.sorted.Open.{Open}
 use Rattle.nv_runner.specs.declared.sorted.SortedCalls.{SortedCalls}
 use Rattle.nv_runner.specs.EndedRuns.{HasOutcome, IsClosedBy, IsRefusedSo, batch_of}
-use Rattle.nv_runner.specs.Faithful.{Basis, IsAllowedRefusal, IsFaithful, IsLeftOpen, IsWrite, barred, descriptors_in, drawing_calls, file_call, history_of, listed_calls, not_later, open_calls_of}
+use Rattle.nv_runner.specs.Faithful.{Basis, IsAllowedRefusal, IsFaithful, IsLeftOpen, IsWrite, RetiresNothing, barred, descriptors_in, drawing_calls, file_call, history_of, listed_calls, not_later, open_calls_of}
 use Rattle.nv_runner.specs.FaithfulRuns.{EmptiedLogsGoOn, FilesAreOfTheHistory, IsMountOf, RunsAreFaithful, ShowsCalls, UnstoppedRunsLeaveNothingOpen, as_fd, shown_as, shown_one, shown_refusal, shown_refusals}
 use Rattle.nv_runner.specs.Histories.{CallsOnFiles, KeepOrder, PlacedCall, StandsAs}
 use Rattle.nv_runner.specs.Reports.{Report, ShownRefusal}
@@ -246,17 +246,17 @@ module _ (failed : Type 0) (basis : Basis) (trace : Traced) (fds : List Fd) (pla
   all_shown r one =
       is_shown failed basis trace opened fds is plan (drawing_calls report) r.call (told_of_refusal r one).now (opened_then r one) (stood_so r one) r.refusal (told_of_refusal r one).cause
 
-  pub all_allowed : All (λ (s : ShownRefusal). IsAllowedRefusal failed plan.worker basis descriptors_then (drawing_calls report) s.call s.refusal) report.refused
+  pub all_allowed : All (λ (s : ShownRefusal). IsAllowedRefusal failed (RetiresNothing plan.worker basis) basis descriptors_then (drawing_calls report) s.call s.refusal) report.refused
   all_allowed =
-      subst (λ (l : List ShownRefusal). All (λ (s : ShownRefusal). IsAllowedRefusal failed plan.worker basis descriptors_then (drawing_calls report) s.call s.refusal) l) (sym shows.refused)
-      (of_each (λ (s : ShownRefusal). IsAllowedRefusal failed plan.worker basis descriptors_then (drawing_calls report) s.call s.refusal) (shown_refusals refused_list) each)
+      subst (λ (l : List ShownRefusal). All (λ (s : ShownRefusal). IsAllowedRefusal failed (RetiresNothing plan.worker basis) basis descriptors_then (drawing_calls report) s.call s.refusal) l) (sym shows.refused)
+      (of_each (λ (s : ShownRefusal). IsAllowedRefusal failed (RetiresNothing plan.worker basis) basis descriptors_then (drawing_calls report) s.call s.refusal) (shown_refusals refused_list) each)
     where
-      each : (s : ShownRefusal) → IsOneOf (shown_refusals refused_list) s → IsAllowedRefusal failed plan.worker basis descriptors_then (drawing_calls report) s.call s.refusal
+      each : (s : ShownRefusal) → IsOneOf (shown_refusals refused_list) s → IsAllowedRefusal failed (RetiresNothing plan.worker basis) basis descriptors_then (drawing_calls report) s.call s.refusal
       each s one =
           let from = one_of_joined shown_one refused_list s one in
           let r = from.0 in
           let are = of_shown r.call (shown_refusal r.refusal) s from.2 in
-          subst (λ (c : TracedCall). IsAllowedRefusal failed plan.worker basis descriptors_then (drawing_calls report) c s.refusal) (sym are.1)
+          subst (λ (c : TracedCall). IsAllowedRefusal failed (RetiresNothing plan.worker basis) basis descriptors_then (drawing_calls report) c s.refusal) (sym are.1)
           (is_allowed_so failed basis trace opened fds is plan (drawing_calls report) r.call (told_of_refusal r from.1).now (opened_then r from.1) (within (refused_made r) (refused_there made sorted sorts r from.1))
           (stood_so r from.1) r.refusal s.refusal are.0 (told_of_refusal r from.1).cause)
 
@@ -335,15 +335,17 @@ faithful_where failed basis trace fds plan start zero sorted part_values store_v
     let there = subst (λ (o : Opened). IsMountOf basis trace o fds) (sym out.run_out.mount) is in
     let shown = all_shown failed basis trace fds plan zero made sorted report formed there out.sorted.1 out.sorted.0 causes low shows stops in record {
       legal = history_legal basis trace fds zero.view.opened zero.view sorted report there told shown shows (closed.history.legal basis.files zero.view.opened.next there.log there.files);
-      each_once = calls_once basis trace fds zero.view.opened zero.view sorted report there told shown shows;
+      made = calls_once basis trace fds zero.view.opened zero.view sorted report there told shown shows;
       in_order = history_keeps basis trace fds zero.view.opened zero.view sorted report there told shown shows;
       refused_in_order = refused_rise basis trace fds zero.view.opened zero.view sorted report there told shown shows;
       open_in_order = open_rise basis trace fds zero.view.opened zero.view sorted report there told shown shows;
       allowed = all_allowed failed basis trace fds plan zero made sorted report formed there out.sorted.1 out.sorted.0 causes low shows stops;
       not_barred = none_barred failed basis trace fds plan zero made sorted report formed there out.sorted.1 out.sorted.0 causes low shows stops;
       left_open = all_left_open failed basis trace fds plan zero made sorted report formed there out.sorted.1 out.sorted.0 causes low shows stops;
-      room = has_room failed basis trace fds plan zero made sorted report formed there out.sorted.1 out.sorted.0 causes low shows stops;
-      numbers = are_small failed basis trace fds plan zero made sorted report formed there out.sorted.1 out.sorted.0 causes low shows stops;
+      drew = record {
+        room = has_room failed basis trace fds plan zero made sorted report formed there out.sorted.1 out.sorted.0 causes low shows stops;
+        numbers = are_small failed basis trace fds plan zero made sorted report formed there out.sorted.1 out.sorted.0 causes low shows stops;
+      };
       files = shows.files;
     }
 

@@ -7,7 +7,7 @@ use Rattle.std.proofs.lemmas.List.Elements.{All-head, All-tail}
 use Rattle.std.proofs.lemmas.List.Sorted.{IsPermutation-append_comm, IsPermutation-append_right, IsPermutation-trans}
 use Rattle.nv_trace.specs.declared.trace_call.TracedCall.{TracedCall}
 use Rattle.nv_runner.specs.Lists.{MadeCall}
-use Rattle.nv_runner.specs.Owners.{AreShares, if_owner}
+use Rattle.nv_runner.specs.Owners.{IsAtOwn, AreShares, if_owner}
 use Rattle.nv_runner.specs.Shifts.{calls_of_thread}
 
 -- one more share, behind the others
@@ -38,6 +38,6 @@ owner_back made_by made_of owners owners_now owner front before w all is its bac
 -- ---- a list
 
 -- the calls of a thread among some that begin with one of its own
-pub own_first : (thread : ℕ) (calls later : List TracedCall) (call : TracedCall) → call.thread ≡ thread → calls ≡ call ∷ later → calls_of_thread thread calls ≡ call ∷ calls_of_thread thread later
-own_first thread calls later call own is =
-    ap (calls_of_thread thread) is ∙ ap (λ b. cond b (call ∷ calls_of_thread thread later) (calls_of_thread thread later)) (eq-eqb call.thread thread own)
+pub own_first : (thread : ℕ) (calls : List TracedCall) (call : TracedCall) (later : List TracedCall) → IsAtOwn thread calls → calls ≡ call ∷ later → calls_of_thread thread calls ≡ call ∷ calls_of_thread thread later
+own_first thread calls call later own is =
+    ap (calls_of_thread thread) is ∙ ap (λ b. cond b (call ∷ calls_of_thread thread later) (calls_of_thread thread later)) (eq-eqb call.thread thread (subst (IsAtOwn thread) is own))

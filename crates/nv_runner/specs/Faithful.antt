@@ -116,10 +116,10 @@ not_later call calls = filter (λ other. not (is_later call other)) calls
 abbrev pub MayBeDrawn : Basis → (drew : List TracedCall) → TracedCall → ℕ → Type 0
 MayBeDrawn basis drew call head = head ≤ basis.next + entries_of_calls basis.sizes.page (not_later call drew)
 
--- The log had no room for a call that takes entries: nothing was retired.
-pub record HadNoRoom (basis : Basis) (drew : List TracedCall) (call : TracedCall) (head tail : ℕ) : Type 0 where
+-- The log had no room for a call that takes entries, where it had retired up to such a tail.
+pub record HadNoRoom (Retired : (tail : ℕ) → Type 0) (basis : Basis) (drew : List TracedCall) (call : TracedCall) (head tail : ℕ) : Type 0 where
   pub takes : 0 < entries_taken basis.sizes.page call.call
-  pub retired : tail ≡ basis.next
+  pub retired : Retired tail
   pub full : tail + basis.sizes.entries < head + entries_taken basis.sizes.page call.call
   pub drawn : MayBeDrawn basis drew call head
 
@@ -140,22 +140,21 @@ IsWrite (Pread fd at len) = ⊥
 IsWrite (Pwrite fd at bytes) = 0 < length bytes
 IsWrite (Fsync fd) = ⊥
 
--- Why a call was refused that its arguments don't bar: no number was left, or no room in the log, where no worker makes any; or, where devices failed, it was
--- made after that, or was the read that met it.
-abbrev pub WasRefused : (failed : Type 0) → (worker : Bool) → Basis → (drew : List TracedCall) → TracedCall → Refusal → Type 0
-WasRefused failed worker basis drew call BadDescriptor = ⊥
-WasRefused failed worker basis drew call TooFar = ⊥
-WasRefused failed worker basis drew call TooLong = ⊥
-WasRefused failed worker basis drew call Stopped = failed
-WasRefused failed worker basis drew call (Spent found) = HadNoNumber basis drew call found
-WasRefused failed worker basis drew call (Again head tail) = (worker ≡ false) × HadNoRoom basis drew call head tail
-WasRefused failed worker basis drew call RegionFault = IsReadCall call.call × failed
-WasRefused failed worker basis drew call StoreFault = IsReadCall call.call × failed
+-- Why a call was refused that its arguments don't bar: no number was left, or no room in the log; or, where devices failed, it was made after that, or was the read that met it.
+abbrev pub WasRefused : (failed : Type 0) → (Retired : (tail : ℕ) → Type 0) → Basis → (drew : List TracedCall) → TracedCall → Refusal → Type 0
+WasRefused failed Retired basis drew call BadDescriptor = ⊥
+WasRefused failed Retired basis drew call TooFar = ⊥
+WasRefused failed Retired basis drew call TooLong = ⊥
+WasRefused failed Retired basis drew call Stopped = failed
+WasRefused failed Retired basis drew call (Spent found) = HadNoNumber basis drew call found
+WasRefused failed Retired basis drew call (Again head tail) = HadNoRoom Retired basis drew call head tail
+WasRefused failed Retired basis drew call RegionFault = IsReadCall call.call × failed
+WasRefused failed Retired basis drew call StoreFault = IsReadCall call.call × failed
 
 -- A refusal that may be shown: the one that bars the call, or, where none does, one that has such a cause.
-abbrev pub IsAllowedRefusal : (failed : Type 0) → (worker : Bool) → Basis → List Descriptor → (drew : List TracedCall) → TracedCall → Refusal → Type 0
-IsAllowedRefusal failed worker basis descriptors drew call refusal =
-    MatchOption (barred basis.sizes descriptors call.call) (WasRefused failed worker basis drew call refusal) (λ cause. refusal ≡ cause)
+abbrev pub IsAllowedRefusal : (failed : Type 0) → (Retired : (tail : ℕ) → Type 0) → Basis → List Descriptor → (drew : List TracedCall) → TracedCall → Refusal → Type 0
+IsAllowedRefusal failed Retired basis descriptors drew call refusal =
+    MatchOption (barred basis.sizes descriptors call.call) (WasRefused failed Retired basis drew call refusal) (λ cause. refusal ≡ cause)
 
 -- a call that may be left open: a write of some bytes that nothing bars, where devices failed
 pub record IsLeftOpen (failed : Type 0) (basis : Basis) (descriptors : List Descriptor) (call : TracedCall) : Type 0 where
@@ -185,25 +184,38 @@ files_shown basis trace report =
     after_open (descriptors_in basis.names trace) report.open_calls
     (after (history_of (descriptors_in basis.names trace) report.history) basis.files)
 
--- A report is faithful to a trace whose threads' calls were made from this basis, with a worker beside them or not; devices of the run failed only where this says so.
-pub record IsFaithful (failed : Type 0) (worker : Bool) (basis : Basis) (trace : Traced) (report : Report) : Type 0 where
+-- A report is faithful to a trace of which such calls were made from this basis, while the log had retired up to such a tail; devices failed only where this says so. Which calls may be left open, and what those that drew entries may have
+-- drawn, is said by what made them.
+pub record IsFaithfulTo (failed : Type 0) (WereMade : List TracedCall → Type 0) (Retired : (tail : ℕ) → Type 0) (MayBeOpen : TracedCall → Type 0) (MayDraw : List TracedCall → Type 0) (basis : Basis) (trace : Traced) (report : Report) : Type 0 where
   -- its history is one of plain files, from those of the basis
   pub legal : IsLegal (history_of (descriptors_in basis.names trace) report.history) basis.files
-  -- each call of the trace stands in it once, in the history, among the refused or among the open ones, and no other call
-  pub each_once : IsPermutation (listed_calls report) trace.calls
+  -- each call that was made stands in it once, in the history, among the refused or among the open ones, and no other call
+  pub made : WereMade (listed_calls report)
   -- the history keeps the order of each thread's lines, and that of the rounds
   pub in_order : KeepOrder (placed_calls report)
   -- the refused and the open ones stand in the order of their lines
   pub refused_in_order : IsStrictlyIncreasing (map (λ r. r.call.line) report.refused)
   pub open_in_order : IsStrictlyIncreasing (map (λ call. call.line) (open_calls_of report))
-  -- a refusal has its cause, and what is barred is refused
-  pub allowed : All (λ r. IsAllowedRefusal failed worker basis (descriptors_in basis.names trace) (drawing_calls report) r.call r.refusal) report.refused
+  -- a refusal has its cause, and what is barred isn't placed
+  pub allowed : All (λ r. IsAllowedRefusal failed Retired basis (descriptors_in basis.names trace) (drawing_calls report) r.call r.refusal) report.refused
   pub not_barred : All (λ call. barred basis.sizes (descriptors_in basis.names trace) call.call ≡ None) (placed_calls report)
-  -- only a write is left open, where a device failed
-  pub left_open : All (IsLeftOpen failed basis (descriptors_in basis.names trace)) (open_calls_of report)
-  -- without a worker a write for which the log has no entry left is refused
-  pub room : worker ≡ false → entries_of_calls basis.sizes.page (drawing_calls report) ≤ basis.sizes.entries
-  -- no number is drawn beyond the last one: a write whose entries would pass it is refused
-  pub numbers : basis.next + entries_of_calls basis.sizes.page (drawing_calls report) ≤ 2 ^ 60
+  pub left_open : All MayBeOpen (open_calls_of report)
+  pub drew : MayDraw (drawing_calls report)
   -- the files are those after the history and then the kept writes, each whole
   pub files : report.files ≡ named basis.names (files_shown basis trace report)
+
+-- ---- those of runs
+
+-- nothing was retired, where no worker does it
+abbrev pub RetiresNothing : (worker : Bool) → Basis → (tail : ℕ) → Type 0
+RetiresNothing worker basis tail = (worker ≡ false) × (tail ≡ basis.next)
+
+-- Without a worker a write for which the log has no entry left is refused. No number is drawn beyond the last one: a write whose entries would pass it is refused.
+pub record HadRoom (worker : Bool) (basis : Basis) (drew : List TracedCall) : Type 0 where
+  pub room : worker ≡ false → entries_of_calls basis.sizes.page drew ≤ basis.sizes.entries
+  pub numbers : basis.next + entries_of_calls basis.sizes.page drew ≤ 2 ^ 60
+
+-- A report is faithful to a trace whose threads' calls were made from this basis, all of them, with a worker beside them or not. Only a write is left open, where a device failed.
+abbrev pub IsFaithful : (failed : Type 0) → (worker : Bool) → Basis → Traced → Report → Type 0
+IsFaithful failed worker basis trace report =
+    IsFaithfulTo failed (λ listed. IsPermutation listed trace.calls) (RetiresNothing worker basis) (IsLeftOpen failed basis (descriptors_in basis.names trace)) (HadRoom worker basis) basis trace report

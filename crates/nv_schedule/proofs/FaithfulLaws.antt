@@ -26,7 +26,7 @@ use Rattle.nv_trace.specs.declared.trace_call.TracedCall.{TracedCall}
 use Rattle.nv_runner.specs.Entries.{entries_of_calls, entries_taken}
 use Rattle.nv_runner.specs.declared.answer.Answer.TheVariants.{Open}
 use Rattle.nv_runner.specs.declared.plan.Plan.{Plan}
-use Rattle.nv_runner.specs.Faithful.{Basis, WasRefused, barred, descriptors_in, not_later}
+use Rattle.nv_runner.specs.Faithful.{Basis, HadNoRoom as Short, IsAllowedRefusal, RetiresNothing, WasRefused, barred, descriptors_in, not_later}
 use Rattle.nv_runner.specs.FaithfulRuns.{IsMountOf, shown_refusal}
 use Rattle.nv_runner.specs.Lists.{MadeCall, calls_made}
 use Rattle.nv_runner.specs.Refusals.{FoundNoRoom, HasCause, IsCause, early_of_call, word_seen}
@@ -37,7 +37,6 @@ use Rattle.nv_runner.proofs.HistoryMembers.{one_left}
 use Rattle.nv_runner.proofs.LineLaws.{distinct_moved, open_in_lines}
 use Rattle.nv_runner.proofs.RoundLists.{all_calls, calls_of, distinct_range, few_calls, in_range}
 use Rattle.nv_schedule.specs.Begun.{AreFirstOfThread}
-use Rattle.nv_schedule.specs.FaithfulSchedules.{HadNoRoomThen, IsAllowedThen, WasRefusedThen}
 use Rattle.nv_schedule.proofs.BegunLaws.{begun_within}
 
 -- ---- how many calls are begun
@@ -138,10 +137,10 @@ cause_beside sizes call now (why.Again head tail) None cause = inr record { free
 cause_beside sizes call now refusal None cause = inl cause
 
 -- such a cause of a refusal that is shown
-allowed_as : (failed : Type 0) (basis : Basis) (drew : List TracedCall) (call : TracedCall) (shown : Refusal) (bar : Option Refusal) → MatchOption bar (WasRefused failed true basis drew call shown) (λ cause. shown ≡ cause)
-    → MatchOption bar (WasRefusedThen failed basis drew call shown) (λ cause. shown ≡ cause)
+allowed_as : (failed : Type 0) (basis : Basis) (drew : List TracedCall) (call : TracedCall) (shown : Refusal) (bar : Option Refusal) → MatchOption bar (WasRefused failed (RetiresNothing true basis) basis drew call shown) (λ cause. shown ≡ cause)
+    → MatchOption bar (WasRefused failed (λ tail. basis.next ≤ tail) basis drew call shown) (λ cause. shown ≡ cause)
 allowed_as failed basis drew call shown (Some bar) allowed = allowed
-allowed_as failed basis drew call (Again head tail) None allowed = absurd (true≢false allowed.0)
+allowed_as failed basis drew call (Again head tail) None allowed = absurd (true≢false allowed.retired.0)
 allowed_as failed basis drew call shown None allowed = allowed
 
 module _ (failed : Type 0) (basis : Basis) (trace : Traced) (opened : Opened) (fds : List Fd) (is : IsMountOf basis trace opened fds) (drew : List TracedCall) (call : TracedCall) (now : PassState) (same : now.view.opened ≡ opened)
@@ -159,7 +158,7 @@ module _ (failed : Type 0) (basis : Basis) (trace : Traced) (opened : Opened) (f
     | inr room ↦ ap (λ (r : mirror.Refusal). is_some (shown_refusal r)) room.is
   ]
 
-  pub allowed_there : (shown : Refusal) → IsCallWithin (length trace.descriptors) call.call → shown_refusal refusal ≡ Some shown → IsAllowedThen failed basis (descriptors_in basis.names trace) drew call shown
+  pub allowed_there : (shown : Refusal) → IsCallWithin (length trace.descriptors) call.call → shown_refusal refusal ≡ Some shown → IsAllowedRefusal failed (λ tail. basis.next ≤ tail) basis (descriptors_in basis.names trace) drew call shown
   allowed_there shown within shows = elim either [
     | inl so ↦ allowed_as failed basis drew call shown (barred basis.sizes (descriptors_in basis.names trace) call.call) (is_allowed_so failed basis trace opened fds is beside drew call now same within stood refusal shown shows so)
     | inr room ↦ (
@@ -176,13 +175,13 @@ module _ (failed : Type 0) (basis : Basis) (trace : Traced) (opened : Opened) (f
         let next_same = ap (λ (o : Opened). o.next) same in
         let next = is.next in
         let entries = is.entries in
-        let so : HadNoRoomThen basis drew call room.head room.tail = record {
+        let so : Short (λ tail. basis.next ≤ tail) basis drew call room.head room.tail = record {
           takes = omega (arith, taken, sizes_same, takes);
           retired = omega (arith, least, next_same, next);
           full = omega (arith, full, taken, sizes_same, entries_same, entries);
           drawn = omega (arith, most, head_low);
         } in
-        subst (λ (bar : Option Refusal). MatchOption bar (WasRefusedThen failed basis drew call shown) (λ cause. shown ≡ cause)) (sym free) (subst (WasRefusedThen failed basis drew call) (sym shown_is) so)
+        subst (λ (bar : Option Refusal). MatchOption bar (WasRefused failed (λ tail. basis.next ≤ tail) basis drew call shown) (λ cause. shown ≡ cause)) (sym free) (subst (WasRefused failed (λ tail. basis.next ≤ tail) basis drew call) (sym shown_is) so)
         )
   ]
     where

@@ -28,7 +28,7 @@ use Rattle.nv_runner.specs.declared.answer.Answer.TheVariants.{Open, Refused}
 use Rattle.nv_runner.specs.declared.sorted.SortedCalls.{SortedCalls}
 use Rattle.nv_runner.specs.EndedRuns.{IsClosedBy}
 use Rattle.nv_runner.specs.Faithful as report_of
-use Rattle.nv_runner.specs.Faithful.{Basis, barred, descriptors_in, files_shown, named, not_later, open_calls_of}
+use Rattle.nv_runner.specs.Faithful.{Basis, IsAllowedRefusal, barred, descriptors_in, files_shown, named, not_later, open_calls_of}
 use Rattle.nv_runner.specs.FaithfulRuns.{IsMountOf, ShowsCalls, shown_as, shown_one, shown_refusal, shown_refusals}
 use Rattle.nv_runner.specs.Histories.{PlacedCall, StandsAs}
 use Rattle.nv_runner.specs.Lists.{MadeCall, made_calls}
@@ -42,7 +42,7 @@ use Rattle.nv_runner.proofs.FaithfulLaws.{calls_once, history_keeps, history_leg
 use Rattle.nv_runner.proofs.HistoryMembers.{of_each, of_one, one_left, one_mapped, one_moved, one_of_joined, one_of_mapped, one_right}
 use Rattle.nv_runner.proofs.HistorySums.{added, added_append, added_moved}
 use Rattle.nv_schedule.specs.Begun.{AreBegun, listed_calls, unanswered_calls}
-use Rattle.nv_schedule.specs.FaithfulSchedules.{IsAllowedThen, IsFaithfulSchedule, SchedulesAreFaithful, ShowsSchedule}
+use Rattle.nv_schedule.specs.FaithfulSchedules.{IsFaithfulSchedule, SchedulesAreFaithful, ShowsSchedule}
 use Rattle.nv_schedule.specs.RefusedCalls.{IsRefusedThere}
 use Rattle.nv_schedule.specs.Scheduled.{AreCallsOf, HasFollowed}
 use Rattle.nv_schedule.specs.SortedOut.{AreOfOneRound}
@@ -209,7 +209,7 @@ module _ (laws : RefusalLaws) (basis : Basis) (trace : Traced) (mount : MountSta
       let most = head_low r.call in
       shown_there (SawStop end.view) basis trace end.view.opened mount.fds there (report_of.drawing_calls report) r.call so.now so.opened so.seen (omega (arith, order, low)) (omega (arith, head, most)) r.refusal so.cause
 
-  one_allowed : (s : ShownRefusal) → IsOneOf (shown_refusals refused_ones) s → IsAllowedThen (SawStop end.view) basis (descriptors_in basis.names trace) (report_of.drawing_calls report) s.call s.refusal
+  one_allowed : (s : ShownRefusal) → IsOneOf (shown_refusals refused_ones) s → IsAllowedRefusal (SawStop end.view) (λ tail. basis.next ≤ tail) basis (descriptors_in basis.names trace) (report_of.drawing_calls report) s.call s.refusal
   one_allowed s one =
       let from = one_of_joined shown_one refused_ones s one in
       let r = from.0 in
@@ -219,7 +219,7 @@ module _ (laws : RefusalLaws) (basis : Basis) (trace : Traced) (mount : MountSta
       let low = short in
       let head = so.head in
       let most = head_low r.call in
-      subst (λ (c : TracedCall). IsAllowedThen (SawStop end.view) basis (descriptors_in basis.names trace) (report_of.drawing_calls report) c s.refusal) (sym shown.1)
+      subst (λ (c : TracedCall). IsAllowedRefusal (SawStop end.view) (λ tail. basis.next ≤ tail) basis (descriptors_in basis.names trace) (report_of.drawing_calls report) c s.refusal) (sym shown.1)
       (allowed_there (SawStop end.view) basis trace end.view.opened mount.fds there (report_of.drawing_calls report) r.call so.now so.opened so.seen (omega (arith, order, low)) (omega (arith, head, most)) r.refusal so.cause s.refusal
       (within (refused_made r) (refused_there r from.1)) shown.0)
 
@@ -260,7 +260,7 @@ module _ (laws : RefusalLaws) (basis : Basis) (trace : Traced) (mount : MountSta
   pub is_faithful : IsFaithfulSchedule (SawStop end.view) basis trace report
   is_faithful = record {
     legal = history_legal basis answered_trace mount.fds end.view.opened end.view sorted answered_report mount_answered are_told all_shown shows_answered (closed.history.legal basis.files end.view.opened.next there.log there.files);
-    begins = record {
+    made = record {
       begun = listed_calls told ++ unanswered_calls told;
       each_once = all_listed_once;
       left = λ thread. (begun.first thread).left;
@@ -269,9 +269,11 @@ module _ (laws : RefusalLaws) (basis : Basis) (trace : Traced) (mount : MountSta
     in_order = history_keeps basis answered_trace mount.fds end.view.opened end.view sorted answered_report mount_answered are_told all_shown shows_answered;
     refused_in_order = refused_rise basis answered_trace mount.fds end.view.opened end.view sorted answered_report mount_answered are_told all_shown shows_answered;
     open_in_order = rising_lines (open_calls_of report) own_open shows.open_by_line;
-    allowed = subst (λ (l : List ShownRefusal). All (λ (s : ShownRefusal). IsAllowedThen (SawStop end.view) basis (descriptors_in basis.names trace) (report_of.drawing_calls report) s.call s.refusal) l) (sym shows.refused)
-        (of_each (λ (s : ShownRefusal). IsAllowedThen (SawStop end.view) basis (descriptors_in basis.names trace) (report_of.drawing_calls report) s.call s.refusal) (shown_refusals refused_ones) one_allowed);
+    allowed = subst (λ (l : List ShownRefusal). All (λ (s : ShownRefusal). IsAllowedRefusal (SawStop end.view) (λ tail. basis.next ≤ tail) basis (descriptors_in basis.names trace) (report_of.drawing_calls report) s.call s.refusal) l) (sym shows.refused)
+        (of_each (λ (s : ShownRefusal). IsAllowedRefusal (SawStop end.view) (λ tail. basis.next ≤ tail) basis (descriptors_in basis.names trace) (report_of.drawing_calls report) s.call s.refusal) (shown_refusals refused_ones) one_allowed);
     not_barred = subst (λ (l : List PlacedCall). All IsFree (map (λ (p : PlacedCall). p.call) l)) (sym shows.history) (of_each IsFree (map (λ (p : PlacedCall). p.call) placed_ones) one_free);
+    left_open = of_each (λ (call : TracedCall). Unit {0}) (open_calls_of report) (λ call one. tt);
+    drew = tt;
     files = shows.files;
   }
 

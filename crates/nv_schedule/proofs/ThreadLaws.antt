@@ -1,5 +1,5 @@
 -- Threads: how a thread's calls go on.
-use Rattle.std.proofs.Common.{◌≡◌, ℕ, ◌-◌, ◌≤◌, Bool, true, if◌then◌else◌, List, [], ◌∷◌, ◌++◌, length, drop, get_or, refl, sym, ap, subst, ◌∙◌, arith, eq-eqb}
+use Rattle.std.proofs.Common.{◌≡◌, ◌-◌, ◌≤◌, true, List, [], ◌∷◌, ◌++◌, length, drop, get_or, refl, sym, ap, subst, ◌∙◌, arith}
 use Rattle.std.specs.Prelude.{Some, None, take}
 use Rattle.std.proofs.lemmas.Bool.{true≢false}
 use Rattle.std.proofs.lemmas.Grind.{common_steps}
@@ -11,17 +11,10 @@ use Rattle.nv_trace.specs.declared.trace_call.TraceCall.TheVariants.{Pread, Pwri
 use Rattle.nv_trace.specs.declared.trace_call.TracedCall.{TracedCall}
 use Rattle.nv_runner.specs.declared.answer.Answer.{Answer}
 use Rattle.nv_runner.specs.Lists.{MadeCall}
-use Rattle.nv_runner.specs.Shifts.{calls_of_thread}
-use Rattle.nv_schedule.specs.Callers.{AreAnswered, CallGoes, IsAnsweredBy, IsAtCall, IsAtOwn, ThreadHasCome, ThreadState}
+use Rattle.nv_schedule.specs.Callers.{AreAnswered, CallGoes, IsAnsweredBy, IsAtCall, ThreadHasCome, ThreadState}
 use Rattle.nv_schedule.specs.Tries.{WereTried}
 
 -- ---- its calls
-
--- those of a thread among some that begin with one of its own
-pub own_first : (number : ℕ) (calls : List TracedCall) (call : TracedCall) (later : List TracedCall) → IsAtOwn number calls → calls ≡ call ∷ later → calls_of_thread number calls ≡ call ∷ calls_of_thread number later
-own_first number calls call later own is =
-    ap (calls_of_thread number) is
-    ∙ ap (λ (b : Bool). if b then call ∷ calls_of_thread number later else calls_of_thread number later) (eq-eqb call.thread number (subst (IsAtOwn number) is own))
 
 -- the first one of some, and the others
 pub first_and_rest : (calls : List TracedCall) (call : TracedCall) → 1 ≤ length calls → call ≡ get_or calls 0 call → calls ≡ call ∷ drop 1 calls

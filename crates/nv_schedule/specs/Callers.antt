@@ -41,11 +41,6 @@ AreAnswered fds (m ∷ later) start now = (middle : PassState) × IsAnsweredBy f
 
 -- ---- a thread
 
--- some calls of a trace begin with one of a thread's, if there are any
-abbrev pub IsAtOwn : (thread : ℕ) → List TracedCall → Type 0
-IsAtOwn thread [] = Unit {0}
-IsAtOwn thread (call ∷ later) = call.thread ≡ thread
-
 -- the calls that it has left, its present one first; whether that has begun, by an advance, and what it has of it at hand; and what the others were answered
 pub record ThreadState : Type 0 where
   pub left : List TracedCall

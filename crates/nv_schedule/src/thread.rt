@@ -6,10 +6,11 @@ ghost use Rattle.nv_table.specs.invariant.Drawn.{drawn_by};
 ghost use Rattle.nv_table.specs.invariant.Idle.{IsIdle};
 ghost use Rattle.nv_table.specs.state.States.{IsOf, PassState};
 ghost use Rattle.nv_table.specs.state.Workspaces.{IsWorkspace};
+ghost use Rattle.nv_runner.specs.Owners.{IsAtOwn};
 ghost use Rattle.nv_runner.specs.Shifts.{calls_of_thread};
 ghost use Rattle.nv_trace.specs.declared.trace_call.TracedCall.{TracedCall as AnyTraced};
 ghost use Rattle.nv_schedule.specs.Barred.{IsAnsweredEarly, IsFirstAnsweredEarly};
-ghost use Rattle.nv_schedule.specs.Callers.{CallEnds, CallGoes, IsAtCall, IsAtOwn, ThreadHasCome, next_of_calls};
+ghost use Rattle.nv_schedule.specs.Callers.{CallEnds, CallGoes, IsAtCall, ThreadHasCome, next_of_calls};
 ghost use Rattle.nv_schedule.specs.Faulted.{fault_at_hand, hand_faulted};
 ghost use Rattle.nv_schedule.specs.Hands.{IsOneOrNoStep, kind_at_first, list_at_hand};
 ghost use Rattle.nv_schedule.specs.Tries.{answer_of, begins_anew, refused_answer, reply_to};
@@ -40,8 +41,9 @@ pub(crate) struct Thread<'a> {
 
 impl<'a> Model for Thread<'a> {
     ghost use Rattle.nv_runner.specs.Lists.{made_calls};
+    ghost use Rattle.nv_runner.specs.Owners.{IsAtOwn};
     ghost use Rattle.nv_runner.specs.Shifts.{calls_of_thread};
-    ghost use Rattle.nv_schedule.specs.Callers.{IsAtOwn, ThreadState};
+    ghost use Rattle.nv_schedule.specs.Callers.{ThreadState};
 
     ghost Value = { ThreadState };
 

@@ -43,7 +43,7 @@ use Rattle.nv_trace.specs.declared.trace.Descriptor.{Descriptor}
 use Rattle.nv_trace.specs.declared.trace_call.TraceCall.{TraceCall}
 use Rattle.nv_trace.specs.declared.trace_call.TraceCall.TheVariants.{Pread, Pwrite, Fsync}
 use Rattle.nv_trace.specs.declared.trace_call.TracedCall.{TracedCall}
-use Rattle.nv_runner.specs.Faithful.{Basis, after_fate, after_open, barred, descriptors_in, drawing_calls, file_call, files_shown, history_of, named, placed_in}
+use Rattle.nv_runner.specs.Faithful.{Basis, IsAllowedRefusal, WasRefused, after_fate, after_open, barred, descriptors_in, drawing_calls, file_call, files_shown, history_of, named, placed_in}
 use Rattle.nv_calls.specs.histories.Faults.{open_in}
 use Rattle.nv_runner.specs.FaithfulRuns.{IsMountOf}
 use Rattle.nv_runner.specs.Histories.{AreHistory, CallsOnFiles}
@@ -59,7 +59,7 @@ use Rattle.nv_runner.specs.declared.sorted.SortedCalls.{SortedCalls}
 use Rattle.nv_runner.proofs.OpenRunLaws.{flat_moved}
 use Rattle.nv_runner.proofs.SortedLaws.{falls_not}
 use Rattle.nv_schedule.specs.Begun.{AreBegun, AreFirstOfThread, SchedulesBegin, listed_calls, unanswered_calls}
-use Rattle.nv_schedule.specs.FaithfulSchedules.{BeginThreads, IsAllowedThen, IsFaithfulSchedule, SchedulesAreFaithful, ShowsSchedule, WasRefusedThen}
+use Rattle.nv_schedule.specs.FaithfulSchedules.{BeginThreads, IsFaithfulSchedule, SchedulesAreFaithful, ShowsSchedule}
 use Rattle.nv_schedule.specs.Scheduled.{AreCallsOf, HasFollowed}
 use Rattle.nv_schedule.specs.SortedOut.{AreOfOneRound, SchedulesAreLegal, SchedulesAreTold}
 use Rattle.nv_schedule.specs.Turns.{CallerState}
@@ -197,37 +197,40 @@ report_all P calls some begins all =
 
 -- ---- where devices have failed
 
-refused_more : (failed more : Type 0) (basis : Basis) (drew : List TracedCall) (call : TracedCall) (refusal : Refusal) → (failed → more) → WasRefusedThen failed basis drew call refusal
-    → WasRefusedThen more basis drew call refusal
-refused_more failed more basis drew call BadDescriptor on is = is
-refused_more failed more basis drew call TooFar on is = is
-refused_more failed more basis drew call TooLong on is = is
-refused_more failed more basis drew call Stopped on is = on is
-refused_more failed more basis drew call (Spent found) on is = is
-refused_more failed more basis drew call (Again head tail) on is = is
-refused_more failed more basis drew call RegionFault on is = (is.0, on is.1)
-refused_more failed more basis drew call StoreFault on is = (is.0, on is.1)
+refused_more : (failed more : Type 0) (Retired : ℕ → Type 0) (basis : Basis) (drew : List TracedCall) (call : TracedCall) (refusal : Refusal) → (failed → more) → WasRefused failed Retired basis drew call refusal
+    → WasRefused more Retired basis drew call refusal
+refused_more failed more Retired basis drew call BadDescriptor on is = is
+refused_more failed more Retired basis drew call TooFar on is = is
+refused_more failed more Retired basis drew call TooLong on is = is
+refused_more failed more Retired basis drew call Stopped on is = on is
+refused_more failed more Retired basis drew call (Spent found) on is = is
+refused_more failed more Retired basis drew call (Again head tail) on is = is
+refused_more failed more Retired basis drew call RegionFault on is = (is.0, on is.1)
+refused_more failed more Retired basis drew call StoreFault on is = (is.0, on is.1)
 
-allowed_more : (failed more : Type 0) (basis : Basis) (descriptors : List Descriptor) (drew : List TracedCall) (call : TracedCall) (refusal : Refusal) → (failed → more)
-    → IsAllowedThen failed basis descriptors drew call refusal → IsAllowedThen more basis descriptors drew call refusal
-allowed_more failed more basis descriptors drew call refusal on is = go (barred basis.sizes descriptors call.call) is where
-  go : (cause : Option Refusal) → MatchOption cause (WasRefusedThen failed basis drew call refusal) (λ cause. refusal ≡ cause) → MatchOption cause (WasRefusedThen more basis drew call refusal) (λ cause. refusal ≡ cause)
-  go None was = refused_more failed more basis drew call refusal on was
+allowed_more : (failed more : Type 0) (Retired : ℕ → Type 0) (basis : Basis) (descriptors : List Descriptor) (drew : List TracedCall) (call : TracedCall) (refusal : Refusal) → (failed → more)
+    → IsAllowedRefusal failed Retired basis descriptors drew call refusal → IsAllowedRefusal more Retired basis descriptors drew call refusal
+allowed_more failed more Retired basis descriptors drew call refusal on is = go (barred basis.sizes descriptors call.call) is where
+  go : (cause : Option Refusal) → MatchOption cause (WasRefused failed Retired basis drew call refusal) (λ cause. refusal ≡ cause) → MatchOption cause (WasRefused more Retired basis drew call refusal) (λ cause. refusal ≡ cause)
+  go None was = refused_more failed more Retired basis drew call refusal on was
   go (Some cause) is = is
 
 -- a report that is faithful where devices failed only so is faithful where they failed in more cases
 pub schedule_more : (failed more : Type 0) (basis : Basis) (trace : Traced) (report : Report) → (failed → more) → IsFaithfulSchedule failed basis trace report → IsFaithfulSchedule more basis trace report
 schedule_more failed more basis trace report on is = record {
   legal = is.legal;
-  begins = is.begins;
+  made = is.made;
   in_order = is.in_order;
   refused_in_order = is.refused_in_order;
   open_in_order = is.open_in_order;
   allowed =
       let descriptors = descriptors_in basis.names trace in
-      All-weaker (λ (r : ShownRefusal). IsAllowedThen failed basis descriptors (drawing_calls report) r.call r.refusal) (λ (r : ShownRefusal). IsAllowedThen more basis descriptors (drawing_calls report) r.call r.refusal)
-      (λ r allowed. allowed_more failed more basis descriptors (drawing_calls report) r.call r.refusal on allowed) report.refused is.allowed;
+      let Retired : ℕ → Type 0 = λ tail. basis.next ≤ tail in
+      All-weaker (λ (r : ShownRefusal). IsAllowedRefusal failed Retired basis descriptors (drawing_calls report) r.call r.refusal) (λ (r : ShownRefusal). IsAllowedRefusal more Retired basis descriptors (drawing_calls report) r.call r.refusal)
+      (λ r allowed. allowed_more failed more Retired basis descriptors (drawing_calls report) r.call r.refusal on allowed) report.refused is.allowed;
   not_barred = is.not_barred;
+  left_open = is.left_open;
+  drew = is.drew;
   files = is.files;
 }
 

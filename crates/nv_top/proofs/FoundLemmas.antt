@@ -321,9 +321,9 @@ opened_there count descriptors (o ∷ later) inside within =
 
 -- a faithful report lists calls of its trace alone, and its history is legal
 reported_within : (worker : Bool) (basis : Basis) (trace : Traced) (report : Report) → IsReportOf worker basis trace report → (P : TracedCall → Type 0) → All P trace.calls → All P (listed_calls report)
-reported_within worker basis trace report (inl faithful) P all = All-permutation P trace.calls (listed_calls report) (IsPermutation-sym (listed_calls report) trace.calls faithful.each_once) all
-reported_within worker basis trace report (inr (inl faithful)) P all = All-permutation P trace.calls (listed_calls report) (IsPermutation-sym (listed_calls report) trace.calls faithful.1.each_once) all
-reported_within worker basis trace report (inr (inr faithful)) P all = report_all P trace.calls (listed_calls report) faithful.2.begins all
+reported_within worker basis trace report (inl faithful) P all = All-permutation P trace.calls (listed_calls report) (IsPermutation-sym (listed_calls report) trace.calls faithful.made) all
+reported_within worker basis trace report (inr (inl faithful)) P all = All-permutation P trace.calls (listed_calls report) (IsPermutation-sym (listed_calls report) trace.calls faithful.1.made) all
+reported_within worker basis trace report (inr (inr faithful)) P all = report_all P trace.calls (listed_calls report) faithful.2.made all
 
 reported_legal : (worker : Bool) (basis : Basis) (trace : Traced) (report : Report) → IsReportOf worker basis trace report → IsLegal (history_of (descriptors_in basis.names trace) report.history) basis.files
 reported_legal worker basis trace report (inl faithful) = faithful.legal

@@ -27,8 +27,7 @@ use Rattle.nv_top.specs.Commands.{IsBasis, IsGivenBack, IsLookedAt}
 use Rattle.nv_top.specs.Headline.{IsLeftAfter, IsShown, IsShownOf, expected_faults}
 use Rattle.nv_top.specs.Leaving.{Leaves}
 use Rattle.nv_top.specs.NextCommands.{BeginsAt, IsReady, NextBeginsBehind, NextBeginsBehindRecovery, NextBeginsBehindSchedule, NextBeginsBehindStop, NextIsReady}
-use Rattle.nv_top.specs.Scheduling.{IsBackPowered}
-use Rattle.nv_top.specs.Stopping.{IsPoweredBack, RestsWith, next_in}
+use Rattle.nv_top.specs.Stopping.{IsAllBack, IsPoweredBack, RestsWith, next_in}
 use Rattle.nv_words.specs.declared.words.Command.TheVariants.{Run, Sched, Recover, Look, Gen}
 use Rattle.nv_top.proofs.CommandLemmas.{told_at}
 use Rattle.nv_trace.specs.Traced.{Traced}
@@ -94,7 +93,7 @@ module _ (old new : BenchState) (holding : Holding) (ready : IsReady old) (told 
     settled = settled_low;
   }
 
-  schedule_ready : IsBackPowered old new → IfSome new.told IsQuietHolding → IsReady new
+  schedule_ready : IsAllBack new → IfSome new.told IsQuietHolding → IsReady new
   schedule_ready back quiet = record {
     closed = ap (λ (s : BenchState). s.is_open) back;
     home = ap (λ (s : BenchState). s.lent) back;

@@ -35,8 +35,7 @@ use Rattle.nv_top.specs.Headline.{HasInput, IsArmedByAll, IsArmedBySome, IsComma
 use Rattle.nv_top.specs.Lives.{HasMadeNoCall, LeavesLife, LeavesRun}
 use Rattle.nv_top.specs.Ready.{IsAtHome, IsReady, IsRunnable}
 use Rattle.nv_top.specs.Reported.{HasReported, HasRunTrace}
-use Rattle.nv_top.specs.Scheduling.{IsBackPowered}
-use Rattle.nv_top.specs.Stopping.{IsBackUnarmed, IsPoweredBack, IsSettledStop}
+use Rattle.nv_top.specs.Stopping.{IsAllBack, IsBackUnarmed, IsPoweredBack, IsSettledStop}
 use Rattle.nv_top.specs.Stops.{CountHasCause, IsCauseOf, IsFollowed, IsOwnStop, StopHasCause, stop_of_opening, stop_of_read, stop_of_words}
 use Rattle.nv_top.specs.declared.ending.Stop.{Stop}
 use Rattle.nv_top.specs.declared.ending.Stop.TheVariants.{Usage, BadLine, InputLong, Read, Device, Region, NoMemory, Turns}
@@ -148,7 +147,7 @@ run_unmoved : (stop : Option ℕ) (options : RunOptions) (bench : BenchState) �
 run_unmoved None options bench = refl
 run_unmoved (Some k) options bench = (inr refl, inr refl)
 
-scheduled_unmoved : (bench : BenchState) → IsAtHome bench → IsBackPowered bench bench
+scheduled_unmoved : (bench : BenchState) → IsAtHome bench → IsAllBack bench
 scheduled_unmoved bench home =
     let With : Bool → List (List ℕ) → Type 0 = λ at lent. bench ≡ record bench { is_open = at; lent = lent } in
     subst (λ lent. With false lent) home.home (subst (λ at. With at bench.lent) home.closed refl)

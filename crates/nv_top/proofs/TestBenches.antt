@@ -7,8 +7,7 @@ use Rattle.nv_bench.specs.Benches.{BenchState, with_faults}
 use Rattle.nv_bench.specs.Holding.{Holding}
 use Rattle.nv_top.specs.Commands.{IsGivenBack}
 use Rattle.nv_top.specs.Headline.{IsLeftAfter, IsLeftBy, command_over, possible}
-use Rattle.nv_top.specs.Scheduling.{IsBackPowered}
-use Rattle.nv_top.specs.Stopping.{IsPoweredBack}
+use Rattle.nv_top.specs.Stopping.{IsAllBack, IsPoweredBack}
 use Rattle.nv_words.specs.Words.{command_of, names_schedule}
 use Rattle.nv_words.specs.declared.words.Command.{Command}
 use Rattle.nv_words.specs.declared.words.Command.TheVariants.{Run, Sched, Recover, Look, Gen}
@@ -40,7 +39,7 @@ module _ (schedules : Bool) (old new : BenchState) (closed : old.is_open ≡ fal
     arms = λ other. let more : new.arms ≡ old.arms + 1 = ap (λ (state : BenchState). state.arms) is in omega (arith, more);
   }
 
-  back_powered : schedules ≡ true → IsBackPowered old new → IsFree schedules old new
+  back_powered : schedules ≡ true → IsAllBack new → IsFree schedules old new
   back_powered sched is = record {
     closed = ap (λ (state : BenchState). state.is_open) is;
     home = ap (λ (state : BenchState). state.lent) is;

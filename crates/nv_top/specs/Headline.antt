@@ -24,9 +24,9 @@ use Rattle.nv_load.specs.Generated.{generated}
 use Rattle.nv_top.specs.Loads.{HasGenerated, load_options}
 use Rattle.nv_top.specs.declared.show.Show.TheVariants.{Report}
 use Rattle.nv_top.specs.Endings.{IsTrace, OfRead}
-use Rattle.nv_top.specs.Scheduling.{HasScheduledOn, HasUsedTurns, IsArmedAt, IsArmedAtSome, IsBackPowered}
+use Rattle.nv_top.specs.Scheduling.{HasScheduledOn, HasUsedTurns, IsArmedAt, IsArmedAtSome}
 use Rattle.nv_top.specs.Stopped.{HasStoppedOn}
-use Rattle.nv_top.specs.Stopping.{IsPickedOnce, IsPoweredBack}
+use Rattle.nv_top.specs.Stopping.{IsAllBack, IsPickedOnce, IsPoweredBack}
 use Rattle.nv_words.specs.Words.{command_of}
 use Rattle.nv_words.specs.declared.words.Command.{Command}
 use Rattle.nv_words.specs.declared.words.Command.TheVariants.{Run, Sched, Recover, Look, Gen}
@@ -81,7 +81,7 @@ IsArmedByAll input old new = OfRead forms.Sched input (λ trace. IsArmedAt trace
 -- how a command leaves it
 abbrev pub IsLeftBy : Command → (old new : BenchState) → Type 0
 IsLeftBy (Run options) old new = IsLeftAfter options.stop options.image old new
-IsLeftBy (Sched options) old new = IsBackPowered old new × IsPickedOnce options.image old new
+IsLeftBy (Sched options) old new = IsAllBack new × IsPickedOnce options.image old new
 IsLeftBy Recover old new = IsGivenBack old new
 IsLeftBy (Look files) old new = IsLookedAt files old new
 IsLeftBy (Gen load) old new = IsGivenBack old new

@@ -1,5 +1,5 @@
 -- Scheduling: a schedule that is followed over a bench, and what it leaves.
-use Rattle.std.specs.Prelude.{◌≡◌, ℕ, ◌*◌, min, false, List, [], ◌++◌, map, Option, Result, Ok}
+use Rattle.std.specs.Prelude.{◌≡◌, ℕ, ◌*◌, min, List, ◌++◌, map, Option, Result, Ok}
 use Rattle.nv_pmem.specs.Rows.{row_words}
 use Rattle.nv_pmem.specs.declared.picker.Pick.{Pick}
 use Rattle.nv_bench.specs.Benches.{BenchState}
@@ -34,21 +34,6 @@ use Rattle.nv_top.specs.Behind.{HasLostPowerBehind}
 use Rattle.nv_top.specs.Stopped.{IsRunOfReport}
 use Rattle.nv_top.specs.Stopping.{ShowsOpen, ShowsRecovered}
 use Rattle.nv_words.specs.declared.words.RunOptions.{RunOptions}
-
--- All that was lent came back to a bench that may have been armed meanwhile, and have lost power since: it is as it was, but for what it tells, its counts, and what power left, with which picks.
-abbrev pub IsBackPowered : (old new : BenchState) → Type 0
-IsBackPowered old new =
-    new ≡ record old {
-      told = new.told;
-      is_open = false;
-      lent = [];
-      faults = new.faults;
-      arms = new.arms;
-      armed = new.armed;
-      settled = new.settled;
-      left = new.left;
-      picked = new.picked;
-    }
 
 -- a bench was armed at each of the cuts among these tokens, one after another, with its number
 abbrev pub IsArmedAt : List Token → (old new : BenchState) → Type 0

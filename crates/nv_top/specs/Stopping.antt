@@ -28,29 +28,25 @@ use Rattle.nv_top.specs.declared.ending.Stop.{Stop}
 use Rattle.nv_top.specs.declared.ending.Stop.TheVariants.{Usage, BadLine, InputLong, Read, Device, Region, NoMemory, Turns}
 use Rattle.nv_runner.specs.declared.sorted.SortedCalls.{SortedCalls}
 
--- All that was lent came back to a bench that was armed with this number once more; and it is as it was, but for what it tells, its
--- counts, and what power left, with which picks.
+-- a bench to which all that was lent came back
+abbrev pub all_back : BenchState → BenchState
+all_back bench = record bench { is_open = false; lent = [] }
+
+-- All that was lent came back to a bench, and nothing else is said of it.
+abbrev pub IsAllBack : BenchState → Type 0
+IsAllBack new = new ≡ all_back new
+
+-- It was armed with this number once more since.
 abbrev pub IsPoweredBack : ℕ → (old new : BenchState) → Type 0
-IsPoweredBack k old new =
-    new ≡ record old {
-      told = new.told;
-      is_open = false;
-      lent = [];
-      faults = new.faults;
-      arms = old.arms + 1;
-      armed = k;
-      settled = new.settled;
-      left = new.left;
-      picked = new.picked;
-    }
+IsPoweredBack k old new = new ≡ record (all_back new) { arms = old.arms + 1; armed = k }
+
+-- It wasn't armed: it is as it was, but for what it tells and its count of faults.
+abbrev pub IsBackUnarmed : (old new : BenchState) → Type 0
+IsBackUnarmed old new = new ≡ record (all_back old) { told = new.told; faults = new.faults }
 
 -- Power went off once more, with this pick; or, for want of memory, it did not.
 abbrev pub IsPickedOnce : Pick → (old new : BenchState) → Type 0
 IsPickedOnce pick old new = (new.picked ≡ pick ∷ old.picked) ⊎ (new.picked ≡ old.picked)
-
--- All that was lent came back to a bench that wasn't armed: it is as it was, but for what it tells and its count of faults.
-abbrev pub IsBackUnarmed : (old new : BenchState) → Type 0
-IsBackUnarmed old new = new ≡ record old { told = new.told; is_open = false; lent = []; faults = new.faults }
 
 -- What a stop says of the count of faults and of what it was when power went off: only after that a device's fault stops the run.
 abbrev pub StopSettles : (settled now : ℕ) → Stop → Type 0

@@ -23,8 +23,8 @@ ghost use Rattle.nv_top.specs.Commands.{HasRecovered, IsGivenBack};
 ghost use Rattle.nv_top.specs.Headline.{HasFollowed, expected_faults, HasUsedTurnsOn, IsRunRefused};
 ghost use Rattle.nv_top.specs.Lives.{HasLived, LeavesRun};
 ghost use Rattle.nv_top.specs.Runs.{BeginsMount, HasCache, basis_over};
-ghost use Rattle.nv_top.specs.Scheduling.{HasScheduledOn, HasUsedTurns, IsArmedAt, IsArmedAtSome, IsBackPowered, ShowsOutcome};
-ghost use Rattle.nv_top.specs.Stopping.{IsAway, IsPickedOnce, IsSettledStop};
+ghost use Rattle.nv_top.specs.Scheduling.{HasScheduledOn, HasUsedTurns, IsArmedAt, IsArmedAtSome, ShowsOutcome};
+ghost use Rattle.nv_top.specs.Stopping.{IsAllBack, IsAway, IsPickedOnce, IsSettledStop};
 ghost use Rattle.nv_top.specs.Ready.{IsAtHome, IsReady, IsRunnable};
 ghost use Rattle.nv_words.specs.Words.{AreInLimits};
 ghost use Rattle.nv_top.specs.declared.ending.Stop.TheVariants as stops;
@@ -64,7 +64,7 @@ pub(crate) fn schedule<T: Bench>(
     requires trace { IsRunnable trace.now }
     requires no_rounds { has_rounds trace.now.form ≡ false }
     ensures runnable { IsRunnable trace.now }
-    ensures back { IsBackPowered (T.state bench.old) (T.state bench.new) }
+    ensures back { IsAllBack (T.state bench.new) }
     ensures cuts { IsArmedAtSome trace.now.tokens (T.state bench.old) (T.state bench.new) }
     ensures all_cuts { OnOk result (IsArmedAt trace.now.tokens (T.state bench.old) (T.state bench.new)) }
     ensures picked { IsPickedOnce options.image (T.state bench.old) (T.state bench.new) }
@@ -113,7 +113,7 @@ fn schedule_region<T: Bench>(
     requires before { before ≡ saturated ((T.state bench.old).faults
         + (sum_by T.Part.fault_count opened.region.parts.items + sum_by T.Store.fault_count opened.stores.items)) }
     requires settled { (T.state bench.old).settled ≤ before }
-    ensures back { IsBackPowered (T.state bench.old) (T.state bench.new) }
+    ensures back { IsAllBack (T.state bench.new) }
     ensures cuts { IsArmedAtSome trace.now.tokens (T.state bench.old) (T.state bench.new) }
     ensures all_cuts { OnOk result (IsArmedAt trace.now.tokens (T.state bench.old) (T.state bench.new)) }
     ensures picked { IsPickedOnce options.image (T.state bench.old) (T.state bench.new) }
@@ -179,7 +179,7 @@ fn schedule_mount<T: Bench>(
     requires no_rounds { has_rounds trace.now.form ≡ false }
     requires before { before ≡ saturated ((T.state bench.old).faults + failed_before pass) }
     requires settled { (T.state bench.old).settled ≤ before }
-    ensures back { IsBackPowered (T.state bench.old) (T.state bench.new) }
+    ensures back { IsAllBack (T.state bench.new) }
     ensures cuts { IsArmedAtSome trace.now.tokens (T.state bench.old) (T.state bench.new) }
     ensures all_cuts { OnOk result (IsArmedAt trace.now.tokens (T.state bench.old) (T.state bench.new)) }
     ensures picked { IsPickedOnce options.image (T.state bench.old) (T.state bench.new) }

@@ -6,12 +6,13 @@ use Rattle.nv_runner.specs.declared.answer.Answer.{Answer}
 use Rattle.std.proofs.lemmas.List.{map-append}
 use Rattle.nv_runner.specs.Lists.{made_call, made_calls}
 use Rattle.nv_runner.specs.Shifts.{calls_of_thread}
+use Rattle.nv_runner.proofs.OwnerLaws.{own_first}
 use Rattle.nv_schedule.specs.declared.hand.Hand.{Hand}
 use Rattle.nv_schedule.specs.Barred.{IsAnsweredEarly, IsFirstAnsweredEarly}
 use Rattle.nv_schedule.specs.Callers.{CallGoes, IsAtCall, ThreadState}
 use Rattle.nv_schedule.specs.Faulted.{hand_faulted}
 use Rattle.nv_schedule.proofs.FaultLaws.{told_so}
-use Rattle.nv_schedule.proofs.ThreadLaws.{at_present, come_on, come_past, first_and_rest, own_first, rest_whole}
+use Rattle.nv_schedule.proofs.ThreadLaws.{at_present, come_on, come_past, first_and_rest, rest_whole}
 use Rattle.nv_schedule.proofs.thread.Thread.turn.Goals as goal
 
 pub advance_call-requires-clause-at : goal.advance_call-requires-clause-at
