@@ -27,7 +27,7 @@ use Rattle.nv_runner.specs.Entries.{entries_of_calls, entries_taken}
 use Rattle.nv_runner.specs.Faithful.{Basis, IsAllowedRefusal, IsFaithful, IsLeftOpen, RetiresNothing, WasRefused, after_open, barred, descriptors_in, drawing_calls, file_call, files_shown, history_of, listed_calls, named, is_later, open_calls_of}
 use Rattle.nv_runner.specs.Histories.{ComesBefore, KeepOrder, PlacedCall}
 use Rattle.nv_runner.specs.Reports.{OpenCall, Report, ShownRefusal}
-use Rattle.nv_runner.proofs.HistoryMembers.{contained, of_each, of_one, one_either, one_left, one_mapped, one_moved, one_right}
+use Rattle.nv_runner.proofs.histories.HistoryMembers.{contained, of_each, of_one, one_either, one_left, one_mapped, one_moved, one_right}
 use Rattle.nv_load.specs.declared.load.Load.{Load}
 use Rattle.nv_load.specs.declared.summary.Summary.{Summary}
 use Rattle.nv_load.specs.Generated.{IsLoad, generated, generated_calls}

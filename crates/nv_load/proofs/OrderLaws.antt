@@ -12,7 +12,7 @@ use Rattle.nv_trace.specs.declared.trace_call.TraceCall.{TraceCall}
 use Rattle.nv_trace.specs.declared.trace_call.TraceCall.TheVariants.{Pread}
 use Rattle.nv_trace.specs.declared.trace_call.TracedCall.{TracedCall}
 use Rattle.nv_runner.specs.Histories.{ComesBefore, KeepOrder}
-use Rattle.nv_runner.proofs.HistoryMembers.{contained, of_one}
+use Rattle.nv_runner.proofs.histories.HistoryMembers.{contained, of_one}
 use Rattle.nv_load.specs.Generated.{fill}
 use Rattle.nv_load.specs.Summaries.{after_call, after_calls}
 use Rattle.nv_load.proofs.FillLaws.{IsInBlock, filled_here, filled_long, filled_there, same_filling, with_block}

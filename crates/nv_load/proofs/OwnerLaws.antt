@@ -13,7 +13,7 @@ use Rattle.nv_runner.specs.Lists.{MadeCall, calls_made}
 use Rattle.nv_runner.specs.Owners.{AreShares}
 use Rattle.nv_runner.specs.Rounds.{AreInLineOrder, AreInRoundOrder, IsNextRound}
 use Rattle.nv_runner.specs.Shifts.{calls_of_thread}
-use Rattle.nv_runner.proofs.HistoryMembers.{of_each, one_at, one_mapped, one_moved, one_of_joined}
+use Rattle.nv_runner.proofs.histories.HistoryMembers.{of_each, one_at, one_mapped, one_moved, one_of_joined}
 use Rattle.nv_runner.proofs.RoundLaws.{lines_within}
 use Rattle.nv_load.specs.Generated.{drawn_calls, first_fills, first_round, generated_calls, in_lines, second_round, thread_calls}
 use Rattle.nv_load.specs.declared.load.Load.{Load}

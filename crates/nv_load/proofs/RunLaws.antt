@@ -16,7 +16,7 @@ use Rattle.nv_runner.specs.Sorted.{placed_call}
 use Rattle.nv_runner.specs.declared.plan.Plan.{Plan}
 use Rattle.nv_runner.specs.declared.run_error.RunError.{RunError}
 use Rattle.nv_runner.specs.declared.sorted.SortedCalls.{SortedCalls}
-use Rattle.nv_runner.proofs.HistoryMembers.{one_either, one_left, one_right}
+use Rattle.nv_runner.proofs.histories.HistoryMembers.{one_either, one_left, one_right}
 use Rattle.nv_load.specs.Counts.{counts_of, counts_of_placed}
 use Rattle.nv_load.specs.Generated.{first_round, generated_calls, second_round}
 use Rattle.nv_load.specs.LoadRuns.{HasCountedRound, HaveCountedBoth, IsCountOf, if_ok}

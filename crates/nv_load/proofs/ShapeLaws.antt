@@ -16,7 +16,7 @@ use Rattle.nv_trace.specs.Traced.{Traced}
 use Rattle.nv_load.specs.declared.load.Load.{Load}
 use Rattle.nv_load.specs.Generated.{IsLoad, drawn_call, drawn_calls, fill, first_fills, generated, generated_calls, in_lines, thread_calls}
 use Rattle.nv_load.proofs.TraceLaws.{many_drawn}
-use Rattle.nv_runner.proofs.HistoryMembers.{one_either, one_left, one_mapped, one_of_joined, one_of_mapped}
+use Rattle.nv_runner.proofs.histories.HistoryMembers.{one_either, one_left, one_mapped, one_of_joined, one_of_mapped}
 
 -- a read of the second round, which ends within the file
 pub record IsReadIn (call : TracedCall) : Type 0 where

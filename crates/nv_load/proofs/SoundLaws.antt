@@ -10,7 +10,7 @@ use Rattle.nv_trace.specs.Grammar.{last_thread}
 use Rattle.nv_trace.specs.Shape.{IsCallWithin, IsTokenWithin, IsWellFormed}
 use Rattle.nv_trace.specs.declared.trace.Descriptor.{Descriptor}
 use Rattle.nv_trace.specs.declared.trace_call.TracedCall.{TracedCall}
-use Rattle.nv_runner.proofs.HistoryMembers.{of_each, one_either}
+use Rattle.nv_runner.proofs.histories.HistoryMembers.{of_each, one_either}
 use Rattle.nv_runner.specs.Rounds.{AreInRoundOrder}
 use Rattle.nv_load.specs.Generated.{GeneratedTracesAreSound, IsLoad, declared, first_round, generated, generated_calls, second_round}
 use Rattle.nv_load.specs.declared.load.Load.{Load}

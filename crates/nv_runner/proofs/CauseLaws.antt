@@ -36,8 +36,8 @@ use Rattle.nv_runner.specs.Lists.{MadeCall}
 use Rattle.nv_runner.specs.Refusals.{HasCause, IsCause, early_of_call, unless_file, word_seen}
 use Rattle.nv_runner.specs.RunRefusals.{calls_that_drew}
 use Rattle.nv_runner.specs.Sorted.{OpenedCall, RefusedCall, opened_made, placed_made, refused_made}
-use Rattle.nv_runner.proofs.DrawnSums.{drew, drew_all, drew_before, drew_total}
-use Rattle.nv_runner.proofs.HistorySums.{added_moved}
+use Rattle.nv_runner.proofs.draws.DrawnSums.{drew, drew_all, drew_before, drew_total}
+use Rattle.nv_runner.proofs.histories.HistorySums.{added_moved}
 
 -- ---- what bars a call
 

@@ -32,7 +32,7 @@ use Rattle.nv_runner.specs.Refusals.{IsCause, MetFault, early_of_call}
 use Rattle.nv_runner.specs.Sorted.{RefusedCall, refused_call}
 use Rattle.nv_runner.proofs.CauseLaws.{early_such}
 use Rattle.nv_runner.proofs.FaithfulLaws.{refused_there}
-use Rattle.nv_runner.proofs.HistoryMembers.{of_each, one_left}
+use Rattle.nv_runner.proofs.histories.HistoryMembers.{of_each, one_left}
 
 -- ---- counts
 

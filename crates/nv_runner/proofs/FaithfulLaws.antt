@@ -49,9 +49,9 @@ use Rattle.nv_runner.specs.Refusals.{early_of_call}
 use Rattle.nv_runner.specs.RunRefusals.{calls_that_drew}
 use Rattle.nv_runner.specs.Sorted.{AreSortedOut, OpenedCall, RefusedCall, opened_call, opened_made, placed_call, placed_made, refused_call, refused_made}
 use Rattle.nv_runner.specs.Told.{AreTold}
-use Rattle.nv_runner.proofs.HistoryThreads.{descriptors_say_files, threads_are_legal}
+use Rattle.nv_runner.proofs.histories.HistoryThreads.{descriptors_say_files, threads_are_legal}
 use Rattle.nv_runner.proofs.CauseLaws.{StoodSo, bar_is, drawn_before, drawn_in_all, entries_alike, is_allowed_so, is_shown, shown_bar}
-use Rattle.nv_runner.proofs.HistoryMembers.{of_each, of_one, one_left, one_mapped, one_moved, one_of_joined, one_of_mapped, one_right}
+use Rattle.nv_runner.proofs.histories.HistoryMembers.{of_each, of_one, one_left, one_mapped, one_moved, one_of_joined, one_of_mapped, one_right}
 use Rattle.nv_runner.proofs.ToldLaws.{runs_are_told}
 
 -- ---- descriptors

@@ -29,7 +29,7 @@ use Rattle.nv_runner.specs.OpenRuns.{open_of}
 use Rattle.nv_runner.specs.Refusals.{early_of_call}
 use Rattle.nv_runner.specs.Sorted.{OpenedCall, opened_call}
 use Rattle.nv_runner.proofs.FaithfulLaws.{calls_on_files, open_there}
-use Rattle.nv_runner.proofs.HistoryMembers.{of_each, one_in_joined, one_moved, one_of_joined, one_right}
+use Rattle.nv_runner.proofs.histories.HistoryMembers.{of_each, one_in_joined, one_moved, one_of_joined, one_right}
 
 -- a write that nothing bars has its descriptor's file
 unbarred_file : (sizes : Sizes) (fds : List Fd) (call : TraceCall) → IsWrite call → early_of_call sizes fds call ≡ None → (file : ℕ) × (file_of_fd fds (fd_of call) ≡ Some file)

@@ -40,10 +40,10 @@ use Rattle.nv_runner.specs.OpenRuns.{open_of}
 use Rattle.nv_runner.specs.OpenWrites.{is_kept_open, kept_open}
 use Rattle.nv_runner.specs.Sorted.{HaveOwnLines, OpenedCall, opened_calls, opened_in_answer}
 use Rattle.nv_runner.proofs.FaithfulLaws.{after_each, calls_on_files}
-use Rattle.nv_runner.proofs.HistoryLaws.{sorted_are_history}
-use Rattle.nv_runner.proofs.HistoryMembers.{one_moved, one_of_joined, one_of_mapped}
-use Rattle.nv_runner.proofs.HistorySums.{added, added_append, added_mapped, added_moved, if_same, once_there, times_there}
-use Rattle.nv_runner.proofs.HistoryThreads.{threads_are_legal}
+use Rattle.nv_runner.proofs.histories.HistoryLaws.{sorted_are_history}
+use Rattle.nv_runner.proofs.histories.HistoryMembers.{one_moved, one_of_joined, one_of_mapped}
+use Rattle.nv_runner.proofs.histories.HistorySums.{added, added_append, added_mapped, added_moved, if_same, once_there, times_there}
+use Rattle.nv_runner.proofs.histories.HistoryThreads.{threads_are_legal}
 use Rattle.nv_runner.proofs.KeptRunLaws.{left_open_are_kept}
 use Rattle.nv_runner.proofs.LineLaws.{distinct_once, lines_tell_rounds}
 use Rattle.nv_runner.proofs.OutcomeLaws.{rises_within}

@@ -14,8 +14,8 @@ use Rattle.nv_runner.specs.declared.answer.Answer.TheVariants.{Placed, Refused, 
 use Rattle.nv_runner.specs.Histories.{RoundsRise}
 use Rattle.nv_runner.specs.Lists.{MadeCall, calls_made}
 use Rattle.nv_runner.specs.Sorted.{HaveOwnLines, LinesTellRounds, OpenInLines, OpenedCall, RefusedCall, RefusedInLines, opened_in_answer, refused_in_answer}
-use Rattle.nv_runner.proofs.HistoryMembers.{contained, one_at, one_moved}
-use Rattle.nv_runner.proofs.HistorySums.{added, added_append, added_mapped, added_moved, if_same, once_there, same_counts, some_there, times_there}
+use Rattle.nv_runner.proofs.histories.HistoryMembers.{contained, one_at, one_moved}
+use Rattle.nv_runner.proofs.histories.HistorySums.{added, added_append, added_mapped, added_moved, if_same, once_there, same_counts, some_there, times_there}
 use Rattle.nv_runner.proofs.SortedLaws.{falls_not}
 
 -- ---- numbers of which no two are one

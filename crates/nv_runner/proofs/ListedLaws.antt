@@ -10,7 +10,7 @@ use Rattle.nv_trace.specs.declared.trace_call.TracedCall.{TracedCall}
 use Rattle.nv_runner.specs.Lists.{MadeCall, calls_made}
 use Rattle.nv_runner.specs.Rounds.{AreCallsOf, AreMoreOf}
 use Rattle.nv_runner.specs.Shifts.{HasRun}
-use Rattle.nv_runner.proofs.HistoryMembers.{one_either, one_moved}
+use Rattle.nv_runner.proofs.histories.HistoryMembers.{one_either, one_moved}
 
 -- in whatever order they are listed, they are those of the same shifts
 pub run_moved : (fds : List Fd) (worker : Option ℕ) (made listed : List MadeCall) (zero : PassState) → HasRun fds worker made zero → IsPermutation listed made → HasRun fds worker listed zero

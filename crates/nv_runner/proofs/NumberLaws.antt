@@ -17,9 +17,9 @@ use Rattle.nv_runner.specs.RunNumbers.{HaveDrawn}
 use Rattle.nv_runner.specs.RunRefusals.{calls_that_drew}
 use Rattle.nv_runner.specs.Sorted.{AreSortedOut, OpenedCall, opened_call, opened_made, placed_call, placed_made, refused_call, refused_made}
 use Rattle.nv_runner.proofs.CauseLaws.{drawn_listed}
-use Rattle.nv_runner.proofs.DrawOrder.{drawing_each, one_drawing}
+use Rattle.nv_runner.proofs.draws.DrawOrder.{drawing_each, one_drawing}
 use Rattle.nv_runner.proofs.FaithfulLaws.{open_there}
-use Rattle.nv_runner.proofs.HistoryMembers.{of_each}
+use Rattle.nv_runner.proofs.histories.HistoryMembers.{of_each}
 use Rattle.nv_runner.proofs.OpenRunLaws.{flat_moved}
 
 -- the calls that drew among some are those that a report of them shows

@@ -12,8 +12,8 @@ use Rattle.nv_trace.specs.declared.trace_call.TracedCall.{TracedCall}
 use Rattle.nv_runner.specs.DrawnNumbers.{AreInARow, DrawnCall, OneThreadDrawsByLine}
 use Rattle.nv_runner.specs.Histories.{ComesBefore, KeepOrder}
 use Rattle.nv_runner.specs.Runs.{entries_if}
-use Rattle.nv_runner.proofs.HistoryMembers.{of_each, of_one, one_mapped}
-use Rattle.nv_runner.proofs.HistorySums.{added, added_mapped, added_moved, added_none}
+use Rattle.nv_runner.proofs.histories.HistoryMembers.{of_each, of_one, one_mapped}
+use Rattle.nv_runner.proofs.histories.HistorySums.{added, added_mapped, added_moved, added_none}
 use Rattle.nv_runner.proofs.LineLaws.{distinct_moved}
 
 abbrev call_of : DrawnCall → TracedCall

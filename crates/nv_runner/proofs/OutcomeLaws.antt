@@ -57,7 +57,7 @@ use Rattle.nv_runner.specs.Shifts.{HasRun, IsShift, Shift}
 use Rattle.nv_runner.specs.Sorted.{AreSortedOut, HaveOwnLines}
 use Rattle.nv_runner.specs.Tries.{HasRunBatches}
 use Rattle.nv_runner.specs.Workers.{IsZeroStill}
-use Rattle.nv_runner.proofs.HistoryMembers.{of_one, one_mapped, one_moved, one_of_joined, one_of_mapped}
+use Rattle.nv_runner.proofs.histories.HistoryMembers.{of_one, one_mapped, one_moved, one_of_joined, one_of_mapped}
 use Rattle.nv_runner.proofs.NewcomerLaws.{unmade_own}
 use Rattle.nv_runner.proofs.PassLaws.{unplaced_on}
 use Rattle.nv_runner.proofs.ShiftRuns.{MadeAt, chain, made_at_one}

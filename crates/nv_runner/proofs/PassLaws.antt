@@ -30,7 +30,7 @@ use Rattle.nv_runner.specs.Workers.{IsNewcomer, IsZeroStill}
 use Rattle.nv_runner.proofs.NewcomerLaws.{join_makes, joins_go_on, makes_both, makes_none, newcomers_are_unborn, newcomers_begin_behind, split_makes, splits_go_on}
 use Rattle.nv_runner.proofs.ShiftRuns.{on_none}
 use Rattle.nv_runner.proofs.TryLaws.{on_both}
-use Rattle.nv_runner.proofs.HistoryMembers.{one_mapped}
+use Rattle.nv_runner.proofs.histories.HistoryMembers.{one_mapped}
 
 -- ---- first parts
 

@@ -26,7 +26,7 @@ use Rattle.nv_mirror.specs.PassSteps.{PassStep, HasMade, HasTaken, busy_at, eith
 use Rattle.nv_mirror.proofs.StopLaws.{IsFault, faults_are, sets_stop}
 use Rattle.nv_runner.specs.Refusals.{MetFault, word_seen}
 use Rattle.nv_runner.specs.Runs.{entries_if, is_cleaning_op}
-use Rattle.nv_runner.proofs.HistoryMembers.{one_left, one_mapped, one_right}
+use Rattle.nv_runner.proofs.histories.HistoryMembers.{one_left, one_mapped, one_right}
 use Rattle.nv_runner.proofs.RefusalWords.{WordLaws, SeesNoLower, load_found, step_sees, tail_least}
 use Rattle.nv_runner.proofs.RunLaws.{Went, between_went, step_went, went_as, went_both, went_nowhere}
 

@@ -8,7 +8,7 @@ use Rattle.nv_core.specs.state.Passes.{IsOneOf}
 use Rattle.nv_trace.specs.declared.trace_call.TracedCall.{TracedCall}
 use Rattle.nv_runner.specs.Lists.{MadeCall, calls_made}
 use Rattle.nv_runner.specs.Rounds.{AreCallsOf, AreInLineOrder, AreInRoundOrder, AreMoreOf, IsNextRound, IsRoundLong}
-use Rattle.nv_runner.proofs.HistoryMembers.{of_each, of_one, one_either, one_left, one_mapped, one_moved, one_right}
+use Rattle.nv_runner.proofs.histories.HistoryMembers.{of_each, of_one, one_either, one_left, one_mapped, one_moved, one_right}
 
 -- ---- parts of lists that rise
 

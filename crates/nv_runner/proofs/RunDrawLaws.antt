@@ -27,11 +27,11 @@ use Rattle.nv_runner.specs.RunNumbers.{HaveDrawn}
 use Rattle.nv_runner.specs.RunRefusals.{IsRunOfPasses, calls_that_drew}
 use Rattle.nv_runner.specs.Runs.{has_drawn}
 use Rattle.nv_runner.specs.Shifts.{AreInOrder, ComesBehind, HasRun, Shift}
-use Rattle.nv_runner.proofs.DrawOrder.{AreOrdered, call_of, drawing_each, drawing_timed, drew_of_those, drew_so, in_a_row, in_time, keep_order, number_told, numbered, numbered_calls, of_kept, one_drawing, one_kept, takes_by, time_moved, time_rises}
-use Rattle.nv_runner.proofs.DrawTimes.{DrewAt, IsTimedShift, Timed, drew_by, timed_shift}
-use Rattle.nv_runner.proofs.DrawnSums.{listed_total, total_listed}
-use Rattle.nv_runner.proofs.HistoryMembers.{of_one, one_either, one_mapped, one_moved, one_of_mapped}
-use Rattle.nv_runner.proofs.HistorySums.{added, added_append, added_mapped, added_moved}
+use Rattle.nv_runner.proofs.draws.DrawOrder.{AreOrdered, call_of, drawing_each, drawing_timed, drew_of_those, drew_so, in_a_row, in_time, keep_order, number_told, numbered, numbered_calls, of_kept, one_drawing, one_kept, takes_by, time_moved, time_rises}
+use Rattle.nv_runner.proofs.draws.DrawTimes.{DrewAt, IsTimedShift, Timed, drew_by, timed_shift}
+use Rattle.nv_runner.proofs.draws.DrawnSums.{listed_total, total_listed}
+use Rattle.nv_runner.proofs.histories.HistoryMembers.{of_one, one_either, one_mapped, one_moved, one_of_mapped}
+use Rattle.nv_runner.proofs.histories.HistorySums.{added, added_append, added_mapped, added_moved}
 use Rattle.nv_runner.proofs.OpenRunLaws.{flat_moved}
 use Rattle.nv_runner.proofs.RefusalWords.{WordLaws}
 use Rattle.nv_runner.proofs.RunRefusalLaws.{call_there, made_there, nobody_there, sees_all, shift_is}

@@ -31,9 +31,9 @@ use Rattle.nv_runner.specs.Refusals.{RefusalsHaveCauses, word_seen}
 use Rattle.nv_runner.specs.RunRefusals.{IsRefusedInRun, IsRunOfPasses, calls_that_drew}
 use Rattle.nv_runner.specs.Runs.{CleansNothing, is_cleaning}
 use Rattle.nv_runner.specs.Shifts.{AreInOrder, ComesBehind, HasRun, IsShift, Shift}
-use Rattle.nv_runner.proofs.DrawnSums.{added_most, drew, drew_all, drew_before, drew_total, is_before, listed_total, total_listed}
-use Rattle.nv_runner.proofs.HistoryMembers.{contained, of_one, one_in_joined, one_left, one_mapped, one_moved, one_of_joined, one_of_mapped, one_right}
-use Rattle.nv_runner.proofs.HistorySums.{added, added_append, added_joined, added_mapped, added_moved, added_same}
+use Rattle.nv_runner.proofs.draws.DrawnSums.{added_most, drew, drew_all, drew_before, drew_total, is_before, listed_total, total_listed}
+use Rattle.nv_runner.proofs.histories.HistoryMembers.{contained, of_one, one_in_joined, one_left, one_mapped, one_moved, one_of_joined, one_of_mapped, one_right}
+use Rattle.nv_runner.proofs.histories.HistorySums.{added, added_append, added_joined, added_mapped, added_moved, added_same}
 use Rattle.nv_runner.proofs.RefusalWords.{WordLaws, sees_on, tail_least}
 use Rattle.nv_runner.proofs.RunLaws.{others_clean}
 use Rattle.nv_runner.proofs.RunTails.{tail_still}

@@ -20,7 +20,7 @@ use Rattle.nv_runner.specs.Owners.{if_owner}
 use Rattle.nv_runner.specs.Rounds.{AreCallsOf}
 use Rattle.nv_runner.specs.Shifts.{calls_of_thread}
 use Rattle.nv_runner.specs.Workers.{HasCleaned, HasDonePart, HasMadeAll, HasServed, HasShare, HasWorked, IsNewWorker, IsReady, WorkerState, crew_of, threads_of}
-use Rattle.nv_runner.proofs.HistoryMembers.{of_each, of_one, one_left, one_mapped, one_moved, one_of_joined}
+use Rattle.nv_runner.proofs.histories.HistoryMembers.{of_each, of_one, one_left, one_mapped, one_moved, one_of_joined}
 use Rattle.nv_runner.proofs.ShiftRuns.{on_none}
 use Rattle.nv_runner.proofs.TryLaws.{no_batch}
 use Rattle.nv_runner.proofs.RoundLists.{all_calls, calls_of, few_calls, in_crew}

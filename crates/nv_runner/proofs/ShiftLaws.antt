@@ -21,7 +21,7 @@ use Rattle.nv_trace.specs.declared.trace_call.TracedCall.{TracedCall}
 use Rattle.nv_runner.specs.Lists.{MadeCall, calls_made}
 use Rattle.nv_runner.specs.Shifts.{AreInOrder, ComesBehind, HasRun, IsShift, Shift, calls_of_thread}
 use Rattle.nv_runner.specs.Workers.{HasServed, WorkerState}
-use Rattle.nv_runner.proofs.HistoryMembers.{of_each, of_one, one_either, one_in_joined, one_left, one_mapped, one_moved}
+use Rattle.nv_runner.proofs.histories.HistoryMembers.{of_each, of_one, one_either, one_in_joined, one_left, one_mapped, one_moved}
 
 -- ---- some first ones of a thread's calls
 

@@ -17,7 +17,7 @@ use Rattle.nv_runner.specs.Lists.{MadeCall, calls_made}
 use Rattle.nv_runner.specs.Rounds.{AreCallsOf}
 use Rattle.nv_runner.specs.Shifts.{AreInOrder, ComesBehind, HasRun, IsShift, Shift}
 use Rattle.nv_runner.specs.Sorted.{HaveOwnLines}
-use Rattle.nv_runner.proofs.HistoryMembers.{of_one, one_either, one_in_joined, one_moved, one_of_joined, one_of_mapped, one_mapped}
+use Rattle.nv_runner.proofs.histories.HistoryMembers.{of_one, one_either, one_in_joined, one_moved, one_of_joined, one_of_mapped, one_mapped}
 use Rattle.nv_runner.proofs.LineLaws.{distinct_moved, rising_distinct}
 
 -- one call of a line

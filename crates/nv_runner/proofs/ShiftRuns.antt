@@ -21,8 +21,8 @@ use Rattle.nv_runner.specs.Calls.{IsAnswered}
 use Rattle.nv_runner.specs.Lists.{AreMade, MadeCall}
 use Rattle.nv_runner.specs.Runs.{GoesOn, entries_drawn, is_cleaning}
 use Rattle.nv_runner.specs.Shifts.{IsShift, Shift}
-use Rattle.nv_runner.proofs.DrawnSums.{drew}
-use Rattle.nv_runner.proofs.HistorySums.{added}
+use Rattle.nv_runner.proofs.draws.DrawnSums.{drew}
+use Rattle.nv_runner.proofs.histories.HistorySums.{added}
 use Rattle.nv_runner.proofs.TryLaws.{on_both}
 
 -- ---- a call among those of a pass

@@ -11,7 +11,7 @@ use Rattle.nv_runner.specs.EndedRuns.{batch_of}
 use Rattle.nv_runner.specs.Lists.{Stand}
 use Rattle.nv_runner.specs.Shifts.{IsShift, Shift}
 use Rattle.nv_runner.specs.Told.{ShiftsStand}
-use Rattle.nv_runner.proofs.HistoryMembers.{of_each, of_one, one_mapped}
+use Rattle.nv_runner.proofs.histories.HistoryMembers.{of_each, of_one, one_mapped}
 use Rattle.nv_runner.proofs.ListLaws.{made_stand}
 
 pub shifts_stand : ShiftsStand

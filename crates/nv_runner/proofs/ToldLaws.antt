@@ -18,7 +18,7 @@ use Rattle.nv_runner.specs.Histories.{IsHistoryOfPasses, PlacedCall}
 use Rattle.nv_runner.specs.Lists.{MadeCall, calls_made}
 use Rattle.nv_runner.specs.Sorted.{OpenedCall, RefusedCall, opened_call, opened_made, placed_call, placed_made, refused_call, refused_made}
 use Rattle.nv_runner.specs.Told.{RunsAreTold}
-use Rattle.nv_runner.proofs.HistoryLaws.{sorted_are_history}
+use Rattle.nv_runner.proofs.histories.HistoryLaws.{sorted_are_history}
 use Rattle.nv_runner.proofs.LineLaws.{lines_tell_rounds, open_in_lines, refused_in_lines}
 
 -- ---- the calls

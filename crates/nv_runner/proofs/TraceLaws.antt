@@ -5,7 +5,7 @@ use Rattle.std.proofs.Math.Nat.{le-max_left, le-max_right}
 use Rattle.nv_core.specs.state.Passes.{IsOneOf}
 use Rattle.nv_trace.specs.Traced.{with_thread}
 use Rattle.nv_trace.specs.declared.trace_call.TracedCall.{TracedCall}
-use Rattle.nv_runner.proofs.HistoryMembers.{of_each}
+use Rattle.nv_runner.proofs.histories.HistoryMembers.{of_each}
 
 -- the count doesn't fall along the calls
 count_grows : (calls : List TracedCall) (count : ℕ) → count ≤ fold with_thread count calls

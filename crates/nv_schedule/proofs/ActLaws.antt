@@ -57,8 +57,8 @@ use Rattle.nv_schedule.proofs.FollowLaws.{number_kept}
 use Rattle.nv_schedule.proofs.GrownLaws.{at_call_grown, made_grown, taken_grown}
 use Rattle.nv_schedule.proofs.StepsMadeLaws.{goes_on_by, made_are, same_step, taken_longer, taken_number}
 use Rattle.nv_schedule.proofs.ThreadLaws.{none_tried}
-use Rattle.nv_schedule.proofs.TryEndLaws.{HasBegunAnew, HasEndedBy, IsTriedOn, over_ends, tried_anew, trying_on}
-use Rattle.nv_schedule.proofs.WayLaws.{of_trying}
+use Rattle.nv_schedule.proofs.turns.TryEndLaws.{HasBegunAnew, HasEndedBy, IsTriedOn, over_ends, tried_anew, trying_on}
+use Rattle.nv_schedule.proofs.turns.WayLaws.{of_trying}
 
 -- ---- a caller as an actor
 

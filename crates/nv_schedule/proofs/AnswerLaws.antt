@@ -49,7 +49,7 @@ use Rattle.nv_runner.proofs.OpenLaws.{told_behind}
 use Rattle.nv_runner.proofs.TryLaws.{answer_on, write_answer_on}
 use Rattle.nv_schedule.specs.Callers.{AreAnswered, IsAnsweredBy}
 use Rattle.nv_schedule.specs.Tries.{IsTryOver, WereTried, answer_of, begins_anew}
-use Rattle.nv_schedule.proofs.WayLaws.{first_bytes, over_idle}
+use Rattle.nv_schedule.proofs.turns.WayLaws.{first_bytes, over_idle}
 
 -- the laws of calls
 pub record CallLaws : Type 0 where

@@ -16,7 +16,7 @@ use Rattle.nv_runner.specs.Lists.{MadeCall, calls_made}
 use Rattle.nv_runner.specs.Rounds.{AreInLineOrder}
 use Rattle.nv_runner.specs.Shifts.{calls_of_thread}
 use Rattle.nv_runner.specs.Sorted.{HaveOwnLines}
-use Rattle.nv_runner.proofs.HistoryMembers.{one_left, one_right}
+use Rattle.nv_runner.proofs.histories.HistoryMembers.{one_left, one_right}
 use Rattle.nv_schedule.specs.Begun.{AreBegun, AreFirstOfThread, SchedulesBegin, listed_calls, unanswered_calls}
 use Rattle.nv_schedule.specs.Fresh.{thread_works, works_of}
 use Rattle.nv_schedule.specs.Listed.{all_listed, all_unanswered, listed, listed_by, listed_present, told_present, unanswered, unanswered_by, unanswered_present}

@@ -24,8 +24,8 @@ use Rattle.nv_runner.specs.Rounds.{AreInLineOrder}
 use Rattle.nv_runner.specs.Shifts.{calls_of_thread}
 use Rattle.nv_runner.specs.Sorted.{HaveOwnLines, OpenedCall, RefusedCall, opened_call, opened_made, placed_call, placed_made, refused_call, refused_made}
 use Rattle.nv_runner.proofs.FaithfulLaws.{after_each}
-use Rattle.nv_runner.proofs.HistoryMembers.{of_each, of_one, one_left, one_mapped}
-use Rattle.nv_runner.proofs.HistoryThreads.{threads_are_legal}
+use Rattle.nv_runner.proofs.histories.HistoryMembers.{of_each, of_one, one_left, one_mapped}
+use Rattle.nv_runner.proofs.histories.HistoryThreads.{threads_are_legal}
 use Rattle.nv_runner.proofs.LineLaws.{open_in_lines, refused_in_lines}
 use Rattle.nv_runner.proofs.RoundLists.{distinct_range, in_range}
 use Rattle.nv_schedule.specs.Begun.{listed_calls, unanswered_calls}

@@ -63,7 +63,7 @@ use Rattle.nv_schedule.proofs.GrownLaws.{puts_begin}
 use Rattle.nv_schedule.proofs.MidCallLaws.{hand_opens, opened_as}
 use Rattle.nv_schedule.proofs.OpenCallLaws.{caller_opens}
 use Rattle.nv_schedule.proofs.PlayedLaws.{AreOn, actors_of, plays_so, plays_up}
-use Rattle.nv_schedule.proofs.WayLaws.{IsPresentTold, of_trying}
+use Rattle.nv_schedule.proofs.turns.WayLaws.{IsPresentTold, of_trying}
 
 -- ---- those that had begun nothing
 

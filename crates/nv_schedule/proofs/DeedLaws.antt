@@ -22,7 +22,7 @@ use Rattle.nv_schedule.specs.Orders.{AreDeeds, is_deed, is_deed_op}
 use Rattle.nv_schedule.specs.Turns.{CallerState, HasCome, HasTurned, MovesBy, events_of}
 use Rattle.nv_schedule.specs.declared.caller.Work.{Work as AnyWork}
 use Rattle.nv_schedule.specs.declared.caller.Work.TheVariants.{Calls, Batches}
-use Rattle.nv_schedule.proofs.WayLaws.{of_trying}
+use Rattle.nv_schedule.proofs.turns.WayLaws.{of_trying}
 
 -- ---- a caller's pass has put nothing back
 

@@ -34,7 +34,7 @@ use Rattle.nv_schedule.specs.declared.hand.Hand.{Hand}
 use Rattle.nv_schedule.specs.declared.scheduled.ScheduledCalls.{ScheduledCalls}
 use Rattle.nv_schedule.proofs.FlightLaws.{passing_flights}
 use Rattle.nv_schedule.proofs.BehindLaws.{own_if, own_seen}
-use Rattle.nv_schedule.proofs.WayLaws.{of_trying}
+use Rattle.nv_schedule.proofs.turns.WayLaws.{of_trying}
 
 -- ---- no device call has come since a caller's last step
 

@@ -33,7 +33,7 @@ use Rattle.nv_runner.specs.Refusals.{FoundNoRoom, HasCause, IsCause, early_of_ca
 use Rattle.nv_runner.specs.Shifts.{calls_of_thread}
 use Rattle.nv_runner.specs.Sorted.{HaveOwnLines, OpenedCall, opened_calls}
 use Rattle.nv_runner.proofs.CauseLaws.{StoodSo, bar_is, is_allowed_so, is_shown, shown_bar, taken_is}
-use Rattle.nv_runner.proofs.HistoryMembers.{one_left}
+use Rattle.nv_runner.proofs.histories.HistoryMembers.{one_left}
 use Rattle.nv_runner.proofs.LineLaws.{distinct_moved, open_in_lines}
 use Rattle.nv_runner.proofs.RoundLists.{all_calls, calls_of, distinct_range, few_calls, in_range}
 use Rattle.nv_schedule.specs.Begun.{AreFirstOfThread}

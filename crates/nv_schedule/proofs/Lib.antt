@@ -18,8 +18,7 @@ mod FollowLaws
 mod FreshLaws
 mod GrowLaws
 mod GrownLaws
-mod HandActs
-mod HandLaws
+pub mod turns
 mod KeptFaultLaws
 mod LifeLaws
 mod MidCallLaws
@@ -37,10 +36,7 @@ mod StepsMadeLaws
 mod ThreadLaws
 mod ThreadLists
 mod ToldLaws
-mod TryEndLaws
-mod TurnLaws
 mod UnbarredLaws
 mod UncutLaws
-mod WayLaws
 mod WholeLaws
 mod ZeroDrawn

@@ -24,8 +24,8 @@ use Rattle.nv_runner.specs.Lists.{MadeCall, calls_made}
 use Rattle.nv_runner.specs.Lives.{RecoversBehind}
 use Rattle.nv_runner.specs.Sorted.{OpenedCall, opened_calls, opened_in_answer}
 use Rattle.nv_runner.proofs.FaithfulLaws.{after_each, calls_on_files}
-use Rattle.nv_runner.proofs.HistoryMembers.{one_left, one_mapped, one_moved, one_of_joined, one_of_mapped}
-use Rattle.nv_runner.proofs.HistoryThreads.{threads_are_legal}
+use Rattle.nv_runner.proofs.histories.HistoryMembers.{one_left, one_mapped, one_moved, one_of_joined, one_of_mapped}
+use Rattle.nv_runner.proofs.histories.HistoryThreads.{threads_are_legal}
 use Rattle.nv_runner.proofs.KeptRunLaws.{left_open_are_kept}
 use Rattle.nv_runner.proofs.LifeLaws.{falls_nowhere, kept_of, opened_among, own_lines, placed_among, sorted_by}
 use Rattle.nv_schedule.specs.Listed.{all_listed, all_unanswered}

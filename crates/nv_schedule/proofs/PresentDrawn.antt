@@ -87,8 +87,8 @@ use Rattle.nv_runner.specs.Entries.{entries_taken}
 use Rattle.nv_runner.specs.declared.answer.Answer.{Answer}
 use Rattle.nv_runner.specs.Runs.{entries_if}
 use Rattle.nv_runner.specs.Runs.{has_drawn as answered_drawn}
-use Rattle.nv_runner.proofs.DrawnSums.{drew}
-use Rattle.nv_runner.proofs.HistorySums.{added, added_append}
+use Rattle.nv_runner.proofs.draws.DrawnSums.{drew}
+use Rattle.nv_runner.proofs.histories.HistorySums.{added, added_append}
 use Rattle.nv_runner.proofs.RunLaws.{batch_went}
 use Rattle.nv_runner.proofs.ShiftRuns.{chain}
 use Rattle.nv_runner.proofs.RefusalSteps.{own_any, stands}

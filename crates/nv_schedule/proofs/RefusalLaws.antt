@@ -38,9 +38,9 @@ use Rattle.nv_runner.specs.Refusals as refusals
 use Rattle.nv_runner.specs.Refusals.{word_seen}
 use Rattle.nv_runner.specs.Rounds.{AreInLineOrder}
 use Rattle.nv_runner.specs.RunRefusals.{calls_that_drew}
-use Rattle.nv_runner.proofs.DrawnSums.{added_most, drew, drew_all, drew_before, is_before, total_listed}
-use Rattle.nv_runner.proofs.HistoryMembers.{contained, of_one, one_either, one_left, one_mapped, one_right}
-use Rattle.nv_runner.proofs.HistorySums.{added, added_append, added_joined, added_mapped, added_moved, added_same}
+use Rattle.nv_runner.proofs.draws.DrawnSums.{added_most, drew, drew_all, drew_before, is_before, total_listed}
+use Rattle.nv_runner.proofs.histories.HistoryMembers.{contained, of_one, one_either, one_left, one_mapped, one_right}
+use Rattle.nv_runner.proofs.histories.HistorySums.{added, added_append, added_joined, added_mapped, added_moved, added_same}
 use Rattle.nv_runner.proofs.RefusalWords.{WordLaws, sees_on}
 use Rattle.nv_runner.proofs.ShiftRuns.{Chain, DrawnLaws, MadeAt, chain, drawn, drawn_absent, drawn_here, drawn_in, drawn_less, drawn_none, drawn_same, made_at_one}
 use Rattle.nv_schedule.specs.Callers.{ThreadHasCome, ThreadState}

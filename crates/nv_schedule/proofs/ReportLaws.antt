@@ -37,10 +37,10 @@ use Rattle.nv_runner.specs.RunRefusals.{calls_that_drew}
 use Rattle.nv_runner.specs.Sorted.{AreSortedOut, HaveOwnLines, OpenedCall, RefusedCall, opened_call, opened_made, placed_call, placed_made, refused_call, refused_made}
 use Rattle.nv_runner.specs.Told.{AreTold}
 use Rattle.nv_runner.proofs.CauseLaws.{bar_is, drawn_before, entries_alike, shown_bar}
-use Rattle.nv_runner.proofs.DrawnSums.{drew_all, drew_before}
+use Rattle.nv_runner.proofs.draws.DrawnSums.{drew_all, drew_before}
 use Rattle.nv_runner.proofs.FaithfulLaws.{calls_once, history_keeps, history_legal, refused_rise}
-use Rattle.nv_runner.proofs.HistoryMembers.{of_each, of_one, one_left, one_mapped, one_moved, one_of_joined, one_of_mapped, one_right}
-use Rattle.nv_runner.proofs.HistorySums.{added, added_append, added_moved}
+use Rattle.nv_runner.proofs.histories.HistoryMembers.{of_each, of_one, one_left, one_mapped, one_moved, one_of_joined, one_of_mapped, one_right}
+use Rattle.nv_runner.proofs.histories.HistorySums.{added, added_append, added_moved}
 use Rattle.nv_schedule.specs.Begun.{AreBegun, listed_calls, unanswered_calls}
 use Rattle.nv_schedule.specs.FaithfulSchedules.{IsFaithfulSchedule, SchedulesAreFaithful, ShowsSchedule}
 use Rattle.nv_schedule.specs.RefusedCalls.{IsRefusedThere}

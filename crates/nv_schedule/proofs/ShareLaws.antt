@@ -14,12 +14,12 @@ use Rattle.nv_mount.specs.declared.fds.Fd.{Fd}
 use Rattle.nv_trace.specs.declared.trace_call.TracedCall.{TracedCall}
 use Rattle.nv_runner.specs.Histories.{AreHistory, ComesBefore, PlacedCall, placed_calls, placed_in_answer}
 use Rattle.nv_runner.specs.Lists.{MadeCall}
-use Rattle.nv_runner.proofs.HistoryCounts.{hits, hits_at, hits_none, hits_past, own_hits}
-use Rattle.nv_runner.proofs.HistoryMembers.{of_one, one_in_joined, one_mapped, one_moved, one_of_joined}
-use Rattle.nv_runner.proofs.HistoryOrder.{LinesRise, lines_rise, made_of, row_lines}
-use Rattle.nv_runner.proofs.HistoryRows.{AreRow, IsIn, as_many, row_is_in, stand_in_row}
-use Rattle.nv_runner.proofs.HistorySorted.{AreOnceAt, at_places, keep_order, stand_in_turn, times_at}
-use Rattle.nv_runner.proofs.HistorySums.{added, added_joined, added_mapped, added_moved, added_none, added_same, if_same, once_there, same_counts, some_there, times_there}
+use Rattle.nv_runner.proofs.histories.HistoryCounts.{hits, hits_at, hits_none, hits_past, own_hits}
+use Rattle.nv_runner.proofs.histories.HistoryMembers.{of_one, one_in_joined, one_mapped, one_moved, one_of_joined}
+use Rattle.nv_runner.proofs.histories.HistoryOrder.{LinesRise, lines_rise, made_of, row_lines}
+use Rattle.nv_runner.proofs.histories.HistoryRows.{AreRow, IsIn, as_many, row_is_in, stand_in_row}
+use Rattle.nv_runner.proofs.histories.HistorySorted.{AreOnceAt, at_places, keep_order, stand_in_turn, times_at}
+use Rattle.nv_runner.proofs.histories.HistorySums.{added, added_joined, added_mapped, added_moved, added_none, added_same, if_same, once_there, same_counts, some_there, times_there}
 use Rattle.nv_schedule.specs.Shares.{AreShares, IsShareOf, Share, SharesAreHistory}
 
 -- ---- two shares

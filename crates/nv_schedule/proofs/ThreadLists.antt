@@ -12,7 +12,7 @@ use Rattle.nv_trace.specs.declared.trace_call.TracedCall.{TracedCall}
 use Rattle.nv_runner.specs.Rounds.{AreInLineOrder}
 use Rattle.nv_runner.specs.Shifts.{calls_of_thread}
 use Rattle.nv_runner.specs.Sorted.{HaveOwnLines}
-use Rattle.nv_runner.proofs.HistoryMembers.{one_mapped, one_of_mapped}
+use Rattle.nv_runner.proofs.histories.HistoryMembers.{one_mapped, one_of_mapped}
 use Rattle.nv_runner.proofs.LineLaws.{rising_distinct}
 use Rattle.nv_schedule.specs.Turns.{CallerState}
 

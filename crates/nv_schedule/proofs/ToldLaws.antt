@@ -41,7 +41,7 @@ use Rattle.nv_schedule.specs.declared.caller.Work.TheVariants.{Calls, Batches}
 use Rattle.nv_schedule.specs.declared.hand.Hand.{Hand}
 use Rattle.nv_schedule.proofs.AnswerLaws.{CallLaws, IsSince, all_answered, tried_since}
 use Rattle.nv_schedule.proofs.EndLaws.{puts_mine, stood_number}
-use Rattle.nv_schedule.proofs.WayLaws.{HasPlaceAlready, IsPresentTold, of_trying}
+use Rattle.nv_schedule.proofs.turns.WayLaws.{HasPlaceAlready, IsPresentTold, of_trying}
 use Rattle.std.specs.Prelude.{Result}
 
 -- ---- the present call

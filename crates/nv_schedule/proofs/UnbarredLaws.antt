@@ -35,7 +35,7 @@ use Rattle.nv_runner.specs.declared.answer.Answer.TheVariants.{Placed}
 use Rattle.nv_runner.specs.Calls.{IsUnbarred, fd_of}
 use Rattle.nv_runner.specs.Lists.{AreMade, MadeCall}
 use Rattle.nv_runner.specs.Refusals.{early_of_call, unless_file}
-use Rattle.nv_runner.proofs.HistoryMembers.{one_either}
+use Rattle.nv_runner.proofs.histories.HistoryMembers.{one_either}
 use Rattle.nv_runner.proofs.ShiftRuns.{chain, made_at_one}
 use Rattle.nv_schedule.specs.Callers.{IsAtCall, ThreadHasCome, ThreadState}
 use Rattle.nv_schedule.specs.Hands.{IsTrying}

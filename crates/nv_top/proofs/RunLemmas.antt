@@ -64,7 +64,7 @@ use Rattle.nv_runner.specs.FaithfulRuns.{IsMountOf, ShowsCalls, UnstoppedRunsLea
 use Rattle.nv_runner.specs.Reports.{Report}
 use Rattle.nv_runner.specs.Sorted.{OpenedCall, opened_call, placed_call}
 use Rattle.nv_runner.proofs.FaithfulLaws.{calls_on_files, emptied_logs_go_on, faithful_where}
-use Rattle.nv_runner.proofs.HistoryThreads.{threads_are_legal}
+use Rattle.nv_runner.proofs.histories.HistoryThreads.{threads_are_legal}
 use Rattle.nv_runner.proofs.ToldLaws.{runs_are_told}
 use Rattle.nv_open.proofs.LogLaws.{states_many}
 use Rattle.nv_top.specs.Outcomes.{shown_report}

@@ -22,7 +22,7 @@ use Rattle.nv_runner.specs.Lists.{MadeCall}
 use Rattle.nv_runner.specs.Shifts.{HasRun, IsShift, Shift}
 use Rattle.nv_runner.specs.Sorted.{OpenedCall, opened_call}
 use Rattle.nv_runner.specs.declared.sorted.Open.{Open}
-use Rattle.nv_runner.proofs.HistoryMembers.{of_one, one_of_mapped}
+use Rattle.nv_runner.proofs.histories.HistoryMembers.{of_one, one_of_mapped}
 use Rattle.nv_top.specs.Fates.{fate_of, fated}
 use Rattle.nv_top.specs.Stopped.{fated_in, left_write}
 use Rattle.nv_top.proofs.FateLemmas.{open_write}

@@ -36,7 +36,7 @@ use Rattle.nv_runner.specs.KeptCalls.{HasWrite, IsKeptWhole}
 use Rattle.nv_runner.specs.Reports.{Report}
 use Rattle.nv_runner.specs.Sorted.{OpenedCall}
 use Rattle.nv_runner.proofs.FaithfulLaws.{calls_on_files}
-use Rattle.nv_runner.proofs.HistoryMembers.{of_each, one_mapped, one_moved, one_of_mapped}
+use Rattle.nv_runner.proofs.histories.HistoryMembers.{of_each, one_mapped, one_moved, one_of_mapped}
 use Rattle.nv_runner.proofs.KeptWholeLaws.{fault_of_open, has_write}
 use Rattle.nv_top.specs.Behind.{HasLostPowerBehind}
 use Rattle.nv_top.specs.Stopped.{IsRunOfReport, left_write}

@@ -1,5 +1,5 @@
 -- Call for call.
-use Rattle.nv_runner.proofs.HistoryThreads.{descriptors_say_files, threads_are_legal}
+use Rattle.nv_runner.proofs.histories.HistoryThreads.{descriptors_say_files, threads_are_legal}
 use Rattle.nv_runner.proofs.laws.history_of_threads_is_legal.Goals as goal
 
 pub returns : goal.returns

@@ -1,4 +1,4 @@
-use Rattle.nv_schedule.proofs.HandActs.{acts_by_hand}
+use Rattle.nv_schedule.proofs.turns.HandActs.{acts_by_hand}
 use Rattle.nv_schedule.proofs.laws.acts_by_hand.Goals as goal
 
 pub returns : goal.returns

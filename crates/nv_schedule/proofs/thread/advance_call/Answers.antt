@@ -12,7 +12,7 @@ use Rattle.nv_schedule.specs.Hands.{TryGoes, list_at_hand}
 use Rattle.nv_schedule.specs.Tries.{answer_of}
 use Rattle.nv_schedule.proofs.BarredLaws.{is_barred, not_anew, not_more}
 use Rattle.nv_schedule.proofs.FaultLaws.{told_so}
-use Rattle.nv_schedule.proofs.WayLaws.{of_trying, over_idle, tried_more}
+use Rattle.nv_schedule.proofs.turns.WayLaws.{of_trying, over_idle, tried_more}
 use Rattle.nv_schedule.proofs.thread.advance_call.Goals as goal
 
 pub advance-progress-requires-clause-trying : goal.advance-progress-requires-clause-trying

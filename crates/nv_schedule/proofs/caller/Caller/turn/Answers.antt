@@ -5,7 +5,7 @@ use Rattle.nv_core.specs.steps.Events.{Event}
 use Rattle.nv_schedule.specs.Turns.{CallerState, TurnTells}
 use Rattle.nv_schedule.specs.declared.caller.Work.{Work}
 use Rattle.nv_schedule.specs.declared.caller.Work.TheVariants.{Calls, Batches}
-use Rattle.nv_schedule.proofs.TurnLaws.{cleaner_turned, thread_turned}
+use Rattle.nv_schedule.proofs.turns.TurnLaws.{cleaner_turned, thread_turned}
 use Rattle.nv_schedule.proofs.caller.Caller.turn.Goals as goal
 
 pub returns-in-Calls-clause-turned : goal.returns-in-Calls-clause-turned

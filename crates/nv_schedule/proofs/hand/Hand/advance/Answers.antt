@@ -15,8 +15,8 @@ use Rattle.nv_schedule.specs.Barred.{IsRefusedEarly}
 use Rattle.nv_schedule.specs.Faulted.{fault_at_hand}
 use Rattle.nv_schedule.specs.Hands.{IsOneOrNoStep, IsTrying}
 use Rattle.nv_schedule.proofs.FaultLaws.{behind_call, call_tells}
-use Rattle.nv_schedule.proofs.HandLaws.{read_goes, sync_goes, same_bytes, write_goes}
-use Rattle.nv_schedule.proofs.WayLaws.{of_trying}
+use Rattle.nv_schedule.proofs.turns.HandLaws.{read_goes, sync_goes, same_bytes, write_goes}
+use Rattle.nv_schedule.proofs.turns.WayLaws.{of_trying}
 use Rattle.nv_schedule.proofs.hand.Hand.advance.Goals as goal
 
 pub returns-in-Reading-clause-goes : goal.returns-in-Reading-clause-goes

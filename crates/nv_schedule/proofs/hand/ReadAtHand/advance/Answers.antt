@@ -1,7 +1,7 @@
 -- The list is as long as it was.
 use Rattle.std.proofs.Common.{◌≡◌, List, ℕ, length, sym, subst, rules}
 use Rattle.nv_calls.specs.reads.ReadMachines.{IsReadUnderWay, ReadGoes}
-use Rattle.nv_schedule.proofs.HandLaws.{laid_whole}
+use Rattle.nv_schedule.proofs.turns.HandLaws.{laid_whole}
 use Rattle.nv_schedule.proofs.hand.ReadAtHand.advance.Goals as goal
 
 pub returns-clause-goes : goal.returns-clause-goes

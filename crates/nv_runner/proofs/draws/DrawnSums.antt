@@ -14,7 +14,7 @@ use Rattle.nv_runner.specs.Faithful.{is_later, not_later}
 use Rattle.nv_runner.specs.Lists.{MadeCall}
 use Rattle.nv_runner.specs.RunRefusals.{calls_that_drew}
 use Rattle.nv_runner.specs.Runs.{entries_drawn, entries_if, has_drawn}
-use Rattle.nv_runner.proofs.HistorySums.{added, added_same}
+use Rattle.nv_runner.proofs.histories.HistorySums.{added, added_same}
 
 -- smaller values have a smaller sum
 pub added_most : {X : Type 0} (few many : X → ℕ) (xs : List X) → ((x : X) → IsOneOf xs x → few x ≤ many x) → added few xs ≤ added many xs

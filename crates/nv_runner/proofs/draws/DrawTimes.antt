@@ -23,11 +23,11 @@ use Rattle.nv_runner.specs.Histories.{ComesBefore}
 use Rattle.nv_runner.specs.Lists.{AreMade, MadeCall}
 use Rattle.nv_runner.specs.Runs.{entries_if, has_drawn}
 use Rattle.nv_runner.specs.Shifts.{IsShift, Shift}
-use Rattle.nv_runner.proofs.DrawMoments.{IsBare, IsTimed, drawn_at, head_at, part_less, pass_at, stands_at, timed}
-use Rattle.nv_runner.proofs.DrawSteps.{opened_entries}
-use Rattle.nv_runner.proofs.DrawnSums.{drew}
-use Rattle.nv_runner.proofs.HistoryMembers.{contained, one_mapped}
-use Rattle.nv_runner.proofs.HistorySums.{added, added_none}
+use Rattle.nv_runner.proofs.draws.DrawMoments.{IsBare, IsTimed, drawn_at, head_at, part_less, pass_at, stands_at, timed}
+use Rattle.nv_runner.proofs.draws.DrawSteps.{opened_entries}
+use Rattle.nv_runner.proofs.draws.DrawnSums.{drew}
+use Rattle.nv_runner.proofs.histories.HistoryMembers.{contained, one_mapped}
+use Rattle.nv_runner.proofs.histories.HistorySums.{added, added_none}
 use Rattle.nv_runner.proofs.RefusalWords.{WordLaws}
 use Rattle.nv_runner.proofs.ShiftRuns.{DrawnLaws, chain, drawn_here, drawn_less, shift_draws}
 

@@ -9,8 +9,8 @@ use Rattle.nv_runner.specs.declared.answer.Answer.{Answer}
 use Rattle.nv_runner.specs.declared.answer.Answer.TheVariants.{Placed}
 use Rattle.nv_runner.specs.Lists.{MadeCall}
 use Rattle.nv_runner.specs.Histories.{PlacedCall, placed_calls, placed_in_answer}
-use Rattle.nv_runner.proofs.HistoryMembers.{contained, one_mapped, one_of_joined}
-use Rattle.nv_runner.proofs.HistoryRows.{AreRow, head_before}
+use Rattle.nv_runner.proofs.histories.HistoryMembers.{contained, one_mapped, one_of_joined}
+use Rattle.nv_runner.proofs.histories.HistoryRows.{AreRow, head_before}
 
 -- ---- where a placed call comes from
 

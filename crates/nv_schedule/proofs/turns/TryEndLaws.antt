@@ -49,7 +49,7 @@ use Rattle.nv_schedule.specs.declared.hand.Hand.TheVariants.{Reading, Writing, S
 use Rattle.nv_schedule.proofs.AnswerLaws.{CallLaws, tried_since}
 use Rattle.nv_schedule.proofs.BarredLaws.{for_good}
 use Rattle.nv_schedule.proofs.BusyLaws.{IsMidCall, IsOnWay, lent_way, read_way, sync_way}
-use Rattle.nv_schedule.proofs.WayLaws.{of_trying}
+use Rattle.nv_schedule.proofs.turns.WayLaws.{of_trying}
 
 -- ---- a try that is over
 

@@ -19,12 +19,12 @@ use Rattle.nv_runner.specs.Lists.{MadeCall, placed}
 use Rattle.nv_runner.specs.Shifts.{AreInOrder, ComesBehind, HasRun, IsShift, Shift}
 use Rattle.nv_runner.specs.Histories.{AreHistory, ComesBefore, IsHistoryOfPasses, PlacedCall, RoundsRise, SortedAreHistory, placed_calls, placed_in_answer}
 use Rattle.nv_runner.proofs.ListLaws.{made_mine, made_stand}
-use Rattle.nv_runner.proofs.HistoryMembers.{of_one, one_in_joined, one_mapped, one_moved, one_of_joined}
-use Rattle.nv_runner.proofs.HistorySums.{added, added_joined, added_mapped, added_moved, added_none, added_same, if_same, once_there, same_counts, some_there, times_there}
-use Rattle.nv_runner.proofs.HistoryRows.{AreRow, IsIn, as_many, prefix_length, prefix_refl, row_is_in, stand_in_row}
-use Rattle.nv_runner.proofs.HistoryCounts.{hits, hits_at, hits_none, hits_past, own_hits}
-use Rattle.nv_runner.proofs.HistoryOrder.{LinesRise, LinesTell, lines_rise, made_of, row_lines}
-use Rattle.nv_runner.proofs.HistorySorted.{AreOnceAt, at_places, keep_order, stand_in_turn, times_at}
+use Rattle.nv_runner.proofs.histories.HistoryMembers.{of_one, one_in_joined, one_mapped, one_moved, one_of_joined}
+use Rattle.nv_runner.proofs.histories.HistorySums.{added, added_joined, added_mapped, added_moved, added_none, added_same, if_same, once_there, same_counts, some_there, times_there}
+use Rattle.nv_runner.proofs.histories.HistoryRows.{AreRow, IsIn, as_many, prefix_length, prefix_refl, row_is_in, stand_in_row}
+use Rattle.nv_runner.proofs.histories.HistoryCounts.{hits, hits_at, hits_none, hits_past, own_hits}
+use Rattle.nv_runner.proofs.histories.HistoryOrder.{LinesRise, LinesTell, lines_rise, made_of, row_lines}
+use Rattle.nv_runner.proofs.histories.HistorySorted.{AreOnceAt, at_places, keep_order, stand_in_turn, times_at}
 
 -- ---- two shifts
 

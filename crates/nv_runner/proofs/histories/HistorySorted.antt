@@ -10,9 +10,9 @@ use Rattle.nv_core.specs.state.Passes.{IsOneOf}
 use Rattle.nv_mount.specs.declared.fds.Fd.{Fd}
 use Rattle.nv_trace.specs.declared.trace_call.TracedCall.{TracedCall}
 use Rattle.nv_runner.specs.Histories.{AreAtPlaces, ComesBefore, KeepOrder, PlacedCall, StandsAs}
-use Rattle.nv_runner.proofs.HistoryMembers.{contained, of_each}
-use Rattle.nv_runner.proofs.HistorySums.{added, added_none, if_same, same_counts, other_counts}
-use Rattle.nv_runner.proofs.HistoryRows.{IsIn}
+use Rattle.nv_runner.proofs.histories.HistoryMembers.{contained, of_each}
+use Rattle.nv_runner.proofs.histories.HistorySums.{added, added_none, if_same, same_counts, other_counts}
+use Rattle.nv_runner.proofs.histories.HistoryRows.{IsIn}
 
 -- how many of some are at a place
 abbrev pub times_at : List PlacedCall → (place : ℕ) → ℕ

@@ -8,8 +8,8 @@ use Rattle.nv_core.specs.invariant.OneHistory.{calls_by}
 use Rattle.nv_mount.specs.declared.fds.Fd.{Fd}
 use Rattle.nv_runner.specs.Lists.{StandsBehind, as_placed}
 use Rattle.nv_runner.specs.Histories.{PlacedCall}
-use Rattle.nv_runner.proofs.HistorySums.{added, if_same, same_counts, other_counts}
-use Rattle.nv_runner.proofs.HistoryRows.{AreRow}
+use Rattle.nv_runner.proofs.histories.HistorySums.{added, if_same, same_counts, other_counts}
+use Rattle.nv_runner.proofs.histories.HistoryRows.{AreRow}
 
 -- ---- how many
 

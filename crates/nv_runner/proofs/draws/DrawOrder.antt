@@ -15,9 +15,9 @@ use Rattle.nv_runner.specs.Histories.{ComesBefore, KeepOrder}
 use Rattle.nv_runner.specs.Lists.{MadeCall}
 use Rattle.nv_runner.specs.RunRefusals.{calls_that_drew}
 use Rattle.nv_runner.specs.Runs.{entries_if, has_drawn}
-use Rattle.nv_runner.proofs.DrawTimes.{Timed, drew_by}
-use Rattle.nv_runner.proofs.HistoryMembers.{of_each, one_moved, one_of_mapped}
-use Rattle.nv_runner.proofs.HistorySums.{added, added_append, added_none, added_same}
+use Rattle.nv_runner.proofs.draws.DrawTimes.{Timed, drew_by}
+use Rattle.nv_runner.proofs.histories.HistoryMembers.{of_each, one_moved, one_of_mapped}
+use Rattle.nv_runner.proofs.histories.HistorySums.{added, added_append, added_none, added_same}
 
 -- ---- by their times
 

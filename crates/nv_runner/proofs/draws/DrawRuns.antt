@@ -11,7 +11,7 @@ use Rattle.nv_core.specs.invariant.Draws.{drawn_of, open_entries}
 use Rattle.nv_core.specs.invariant.InvariantLaws.{EventsKeepSound}
 use Rattle.nv_core.specs.invariant.Sound.{Sound}
 use Rattle.nv_calls.specs.histories.Faults.{OpenWrite, open_in}
-use Rattle.nv_runner.proofs.DrawSteps.{PassStep, drawn_is, ended_calls, ended_entries, event_steps}
+use Rattle.nv_runner.proofs.draws.DrawSteps.{PassStep, drawn_is, ended_calls, ended_entries, event_steps}
 
 -- some open writes are those of before, or these with one more, whose first number is this one
 abbrev pub AddsAt : (head : ℕ) → (before now : List OpenWrite) → Type 0

@@ -26,8 +26,8 @@ use Rattle.nv_runner.specs.declared.answer.Answer.{Answer}
 use Rattle.nv_runner.specs.declared.answer.Answer.TheVariants.{Placed, Refused, Open}
 use Rattle.nv_runner.specs.Calls.{IsAnswered, call_on, opened_on}
 use Rattle.nv_runner.specs.Runs.{entries_drawn, has_drawn}
-use Rattle.nv_runner.proofs.DrawRuns.{DrawsAt, draws_at}
-use Rattle.nv_runner.proofs.DrawSteps.{ended_calls, ended_entries, opened_entries}
+use Rattle.nv_runner.proofs.draws.DrawRuns.{DrawsAt, draws_at}
+use Rattle.nv_runner.proofs.draws.DrawSteps.{ended_calls, ended_entries, opened_entries}
 use Rattle.nv_runner.proofs.PassLaws.{shorter_begins}
 use Rattle.nv_runner.proofs.RefusalWords.{WordLaws}
 use Rattle.nv_runner.proofs.ShiftRuns.{DrawnLaws, drawn, drawn_less}
