@@ -196,7 +196,7 @@ next_finds_recovered holding told text recovered own =
 
 -- ---- behind a look
 
-some_is : {X : Type 0} {x y : X} → Some x ≡ Some y → x ≡ y
+pub some_is : {X : Type 0} {x y : X} → Some x ≡ Some y → x ≡ y
 some_is {X} {x} {y} same = cc
 
 -- a bench whose stores came back as they were begins a run as before
@@ -393,12 +393,12 @@ module _ (worker : Bool) (basis : Basis) (trace : Traced) (report : Report) (rep
   descriptors = descriptors_in basis.names trace
 
   -- it is legal, and leaves the files that are shown
-  done_legal : IsLegal (done_by basis trace report) basis.files
+  pub done_legal : IsLegal (done_by basis trace report) basis.files
   done_legal =
       let history = history_of descriptors report.history in
       IsLegal-append history (kept_calls descriptors report.open_calls) basis.files (reported_legal worker basis trace report reported) (kept_legal descriptors report.open_calls (after history basis.files))
 
-  done_after : after (done_by basis trace report) basis.files ≡ files_shown basis trace report
+  pub done_after : after (done_by basis trace report) basis.files ≡ files_shown basis trace report
   done_after =
       let history = history_of descriptors report.history in
       after-append history (kept_calls descriptors report.open_calls) basis.files ∙ kept_after descriptors report.open_calls (after history basis.files)

@@ -27,6 +27,7 @@ pub mod AcceptedLemmas
 pub mod CompleteLemmas
 pub mod NextLemmas
 pub mod FoundLemmas
+pub mod InTurnLemmas
 pub mod FollowedLemmas
 pub mod SchedulingLemmas
 pub mod ScheduleLifeLemmas

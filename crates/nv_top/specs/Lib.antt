@@ -23,3 +23,4 @@ pub mod Lives
 pub mod Reported
 pub mod Accepted
 pub mod NextCommands
+pub mod InTurn

@@ -4,6 +4,7 @@ ghost use Rattle.nv_trace.specs.declared.trace.Form.TheVariants as forms;
 ghost use Rattle.nv_top.specs.Accepted.{NextIsAccepted, WhatIsMadeIsGood};
 ghost use Rattle.nv_top.specs.Endings.{IsTrace};
 ghost use Rattle.nv_top.specs.Headline.{PlainIsUnhindered, RefusedIsNotGood, ShownIsNotRefused};
+ghost use Rattle.nv_top.specs.InTurn.{EachHasALife, LivesGoOnInTurn};
 ghost use Rattle.nv_top.specs.Loads.{NewBenchesAreFresh};
 ghost use Rattle.nv_top.specs.NextCommands.{NextBeginsBehind, NextBeginsBehindRecovery, NextBeginsBehindSchedule, NextBeginsBehindStop, NextFindsLooked, NextFindsRecovered, NextFindsRun, NextFindsScheduled, NextFindsShown, NextFindsStopped, NextIsReady, RunsHaveOneHistory};
 ghost use Rattle.nv_top.specs.Readings.{OneNumber, OneReading, OneRecoveryReading};
@@ -45,6 +46,14 @@ pub fn a_next_command_may_follow()
     ensures finds_recovered { NextFindsRecovered }
     ensures finds_looked { NextFindsLooked }
     ensures one_history { RunsHaveOneHistory }
+{}
+
+/// Any commands that follow one another on one bench, each with status 0, make one way of its files: each begins with those that the one before it
+/// left, and behind them the files of new names, and leaves those after its own history and the kept ones of the writes that it left open, which are
+/// legal from there. So a write that was lost in one of them is in no later one. A recovery and a look do nothing to files.
+pub fn lives_go_on_in_turn()
+    ensures each { EachHasALife }
+    ensures all { LivesGoOnInTurn }
 {}
 
 /// A command that shows what it does wasn't refused by the region of its bench: one that is refused for its bytes, or for too many

@@ -29,7 +29,8 @@ pub use ending::{
 };
 pub use laws::{
     a_next_command_may_follow, a_plain_command_is_unhindered, a_refused_region_shows_nothing,
-    a_region_stays_accepted, fates_are_tied, report_has_one_reading, statuses_tell_what_came,
+    a_region_stays_accepted, fates_are_tied, lives_go_on_in_turn, report_has_one_reading,
+    statuses_tell_what_came,
 };
 pub use nv_runner::{Gate, OpenGate, Point};
 pub use nv_words::{Command, RunOptions};
