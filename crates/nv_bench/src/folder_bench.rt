@@ -155,6 +155,7 @@ impl<R: Files<File = File> + Copy> FolderBench<R> {
         ensures lent { OnOk result (folder_state self.new ≡ store_lent name.now (folder_state self.old)) }
         ensures faults { IfOk result (λ store. store_faults store ≡ 0) }
         ensures kept { OnErr result (folder_state self.new ≡ folder_state self.old) }
+        ensures kind { is_read_only self.new ≡ is_read_only self.old }
     {
         let lent = String::from_str(self.alloc, name)?;
         let files = self.files.as_str();
@@ -171,6 +172,7 @@ impl<R: Files<File = File> + Copy> FolderBench<R> {
         ensures failed { error ≡ Failed → Rose (folder_state self.old).faults (folder_state self.new).faults }
         ensures kept { folder_state self.new ≡ with_faults (folder_state self.new).faults (folder_state self.old) }
         ensures memory { error ≡ NoRoom → folder_state self.new ≡ folder_state self.old }
+        ensures kind { is_read_only self.new ≡ is_read_only self.old }
     {
         if matches!(error, BenchError::Failed) {
             self.faults = self.faults.saturating_add(1);
@@ -180,12 +182,16 @@ impl<R: Files<File = File> + Copy> FolderBench<R> {
 }
 
 impl<R: Files<File = File> + Copy + Drop + Send> Bench for FolderBench<R> {
-    ghost use Rattle.nv_pmem.specs.FilePart.{part_history, part_faults};
+    ghost use Rattle.std.specs.Prelude.{[], All, Err, IfSome};
+    ghost use Rattle.nv_plain.specs.Faults.{saturated};
+    ghost use Rattle.nv_pmem.specs.FilePart.{part_history, part_faults, part_room};
     ghost use Rattle.nv_pmem.specs.Part.{Part as PartState};
-    ghost use Rattle.nv_pmem.specs.RowStates.{AreNow};
+    ghost use Rattle.nv_pmem.specs.RowStates.{AreNow, IsNow};
     ghost use Rattle.nv_store.specs.FileStore.{store_history};
     ghost use Rattle.nv_store.specs.Store.{Store as StoreState};
-    ghost use Rattle.nv_bench.specs.Benches.{told_back, taken_back};
+    ghost use Rattle.nv_bench.specs.Benches.{region_lent, told_back, taken_back};
+    ghost use Rattle.nv_bench.specs.Holding.{store_of};
+    ghost use Rattle.nv_bench.specs.Opening.{IsFreshWhereQuiet, opened};
 
     type Part = FilePart<R>;
 
@@ -199,7 +205,19 @@ impl<R: Files<File = File> + Copy + Drop + Send> Bench for FolderBench<R> {
         false
     }
 
-    fn open_region(&mut self, want: Option<Geometry>) -> Result<Vec<FilePart<R>>, BenchError> {
+    fn open_region(&mut self, want: Option<Geometry>) -> Result<Vec<FilePart<R>>, BenchError>
+        ensures lent { OnOk result (folder_state self.new ≡ with_faults (folder_state self.new).faults (region_lent (folder_state self.old))) }
+        ensures told { IfOk result (λ parts. IfSome (folder_state self.old).told (λ holding.
+            AreNow (map part_history parts.items) (opened want holding.parts))) }
+        ensures untold { IfOk result (λ parts. (folder_state self.old).told ≡ None → All (λ part. part_history part ≡ []) parts.items) }
+        ensures fresh { IfOk result (λ parts. All (λ part. IsFreshWhereQuiet (part_history part) (part_room part)) parts.items) }
+        ensures counts { IfOk result (λ parts.
+            (folder_state self.old).faults ≡ saturated ((folder_state self.new).faults + sum_by part_faults parts.items)) }
+        ensures failed { result ≡ Err Failed → Rose (folder_state self.old).faults (folder_state self.new).faults }
+        ensures kept { OnErr result (folder_state self.new ≡ with_faults (folder_state self.new).faults (folder_state self.old)) }
+        ensures memory { result ≡ Err NoRoom → folder_state self.new ≡ folder_state self.old }
+        ensures kind { is_read_only self.new ≡ is_read_only self.old }
+    {
         match self.open_all(want) {
             Ok(Opened { lock, parts, ids }) => {
                 self.lock = lock;
@@ -211,7 +229,18 @@ impl<R: Files<File = File> + Copy + Drop + Send> Bench for FolderBench<R> {
         }
     }
 
-    fn open_store(&mut self, name: &str) -> Result<FileStore<File>, BenchError> {
+    fn open_store(&mut self, name: &str) -> Result<FileStore<File>, BenchError>
+        ensures lent { OnOk result (folder_state self.new ≡ with_faults (folder_state self.new).faults (store_lent name.now (folder_state self.old))) }
+        ensures told { IfOk result (λ store. IfSome (folder_state self.old).told (λ holding.
+            IsNow (store_history store) (store_of name.now holding.stores))) }
+        ensures untold { IfOk result (λ store. (folder_state self.old).told ≡ None → store_history store ≡ []) }
+        ensures counts { IfOk result (λ store.
+            (folder_state self.old).faults ≡ saturated ((folder_state self.new).faults + store_faults store)) }
+        ensures failed { result ≡ Err Failed → Rose (folder_state self.old).faults (folder_state self.new).faults }
+        ensures kept { OnErr result (folder_state self.new ≡ with_faults (folder_state self.new).faults (folder_state self.old)) }
+        ensures memory { result ≡ Err NoRoom → folder_state self.new ≡ folder_state self.old }
+        ensures kind { is_read_only self.new ≡ is_read_only self.old }
+    {
         match self.lend(name) {
             Ok(store) => Ok(store),
             Err(error) => Err(self.refuse(error)),
@@ -220,7 +249,8 @@ impl<R: Files<File = File> + Copy + Drop + Send> Bench for FolderBench<R> {
 
     /// Files can't be armed: this does nothing.
     fn arm(&mut self, _k: u64)
-        ensures { folder_state self.new ≡ folder_state self.old }
+        ensures kept { folder_state self.new ≡ folder_state self.old }
+        ensures kind { is_read_only self.new ≡ is_read_only self.old }
     {}
 
     fn give_back(&mut self, parts: Vec<FilePart<R>>, stores: Vec<FileStore<File>>)
@@ -232,6 +262,7 @@ impl<R: Files<File = File> + Copy + Drop + Send> Bench for FolderBench<R> {
             → AreNow (map part_history parts.items) now → AreNow (map store_history stores.items) held
             → (folder_state self.new).told ≡ told_back now held (folder_state self.old) }
         ensures untold { (folder_state self.old).told ≡ None → (folder_state self.new).told ≡ None }
+        ensures kind { is_read_only self.new ≡ is_read_only self.old }
     {
         self.faults = self
             .faults
@@ -247,7 +278,8 @@ impl<R: Files<File = File> + Copy + Drop + Send> Bench for FolderBench<R> {
 
     /// Files can't be made to lose power: this does nothing.
     fn power(&mut self, _pick: Pick) -> Result<(), NoMemory>
-        ensures { folder_state self.new ≡ folder_state self.old }
+        ensures kept { folder_state self.new ≡ folder_state self.old }
+        ensures kind { is_read_only self.new ≡ is_read_only self.old }
     {
         Ok(())
     }
