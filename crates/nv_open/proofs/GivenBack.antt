@@ -20,8 +20,9 @@ use Rattle.nv_recover.specs.Telling.{AllTell}
 use Rattle.nv_pmem.specs.Rows.{row_words}
 use Rattle.nv_open.specs.Held.{HoldFiles, header_names, returned}
 use Rattle.nv_open.specs.Lending.{stores_lent, stores_named, without_named, without_stores}
-use Rattle.nv_open.specs.Unopened.{HasHeader, GivesBack, IsAtRestWith, IsGood, IsUntouched, StandAsBefore, StandsAsBefore, TellsOf}
+use Rattle.nv_open.specs.Unopened.{HasHeader, HaveSameLines, GivesBack, IsAtRestWith, IsGood, IsUntouched, StandAsBefore, StandsAsBefore, TellsOf}
 use Rattle.nv_open.proofs.Homes.{all_same_again, back_again, none_in, others_again, same_again}
+use Rattle.nv_open.proofs.LineCounts.{lines_at}
 use Rattle.nv_open.proofs.LogLaws.{states_many}
 use Rattle.nv_open.proofs.Returns.{named_quiet}
 use Rattle.nv_open.proofs.Stands.{stands_read}
@@ -81,7 +82,7 @@ module _ {X Y : Type 0} (part_history : X → lines.PartHistory) (store_history 
           is_so =
               stands_read told holding.stores back (row_tells_at (map part_history before) AreQuiet told told_are quiet) (named_quiet (header_names told) holding.stores still) readable refl
               (all_same_again (header_names told) lent holding.stores (home_distinct old holding named told_is home))
-              (record { many_are = refl; others = λ name other. same_again name lent holding.stores (home_distinct old holding named told_is home) });
+              (record { lines_are = refl; others = λ name other. same_again name lent holding.stores (home_distinct old holding named told_is home) });
         };
       }))
 
@@ -127,11 +128,11 @@ module _ {X Y : Type 0} (part_history : X → lines.PartHistory) (store_history 
   none_of_header = row_tells_from (map part_history before) (AreOfHeader []) (λ told told_are name there. absurd (none_in name there))
 
   -- devices of a recovery that failed
-  pub stood_back : (names : List (List ℕ)) → RowTells (map part_history before) (λ told. header_names told ≡ names) → AreFileNames version_1 names → length stores ≡ length names → length now ≡ length before
+  pub stood_back : (names : List (List ℕ)) → RowTells (map part_history before) (λ told. header_names told ≡ names) → AreFileNames version_1 names → length stores ≡ length names → HaveSameLines (map part_history before) (map part_history now)
       → new ≡ with_faults new.faults (stores_lent names old)
       → ((holding : Holding) → old.told ≡ Some holding → (told : List Part) → AreNow (map part_history before) told → StandAsBefore told (stores_named names holding.stores) (map part_history now) (map store_history stores))
       → IfSome old.told (λ holding. RowTells (map part_history before) (λ told. HasHeader told → GivesBack part_history store_history (StandsAsBefore (record { parts = told; stores = holding.stores })) new now stores))
-  stood_back names named_so are_names one_each as_many is stands =
+  stood_back names named_so are_names one_each alike is stands =
       if_some old.told (λ holding. RowTells (map part_history before) (λ told. HasHeader told → GivesBack part_history store_history (StandsAsBefore (record { parts = told; stores = holding.stores })) new now stores)) (λ holding told_is.
       row_tells_from (map part_history before) (λ told. HasHeader told → GivesBack part_history store_history (StandsAsBefore (record { parts = told; stores = holding.stores })) new now stores) (λ told told_are readable.
       let left = stands holding told_is told told_are in
@@ -153,9 +154,7 @@ module _ {X Y : Type 0} (part_history : X → lines.PartHistory) (store_history 
             same_names = left.same_names;
             stands = subst Stands (sym same) (subst (λ held. StandsStill (row_words told) (files_of (stores_named names holding.stores)) left.now held) (sym again) left.stands);
             rest = record {
-              many_are =
-                  states_many (map part_history now) left.now left.now_are ∙ length-map now part_history ∙ as_many
-                  ∙ sym (states_many (map part_history before) told told_are ∙ length-map before part_history);
+              lines_are = lines_at (map part_history before) (map part_history now) told left.now alike told_are left.now_are;
               others = λ name other. others_again name names holding.stores left.held (subst (λ these. ¬ (Contains these name)) same other);
             };
           };
@@ -209,7 +208,7 @@ still_stands old new was is told quiet readable =
       now = was;
       told_is = ap (λ (state : BenchState). state.told) is ∙ told;
       is_so = stands_read was.parts was.stores was still.parts (named_quiet (header_names was.parts) was.stores still.stores) readable refl refl
-          (record { many_are = refl; others = λ name other. refl });
+          (record { lines_are = refl; others = λ name other. refl });
     }
 
 pub still_untouched : (old new : BenchState) (was : Holding) → new ≡ with_faults new.faults old → old.told ≡ Some was → TellsOf (IsUntouched was) new.told

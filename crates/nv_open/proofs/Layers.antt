@@ -1,11 +1,10 @@
 -- What each step of an opening leaves, put together of what its calls did.
 use Rattle.std.proofs.Common.{◌≡◌, ◌+◌, ℕ, List, [], ◌++◌, length, map, true, false, sym, ap, ◌∙◌, subst, arith, length-append}
 use Rattle.std.specs.Prelude.{All, IfSome, Option, None, Some, option_map, Vec, Result, Ok, Err, IfOk, IfErr}
-use Rattle.std.proofs.lemmas.List.{length-map}
 use Rattle.nv_plain.specs.Files.{Files}
 use Rattle.nv_pmem.specs.Moments.{Tells}
 use Rattle.nv_pmem.specs.Part.{Part}
-use Rattle.nv_pmem.specs.RowStates.{row_tells_at, row_tells_from}
+use Rattle.nv_pmem.specs.RowStates.{AreNow, TellingRowsHaveStates, row_tells_at, row_tells_from}
 use Rattle.nv_pmem.specs.Rows.{RowTells}
 use Rattle.nv_pmem.specs.Steps as lines
 use Rattle.nv_pmem.specs.declared.geometry.Geometry.{Geometry}
@@ -16,6 +15,7 @@ use Rattle.nv_bench.specs.Holding.{Holding}
 use Rattle.nv_bench.specs.Opening.{is_blank}
 use Rattle.nv_bench.specs.declared.bench.BenchError.{BenchError}
 use Rattle.nv_bench.specs.declared.bench.BenchError.TheVariants.{Failed, NoMemory}
+use Rattle.nv_header.specs.Changes.{parts_after_format}
 use Rattle.nv_header.specs.declared.region.Region.{Region}
 use Rattle.nv_recover.specs.Answers.{answer_of, parts_after}
 use Rattle.nv_recover.specs.Telling.{AllTell}
@@ -26,12 +26,14 @@ use Rattle.nv_open.specs.Begun.{IsFormatted, IsOpeningBegun, files_behind}
 use Rattle.nv_open.specs.Layers.{HasAdded, HasNotAdded, IsBegunOpen, IsNotBegun, IsNotRecovered, IsOpenedOpen, IsRecoveredOpen, IsUnopened}
 use Rattle.nv_open.specs.Lending.{stores_lent, without_named}
 use Rattle.nv_open.specs.Refusals.{IsRefusedFor, of_bench}
-use Rattle.nv_open.specs.Unopened.{GivesBack, HasHeader, HasRest, HasSome, InEachImage, IsGood, IsUntouched, RestsUnopened, StandForFiles, StandsAsBefore, StandsOpening}
+use Rattle.nv_open.specs.Unopened.{GivesBack, HasHeader, HasRest, HasSome, HaveSameLines, InEachImage, IsGood, IsUntouched, RestsUnopened, StandForFiles, StandsAsBefore, StandsOpening, line_counts}
 use Rattle.nv_open.specs.declared.error.OpenError.{OpenError}
 use Rattle.nv_open.specs.declared.error.OpenError.TheVariants as error
 use Rattle.nv_open.specs.declared.error.Refusal.{Refusal}
 use Rattle.nv_open.specs.declared.error.Refusal.TheVariants.{TooManyFiles}
 use Rattle.nv_open.proofs.Beginnings.{begun_formatted, begun_kept, files_blank, if_some_any, if_some_map, refused_kept, unwritten_since}
+use Rattle.nv_open.proofs.GivenBack.{at_some, if_some}
+use Rattle.nv_open.proofs.LineCounts.{lines_behind}
 use Rattle.nv_open.proofs.PartlyBack.{kept_back, never_too_many, too_many_rest, with_wanted}
 use Rattle.nv_open.proofs.WithWanted.{lent_both, not_opened, opened_passed, too_many}
 use Rattle.std.proofs.lemmas.List.Elements.{All-nil}
@@ -66,9 +68,16 @@ not_blank None row P each = tt
 not_blank (Some holding) row P each =
     row_tells_from row (λ told. is_blank told ≡ false → ¬ (IsGood told) → P holding told) (λ told are kept. row_tells_at row (λ told. ¬ (IsGood told) → P holding told) told are each)
 
--- rows of as many parts
-pub as_many : {X : Type 0} (part_history : X → lines.PartHistory) (now before : List X) → map part_history now ≡ map part_history before → length now ≡ length before
-as_many part_history now before same = sym (length-map now part_history) ∙ ap length same ∙ length-map before part_history
+-- the lines of the parts that an error left
+pub lines_left : {X A E : Type 0} {g : _} (part_history : X → lines.PartHistory) (row : List lines.PartHistory) (result : Result (Region X g) (Vec X A × E)) → HaveSameLines row (map part_history (parts_after_format result))
+    → IfErr result (λ failed. HaveSameLines row (map part_history failed.0.items))
+lines_left part_history row (Ok region) alike = tt
+lines_left part_history row (Err failed) alike = alike
+
+pub lines_after : {X A E : Type 0} {g : _} (part_history : X → lines.PartHistory) (row : List lines.PartHistory) (result : Result (Region X g × Recovered) (Vec X A × E)) → HaveSameLines row (map part_history (parts_after result))
+    → IfErr result (λ failed. HaveSameLines row (map part_history failed.0.items))
+lines_after part_history row (Ok done) alike = tt
+lines_after part_history row (Err failed) alike = alike
 
 module _ {X Y : Type 0} (part_history : X → lines.PartHistory) (store_history : Y → StoreHistory) (old new : BenchState) (before : List X) (stores : List Y) where
   -- ---- a recovery
@@ -80,20 +89,20 @@ module _ {X Y : Type 0} (part_history : X → lines.PartHistory) (store_history 
       → IfOk result (λ done. IfSome old.told (λ holding. RowTells (map part_history before) (λ told. HoldFiles (map store_history stores) (files_named told done.0.names holding.stores))))
       → IfOk result (λ done. All (λ (store : Y). Tells (store_history store) IsQuietStore) stores)
       → IfOk result (λ done. IfSome old.told (λ holding. AllTell (map part_history done.0.parts.items)))
-      → IfOk result (λ done. length done.0.parts.items ≡ length back)
+      → HaveSameLines (map part_history back) (map part_history (parts_after result))
       → IfOk result (λ done. IsRecoveredOpen part_history store_history old new before stores done.0.geometry.page done.0.geometry.entries done.0.names done.0.next done.0.parts.items done.1)
-  is_recovered (Ok done) names back lent one_each same are recovered files quiet tell many = record {
+  is_recovered (Ok done) names back lent one_each same are recovered files quiet tell alike = record {
     devices = record {
       lent = subst (λ (these : List (List ℕ)). new ≡ with_faults new.faults (stores_lent these old)) (sym are) lent;
       one_each = one_each ∙ ap length (sym are);
       quiet = quiet;
       tell = tell;
-      many = many ∙ as_many part_history back before same;
+      lines_kept = if_some_any old.told (subst (λ (row : List lines.PartHistory). HaveSameLines row (map part_history done.0.parts.items)) same alike);
     };
     recovered = subst (λ (row : List lines.PartHistory). RowTells row (λ told. IsRecovered told done.0.geometry.page done.0.geometry.entries done.0.names done.0.next done.1)) same recovered;
     files = files;
   }
-  is_recovered (Err failed) names back lent one_each same are recovered files quiet tell many = tt
+  is_recovered (Err failed) names back lent one_each same are recovered files quiet tell alike = tt
 
   pub not_recovered : {A : Type 0} {g : _} (result : Result (Region X g × Recovered) (Vec X A × OpenError))
       → ((why : Refusal) → answer_of result ≡ Err (error.Refused why) → RowTells (map part_history before) (λ told. IsRefusedFor told why))
@@ -117,56 +126,56 @@ module _ {X Y : Type 0} (part_history : X → lines.PartHistory) (store_history 
       → new ≡ with_faults new.faults (stores_lent [] old) → stores ≡ [] → map part_history back ≡ map part_history before → RowTells (map part_history before) (λ told. is_blank told ≡ true)
       → IfSome old.told (λ holding. AllTell (map part_history before))
       → IfOk result (λ region. IsFormatted geometry region.geometry.page region.geometry.entries region.names region.next)
-      → IfOk result (λ region. length region.parts.items ≡ length back)
+      → HaveSameLines (map part_history back) (map part_history (parts_after_format result))
       → (AllTell (map part_history back) → IfOk result (λ region. AllTell (map part_history region.parts.items)))
       → IfOk result (λ region. IsBegunOpen part_history store_history old new before stores geometry region.geometry.page region.geometry.entries region.names region.next region.parts.items)
-  formatted_begins (Ok region) back geometry none no_store same blank tell formatted many tells = record {
+  formatted_begins (Ok region) back geometry none no_store same blank tell formatted alike tells = record {
     devices = record {
       lent = subst (λ (these : List (List ℕ)). new ≡ with_faults new.faults (stores_lent these old)) (sym formatted.names_are) none;
       one_each = ap length no_store ∙ sym (ap length formatted.names_are);
       quiet = subst (λ (these : List Y). All (λ (store : Y). Tells (store_history store) IsQuietStore) these) (sym no_store) (All-nil (λ (store : Y). Tells (store_history store) IsQuietStore));
       tell = if_some_map old.told tell (λ told. tells (subst AllTell (sym same) told));
-      many = many ∙ as_many part_history back before same;
+      lines_kept = if_some_any old.told (subst (λ (row : List lines.PartHistory). HaveSameLines row (map part_history region.parts.items)) same alike);
     };
     begun = begun_formatted (map part_history before) geometry region.geometry.page region.geometry.entries region.names region.next blank formatted;
     files = files_blank (map part_history before) (map store_history stores) old.told region.names formatted.names_are (ap (map store_history) no_store) blank;
   }
-  formatted_begins (Err failed) back geometry none no_store same blank tell formatted many tells = tt
+  formatted_begins (Err failed) back geometry none no_store same blank tell formatted alike tells = tt
 
   pub recovered_begins : (back parts : List X) (geometry : Geometry) (page entries : ℕ) (names : List (List ℕ)) (next : ℕ) (found : Recovered)
       → map part_history back ≡ map part_history before → RowTells (map part_history before) (λ told. is_blank told ≡ false)
       → IsRecoveredOpen part_history store_history old new back stores page entries names next parts found
       → IsBegunOpen part_history store_history old new before stores geometry page entries names next parts
   recovered_begins back parts geometry page entries names next found same blank is = record {
-    devices = record { lent = is.devices.lent; one_each = is.devices.one_each; quiet = is.devices.quiet; tell = is.devices.tell; many = is.devices.many ∙ as_many part_history back before same };
+    devices = record { lent = is.devices.lent; one_each = is.devices.one_each; quiet = is.devices.quiet; tell = is.devices.tell; lines_kept = subst (λ (row : List lines.PartHistory). IfSome old.told (λ holding. HaveSameLines row (map part_history parts))) same is.devices.lines_kept };
     begun =
         begun_kept (map part_history before) geometry page entries names next found blank
         (subst (λ (row : List lines.PartHistory). RowTells row (λ told. IsRecovered told page entries names next found)) same is.recovered);
     files = subst (λ (row : List lines.PartHistory). IfSome old.told (λ holding. RowTells row (λ told. HoldFiles (map store_history stores) (files_named told names holding.stores)))) same is.files;
   }
 
-  pub not_formatted : {A : Type 0} {g : _} (result : Result (Region X g) (Vec X A × OpenError))
+  pub not_formatted : {A : Type 0} {g : _} (result : Result (Region X g) (Vec X A × OpenError)) (geometry : Geometry)
       → ((why : Refusal) → IfErr result (λ failed. failed.1 ≡ error.Refused why → IfSome old.told (λ holding. RowTells (map part_history before) (λ told. (is_blank told ≡ false) × IsRefusedFor told why))))
       → ((why : Refusal) → IfErr result (λ failed. failed.1 ≡ error.Refused why → AreUnwritten part_history store_history why old new before failed.0.items stores))
       → ((wanted : List (List ℕ)) → IfErr result (λ failed. IfSome old.told (λ holding. RowTells (map part_history before) (λ told. StandForFiles told
-      → GivesBack part_history store_history (StandsOpening (length told) (record { parts = told; stores = holding.stores }) wanted) new failed.0.items stores))))
+      → GivesBack part_history store_history (StandsOpening (line_counts told) geometry (record { parts = told; stores = holding.stores }) wanted) new failed.0.items stores))))
       → IfErr result (λ failed. IfSome old.told (λ holding. RowTells (map part_history before) (λ told. is_blank told ≡ false → ¬ (IsGood told)
       → GivesBack part_history store_history (IsUntouched (record { parts = told; stores = holding.stores })) new failed.0.items stores)))
-      → IfErr result (λ failed. IsNotBegun part_history store_history old new before failed.0.items stores failed.1)
-  not_formatted (Ok region) refused unwritten standing untouched = tt
-  not_formatted (Err failed) refused unwritten standing untouched = record { refused = refused; unwritten = unwritten; standing = standing; untouched = untouched }
+      → IfErr result (λ failed. IsNotBegun part_history store_history old new before failed.0.items stores geometry failed.1)
+  not_formatted (Ok region) geometry refused unwritten standing untouched = tt
+  not_formatted (Err failed) geometry refused unwritten standing untouched = record { refused = refused; unwritten = unwritten; standing = standing; untouched = untouched }
 
-  pub not_recovered_begins : (back left : List X) (error : OpenError)
+  pub not_recovered_begins : (back left : List X) (geometry : Geometry) (error : OpenError)
       → map part_history back ≡ map part_history before → RowTells (map part_history before) (λ told. is_blank told ≡ false)
       → IsNotRecovered part_history store_history old new back left stores error
-      → IsNotBegun part_history store_history old new before left stores error
-  not_recovered_begins back left error same blank is = record {
+      → IsNotBegun part_history store_history old new before left stores geometry error
+  not_recovered_begins back left geometry error same blank is = record {
     refused = λ why refused.
         if_some_any old.told
         (refused_kept (map part_history before) why blank (subst (λ (row : List lines.PartHistory). RowTells row (λ told. IsRefusedFor told why)) same (is.refused why refused)));
     unwritten = λ why refused. unwritten_since part_history store_history why old new before back left stores same (is.unwritten why refused);
     standing = λ wanted.
-        kept_back part_history store_history old new (map part_history before) left stores wanted blank
+        kept_back part_history store_history old new (map part_history before) left stores geometry wanted blank
         (subst (λ (row : List lines.PartHistory). IfSome old.told (λ holding. RowTells row (λ told. HasHeader told
         → GivesBack part_history store_history (StandsAsBefore (record { parts = told; stores = holding.stores })) new left stores))) same is.standing);
     untouched =
@@ -185,9 +194,9 @@ module _ {X Y : Type 0} (part_history : X → lines.PartHistory) (store_history 
       → (All (λ (store : Y). Tells (store_history store) IsQuietStore) stores_before → All (λ (store : Y). Tells (store_history store) IsQuietStore) stores)
       → IfOk result (λ added. added.geometry ≡ region_geometry) → IfOk result (λ added. added.names ≡ known ++ missing) → IfOk result (λ added. added.next ≡ region_next)
       → (AllTell (map part_history before) → IfOk result (λ added. AllTell (map part_history added.parts.items)))
-      → IfOk result (λ added. length added.parts.items ≡ length before)
+      → HaveSameLines (map part_history before) (map part_history (parts_after_format result))
       → IfOk result (λ added. HasAdded part_history store_history old new region_geometry added.geometry known wanted added.names region_next added.next before added.parts.items stores_before stores)
-  is_added (Ok added) region_geometry known wanted missing region_next stores_before are more files one_each quiet geometry_is names_are next_is tell many = record {
+  is_added (Ok added) region_geometry known wanted missing region_next stores_before are more files one_each quiet geometry_is names_are next_is tell alike = record {
     geometry_is = geometry_is;
     names_are = names_are ∙ ap (λ (these : List (List ℕ)). known ++ these) are;
     next_is = next_is;
@@ -196,14 +205,14 @@ module _ {X Y : Type 0} (part_history : X → lines.PartHistory) (store_history 
     one_each = one_each ∙ ap (λ (these : List (List ℕ)). length stores_before + length these) are;
     quiet = quiet;
     tell = tell;
-    many = many;
+    lines_kept = alike;
   }
-  is_added (Err failed) region_geometry known wanted missing region_next stores_before are more files one_each quiet geometry_is names_are next_is tell many = tt
+  is_added (Err failed) region_geometry known wanted missing region_next stores_before are more files one_each quiet geometry_is names_are next_is tell alike = tt
 
   pub not_added : {A : Type 0} {g : _} (result : Result (Region X g) (Vec X A × OpenError)) (page entries : ℕ) (known wanted : List (List ℕ)) (next : ℕ) (stores_before : List Y)
       → ((why : Refusal) → IfErr result (λ failed. ¬ (failed.1 ≡ error.Refused why)))
-      → ((files : Files) → HoldFiles (map store_history stores_before) files → IfErr result (λ failed. IfSome old.told (λ holding. AllTell (map part_history before)
-      → GivesBack part_history store_history (λ now. InEachImage (HasSome (length known) (all_names known wanted) (files_behind files (new_names known wanted) holding.stores)) now × HasRest (length before) known holding.stores now) new failed.0.items stores)))
+      → ((files : Files) → HoldFiles (map store_history stores_before) files → IfErr result (λ failed. IfSome old.told (λ holding. (told : List Part) → AreNow (map part_history before) told
+      → GivesBack part_history store_history (λ now. InEachImage (HasSome page entries (length known) (all_names known wanted) (files_behind files (new_names known wanted) holding.stores)) now × HasRest (line_counts told) known holding.stores now) new failed.0.items stores)))
       → IfErr result (λ failed. HasNotAdded part_history store_history old new page entries known wanted next before failed.0.items stores_before stores failed.1)
   not_added (Ok added) page entries known wanted next stores_before never standing = tt
   not_added (Err failed) page entries known wanted next stores_before never standing = record {
@@ -213,7 +222,7 @@ module _ {X Y : Type 0} (part_history : X → lines.PartHistory) (store_history 
   }
 
 module _ {X Y A : Type 0} {g : _} (part_history : X → lines.PartHistory) (store_history : Y → StoreHistory) (old mid new : BenchState) (before region_parts : List X) (stores_mid stores : List Y) (geometry : Geometry) (wanted : List (List ℕ))
-    (region_geometry : Geometry) (known : List (List ℕ)) (next : ℕ) (begun : IsBegunOpen part_history store_history old mid before stores_mid geometry region_geometry.page region_geometry.entries known next region_parts) (result : Result (Region X g) (Vec X A × OpenError)) where
+    (region_geometry : Geometry) (known : List (List ℕ)) (next : ℕ) (begun : IsBegunOpen part_history store_history old mid before stores_mid geometry region_geometry.page region_geometry.entries known next region_parts) (states : TellingRowsHaveStates) (result : Result (Region X g) (Vec X A × OpenError)) where
   mid_told : mid.told ≡ option_map (without_named known) old.told
   mid_told = ap (λ (state : BenchState). state.told) begun.devices.lent
 
@@ -232,7 +241,10 @@ module _ {X Y A : Type 0} {g : _} (part_history : X → lines.PartHistory) (stor
           one_each = omega (arith, is.one_each, begun.devices.one_each, ap length is.names_are, length-append known (new_names known wanted));
           quiet = is.quiet begun.devices.quiet;
           tell = if_some_map old.told begun.devices.tell is.tell;
-          many = is.many ∙ begun.devices.many;
+          lines_kept =
+              if_some old.told (λ holding. HaveSameLines (map part_history before) (map part_history added.parts.items)) (λ holding told_is.
+              lines_behind states (map part_history before) (map part_history region_parts) (map part_history added.parts.items) (at_some old.told (λ holding. AllTell (map part_history region_parts)) holding told_is begun.devices.tell)
+              (at_some old.told (λ holding. HaveSameLines (map part_history before) (map part_history region_parts)) holding told_is begun.devices.lines_kept) is.lines_kept);
         };
         known = (known, is.names_are);
         opened =
@@ -257,9 +269,12 @@ module _ {X Y A : Type 0} {g : _} (part_history : X → lines.PartHistory) (stor
         rests =
             too_many_rest {T = ℕ} part_history store_history (Err failed) (λ (failed : Vec X A × OpenError). failed.0.items) (λ (failed : Vec X A × OpenError). failed.1 ≡ error.Refused TooManyFiles) old.told mid.told new (map part_history before) (map part_history region_parts)
             (map store_history stores_mid) stores geometry region_geometry.page region_geometry.entries known wanted next mid_told begun.begun begun.files begun.devices.tell (λ refused. (is.refused TooManyFiles refused).1) is.rests;
-        standing =
-            with_wanted {T = ℕ} part_history store_history (Err failed) (λ (failed : Vec X A × OpenError). failed.0.items) old.told mid.told new (map part_history before) (map part_history region_parts) (map store_history stores_mid) stores geometry
-            region_geometry.page region_geometry.entries known wanted next (length region_parts) (begun.devices.many ∙ sym (length-map before part_history)) mid_told begun.begun begun.files begun.devices.tell is.standing;
+        standing = if_some old.told (λ holding. RowTells (map part_history before) (λ told. StandForFiles told
+            → GivesBack part_history store_history (StandsOpening (line_counts told) geometry (record { parts = told; stores = holding.stores }) wanted) new failed.0.items stores)) (λ holding told_is.
+            at_some old.told (λ holding. RowTells (map part_history before) (λ told. StandForFiles told
+            → GivesBack part_history store_history (StandsOpening (line_counts told) geometry (record { parts = told; stores = holding.stores }) wanted) new failed.0.items stores)) holding told_is
+            (with_wanted {T = ℕ} part_history store_history (Err failed) (λ (failed : Vec X A × OpenError). failed.0.items) old.told mid.told new (map part_history before) (map part_history region_parts) (map store_history stores_mid) stores geometry
+            region_geometry.page region_geometry.entries known wanted next states (at_some old.told (λ holding. HaveSameLines (map part_history before) (map part_history region_parts)) holding told_is begun.devices.lines_kept) mid_told begun.begun begun.files begun.devices.tell is.standing));
         untouched =
             never_bad old.told (map part_history before) (λ holding told. GivesBack part_history store_history (IsUntouched (record { parts = told; stores = holding.stores })) new failed.0.items stores)
             (row_tells_from (map part_history before) (λ told. is_blank told ≡ false → ¬ (IsGood told) → ⊥) (λ told are kept not_good.
@@ -268,7 +283,7 @@ module _ {X Y A : Type 0} {g : _} (part_history : X → lines.PartHistory) (stor
       }
 
 pub not_begun_opens : {X Y : Type 0} (part_history : X → lines.PartHistory) (store_history : Y → StoreHistory) (old new : BenchState) (before back : List X) (stores : List Y) (geometry : Geometry) (wanted : List (List ℕ)) (error : OpenError)
-    → IsNotBegun part_history store_history old new before back stores error → IsUnopened part_history store_history old new before back stores geometry wanted error
+    → IsNotBegun part_history store_history old new before back stores geometry error → IsUnopened part_history store_history old new before back stores geometry wanted error
 not_begun_opens part_history store_history old new before back stores geometry wanted error is = record {
   refused = λ why refused. if_some_map old.told (is.refused why refused) (not_opened (map part_history before) geometry wanted why);
   unwritten = λ why refused other. is.unwritten why refused;

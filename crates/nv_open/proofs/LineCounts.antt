@@ -9,11 +9,14 @@ use Rattle.nv_plain.specs.Layouts.{Layout}
 use Rattle.nv_pmem.specs.Limits.{entry_lines}
 use Rattle.nv_pmem.specs.Part.{Part}
 use Rattle.nv_pmem.specs.Room.{Room, Keeps}
-use Rattle.nv_pmem.specs.RowStates.{AreNow}
+use Rattle.nv_pmem.specs.RowStates.{AreNow, RowsHaveOneState, TellingRowsHaveStates, row_tells_at, row_tells_from}
+use Rattle.nv_pmem.specs.Rows.{RowTells}
 use Rattle.nv_pmem.specs.Steps.{PartHistory}
 use Rattle.nv_header.specs.Laws.{HasSpare}
 use Rattle.nv_header.specs.Needs.{HasLines, header_lines_in, lines_found}
+use Rattle.nv_recover.specs.Telling.{AllTell}
 use Rattle.nv_open.specs.Refusals.{rooms_of}
+use Rattle.nv_open.specs.Unopened.{HaveSameLines, line_counts}
 
 -- how many lines each has
 abbrev pub counts_of : List Room → List ℕ
@@ -100,3 +103,44 @@ told_counts history room lines (part ∷ parts) [] are = absurd are
 told_counts history room lines (part ∷ parts) (now ∷ told) are =
     ap (λ (count : ℕ). count ∷ counts_of (map room parts)) (sym (lines part now are.0.past are.0.is))
     ∙ ap (λ (others : List ℕ). length now ∷ others) (told_counts history room lines parts told are.1)
+
+rooms_counted : (parts : List Part) → counts_of (rooms_of parts) ≡ line_counts parts
+rooms_counted [] = refl
+rooms_counted (part ∷ parts) = ap (λ (counts : List ℕ). length part ∷ counts) (rooms_counted parts)
+
+counted_rooms : {X : Type 0} (room : X → Room) (parts : List X) → counts_of (map room parts) ≡ map (λ part. (room part).lines) parts
+counted_rooms room [] = refl
+counted_rooms room (part ∷ parts) = ap (λ (counts : List ℕ). (room part).lines ∷ counts) (counted_rooms room parts)
+
+-- parts that tell the same have the same lines that they say
+pub long_alike : (layout : Layout) (page entries : ℕ) (parts others : List Part) → line_counts parts ≡ line_counts others → HasLines layout page entries (rooms_of parts) → HasLines layout page entries (rooms_of others)
+long_alike layout page entries parts others same = has_lines_same layout page entries (rooms_of parts) (rooms_of others) (rooms_counted parts ∙ same ∙ sym (rooms_counted others))
+
+-- ---- parts before and after a call
+
+-- what is said of two rows, at their states
+pub lines_at : (old new : List PartHistory) (was now : List Part) → HaveSameLines old new → AreNow old was → AreNow new now → line_counts now ≡ line_counts was
+lines_at old new was now same was_are now_are =
+    row_tells_at new (λ now. line_counts now ≡ line_counts was) now now_are (row_tells_at old (λ was. RowTells new (λ now. line_counts now ≡ line_counts was)) was was_are same)
+
+pub lines_from : (old new : List PartHistory) → ((was now : List Part) → AreNow old was → AreNow new now → line_counts now ≡ line_counts was) → HaveSameLines old new
+lines_from old new each =
+    row_tells_from old (λ was. RowTells new (λ now. line_counts now ≡ line_counts was)) (λ was was_are. row_tells_from new (λ now. line_counts now ≡ line_counts was) (λ now now_are. each was now was_are now_are))
+
+-- parts whose rooms have as many lines
+pub same_lines : {X : Type 0} (history : X → PartHistory) (room : X → Room) → ((p : X) (now : Part) (past : PartHistory) → history p ≡ now ∷ past → length now ≡ (room p).lines)
+    → (old new : List X) → map (λ part. (room part).lines) new ≡ map (λ part. (room part).lines) old → HaveSameLines (map history old) (map history new)
+same_lines history room lines old new same =
+    lines_from (map history old) (map history new) (λ was now was_are now_are.
+    sym (rooms_counted now) ∙ sym (told_counts history room lines new now now_are) ∙ counted_rooms room new ∙ same ∙ sym (counted_rooms room old) ∙ told_counts history room lines old was was_are ∙ rooms_counted was)
+
+-- the same row
+pub own_lines : RowsHaveOneState → (row : List PartHistory) → HaveSameLines row row
+own_lines one row = lines_from row row (λ was now was_are now_are. ap line_counts (one row now was now_are was_are))
+
+-- one call behind another, where the parts tell between them
+pub lines_behind : TellingRowsHaveStates → (old mid new : List PartHistory) → AllTell mid → HaveSameLines old mid → HaveSameLines mid new → HaveSameLines old new
+lines_behind states old mid new tell first then_ =
+    let between = states mid tell in
+    lines_from old new (λ was now was_are now_are.
+    lines_at mid new between.states now then_ between.are now_are ∙ lines_at old mid was between.states first was_are between.are)

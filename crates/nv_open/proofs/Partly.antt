@@ -6,7 +6,7 @@ use Rattle.std.proofs.Math.Seq.{take-append_seam, take-append-add}
 use Rattle.std.proofs.lemmas.List.{get_or_append_left, get_or-append-add, get_or_default, length-map, length-set, map-append, take-map, take_all}
 use Rattle.std.proofs.lemmas.List.Elements.{All-nil, All-cons, All-append, Contains-append_right}
 use Rattle.nv_plain.specs.Files.{Files}
-use Rattle.nv_plain.specs.Images.{Image}
+use Rattle.nv_plain.specs.Images.{Image, header_of}
 use Rattle.nv_plain.specs.Layouts.{version_1}
 use Rattle.nv_plain.specs.Recovered.{Fits, committed, group_numbers, recovered, with_entry}
 use Rattle.nv_pmem.specs.Part.{Part}
@@ -14,6 +14,7 @@ use Rattle.nv_pmem.specs.Rows.{EachRowMoment, InEachRowImage, RowTells, row_grow
 use Rattle.nv_pmem.specs.RowStates.{AreNow, TellingRowsHaveStates, row_tells_at}
 use Rattle.nv_pmem.specs.Runs.{run}
 use Rattle.nv_pmem.specs.Steps as lines
+use Rattle.nv_pmem.specs.declared.geometry.Geometry.{Geometry}
 use Rattle.nv_store.specs.Steps.{StoreHistory}
 use Rattle.nv_store.specs.Store.{IsQuietStore, Store}
 use Rattle.nv_bench.specs.Benches.{BenchState, with_faults}
@@ -31,10 +32,10 @@ use Rattle.nv_open.specs.Adding.{new_names}
 use Rattle.nv_open.specs.Begun.{files_behind, files_with}
 use Rattle.nv_open.specs.Held.{files_named, header_names}
 use Rattle.nv_open.specs.Lending.{stores_lent, stores_named, without_named, without_stores}
-use Rattle.nv_open.specs.Unopened.{GivesBack, HasFirstNames, HasRest, HasSome, InEachImage, StandsAsBefore, StandsWithSome, TellRow, first_files, names_in, names_known}
+use Rattle.nv_open.specs.Refusals.{head_image}
+use Rattle.nv_open.specs.Unopened.{GivesBack, HasFirstNames, HasRest, HasSome, InEachImage, StandsAsBefore, StandsWithSome, TellRow, entries_known, first_files, line_counts, names_in, names_known, page_known}
 use Rattle.nv_open.proofs.GivenBack.{among}
 use Rattle.nv_open.proofs.Homes.{NotNamed, all_away, all_behind, all_in_front, behind, found_same, in_front, kept_in_all, not_given, one_or_none, other_name, own_stores}
-use Rattle.nv_open.proofs.LogLaws.{states_many}
 use Rattle.nv_open.proofs.Openings.{store_of_others}
 use Rattle.nv_open.proofs.Returns.{named_quiet}
 use Rattle.nv_open.proofs.Tells.{did_tells}
@@ -86,9 +87,22 @@ blank_known parts blank = ap (λ (test : Bool). if test then [] else header_name
 pub kept_known : (parts : List Part) → is_blank parts ≡ false → names_known parts ≡ header_names parts
 kept_known parts blank = ap (λ (test : Bool). if test then [] else header_names parts) blank
 
+-- and so its sizes
+pub blank_page : (parts : List Part) (geometry : Geometry) → is_blank parts ≡ true → page_known parts geometry ≡ geometry.page
+blank_page parts geometry blank = ap (λ (test : Bool). if test then geometry.page else (header_of (head_image parts)).page) blank
+
+pub blank_entries : (parts : List Part) (geometry : Geometry) → is_blank parts ≡ true → entries_known parts geometry ≡ geometry.entries
+blank_entries parts geometry blank = ap (λ (test : Bool). if test then geometry.entries else (header_of (head_image parts)).entries) blank
+
+pub kept_page : (parts : List Part) (geometry : Geometry) → is_blank parts ≡ false → page_known parts geometry ≡ (header_of (head_image parts)).page
+kept_page parts geometry blank = ap (λ (test : Bool). if test then geometry.page else (header_of (head_image parts)).page) blank
+
+pub kept_entries : (parts : List Part) (geometry : Geometry) → is_blank parts ≡ false → entries_known parts geometry ≡ (header_of (head_image parts)).entries
+kept_entries parts geometry blank = ap (λ (test : Bool). if test then geometry.entries else (header_of (head_image parts)).entries) blank
+
 -- its formatting failed, or had not begun
-pub blank_left : (was back : Holding) (wanted : List (List ℕ)) (page entries : ℕ) → is_blank was.parts ≡ true → InEachRowImage (IsBlankOrFormatted version_1 page entries) back.parts → InEachImage (StandsWithSome was wanted) back
-blank_left was back wanted page entries blank each image bytes is are = elim (each image is) [
+pub blank_left : (geometry : Geometry) (was back : Holding) (wanted : List (List ℕ)) → is_blank was.parts ≡ true → InEachRowImage (IsBlankOrFormatted version_1 geometry.page geometry.entries) back.parts → InEachImage (StandsWithSome geometry was wanted) back
+blank_left geometry was back wanted blank each image bytes is are = elim (each image is) [
   | inl none ↦ inl (blank, none)
   | inr empty ↦
       let no_name : names_in image ≡ [] = empty.header.names_are in
@@ -99,15 +113,17 @@ blank_left was back wanted page entries blank each image bytes is are = elim (ea
         count = 0;
         enough = omega (arith, none);
         readable = empty.header.readable;
+        page_is = empty.header.page_is ∙ sym (blank_page was.parts geometry blank);
+        entries_is = empty.header.entries_is ∙ sym (blank_entries was.parts geometry blank);
         names_are = no_name;
-        stands = empty_stands page entries [] 0 image bytes (record { contents = [] }) empty (same_contents bytes [] (no_length bytes.contents no_store));
+        stands = empty_stands geometry.page geometry.entries [] 0 image bytes (record { contents = [] }) empty (same_contents bytes [] (no_length bytes.contents no_store));
       })
 ]
 
 -- ---- a region that stands as before
 
-pub kept_left : (was back : Holding) (wanted : List (List ℕ)) → is_blank was.parts ≡ false → Fits version_1 (row_words was.parts) → StandsAsBefore was back → InEachImage (StandsWithSome was wanted) back
-kept_left was back wanted blank fits stands image bytes is are =
+pub kept_left : (geometry : Geometry) (was back : Holding) (wanted : List (List ℕ)) → is_blank was.parts ≡ false → Fits version_1 (row_words was.parts) → StandsAsBefore was back → InEachImage (StandsWithSome geometry was wanted) back
+kept_left geometry was back wanted blank fits stands image bytes is are =
     let names = header_names was.parts in
     let known = names_known was.parts in
     let same : known ≡ names = kept_known was.parts blank in
@@ -129,6 +145,8 @@ kept_left was back wanted blank fits stands image bytes is are =
       count = length known;
       enough = omega arith;
       readable = place.header.readable;
+      page_is = place.header.page ∙ sym (kept_page was.parts geometry blank);
+      entries_is = place.header.entries ∙ sym (kept_entries was.parts geometry blank);
       names_are = read ∙ sym same ∙ sym (take-append_seam known (new_names known wanted));
       stands = record { fits = stand.fits; recovers = stand.recovers ∙ sym named ∙ sym front };
     })
@@ -224,7 +242,7 @@ module _ (home : List NamedStore) (known new more : List (List ℕ)) (held : Lis
     (are : AreFileNames version_1 (known ++ more)) (long : length known ≡ length held) (files_are : files_of held ≡ files) (quiet : AreQuietStores held) (still : All (λ (named : NamedStore). IsQuietStore named.store) home)
     (apart : (name : List ℕ) → Contains new name → ¬ (Contains known name)) where
   pub begun_left : (back : Holding) → InEachRowImage (HasFirstNames page entries known new next) back.parts → back.stores ≡ without_stores more home ++ (named_stores known held ++ named_stores more (stores_named more home))
-      → InEachImage (HasSome (length known) (known ++ new) (files_behind files new home)) back
+      → InEachImage (HasSome page entries (length known) (known ++ new) (files_behind files new home)) back
   begun_left back each stores image bytes is images =
       let has = each image is in
       let first = take has.count new in
@@ -246,6 +264,8 @@ module _ (home : List NamedStore) (known new more : List (List ℕ)) (held : Lis
         count = length known + has.count;
         enough = omega arith;
         readable = has.empty.header.readable;
+        page_is = has.empty.header.page_is;
+        entries_is = has.empty.header.entries_is;
         names_are = read ∙ sym (take-append-add known new has.count);
         stands =
             empty_stands page entries (known ++ first) next image bytes (first_files (length known + has.count) (files_behind files new home)) has.empty
@@ -253,11 +273,11 @@ module _ (home : List NamedStore) (known new more : List (List ℕ)) (held : Lis
       }
 
   -- and that is what a bench is given back
-  pub begun_back : {X Y : Type 0} (part_history : X → lines.PartHistory) (store_history : Y → StoreHistory) (old bench : BenchState) (parts : List X) (stores : List Y) (left : Holding) (many : ℕ) → length parts ≡ many → old.told ≡ Some left → left.stores ≡ home → old.lent ≡ known
-      → bench ≡ with_faults bench.faults (stores_lent more old) → TellRow (InEachRowImage (HasFirstNames page entries known new next)) (map part_history parts)
+  pub begun_back : {X Y : Type 0} (part_history : X → lines.PartHistory) (store_history : Y → StoreHistory) (old bench : BenchState) (parts : List X) (stores : List Y) (left : Holding) (counts : List ℕ) → old.told ≡ Some left → left.stores ≡ home → old.lent ≡ known
+      → bench ≡ with_faults bench.faults (stores_lent more old) → (row : TellRow (InEachRowImage (HasFirstNames page entries known new next)) (map part_history parts)) → line_counts row.now ≡ counts
       → AreNow (map store_history stores) (held ++ stores_named more home)
-      → GivesBack part_history store_history (λ now. InEachImage (HasSome (length known) (known ++ new) (files_behind files new home)) now × HasRest many known home now) bench parts stores
-  begun_back part_history store_history old bench parts stores left many as_many told at_home lent is row held_are =
+      → GivesBack part_history store_history (λ now. InEachImage (HasSome page entries (length known) (known ++ new) (files_behind files new home)) now × HasRest counts known home now) bench parts stores
+  begun_back part_history store_history old bench parts stores left counts told at_home lent is row counted held_are =
       let now_held = held ++ stores_named more home in
       let all : List NamedStore = without_stores more home ++ (named_stores known held ++ named_stores more (stores_named more home)) in
       let back : Holding = record { parts = row.now; stores = all } in
@@ -278,7 +298,7 @@ module _ (home : List NamedStore) (known new more : List (List ℕ)) (held : Lis
           is_so = (
             begun_left back row.is_so refl,
             record {
-              many_are = states_many (map part_history parts) row.now row.now_are ∙ length-map parts part_history ∙ as_many;
+              lines_are = counted;
               others = λ name other. other_back home known more held distinct own are long name other;
             },
           );

@@ -17,7 +17,7 @@ use Rattle.nv_pmem.specs.declared.geometry.Geometry.{Geometry}
 use Rattle.nv_store.specs.Steps.{StoreHistory}
 use Rattle.nv_store.specs.Store.{IsQuietStore, Store}
 use Rattle.nv_bench.specs.Benches.{BenchState, with_faults}
-use Rattle.nv_bench.specs.Holding.{Holding, IsQuietHolding, NamedStore, store_of}
+use Rattle.nv_bench.specs.Holding.{Holding, NamedStore, store_of}
 use Rattle.nv_bench.specs.Naming.{AreDistinct, HasDistinctStores, names_of}
 use Rattle.nv_bench.specs.Opening.{is_blank, opened}
 use Rattle.nv_header.specs.FileNames.{AreFileNames}
@@ -28,16 +28,18 @@ use Rattle.nv_open.specs.Adding.{all_names, is_known, new_names}
 use Rattle.nv_open.specs.Begun.{IsOpeningBegun, files_behind, files_with}
 use Rattle.nv_open.specs.Held.{HoldFiles, files_named}
 use Rattle.nv_open.specs.Lending.{stores_lent, stores_named, without_named, without_stores}
-use Rattle.nv_open.specs.Unopened.{HasHeader, GivesBack, HasFirstNames, HasRest, HasSome, InEachImage, IsAtRestWith, RestsUnopened, StandForFiles, StandsAsBefore, StandsOpening, StandsUnopened, StandsWithSome, TellRow, TellsOf, names_known}
+use Rattle.nv_open.specs.Unopened.{HasHeader, GivesBack, HasFirstNames, HasRest, HasSome, HaveSameLines, InEachImage, IsAtRestWith, RestsUnopened, StandForFiles, StandsAsBefore, StandsOpening, StandsUnopened, StandsWithSome, TellRow, entries_known, line_counts, names_known, page_known}
 use Rattle.nv_open.specs.Refusals.{IsRefusedFor}
 use Rattle.nv_open.specs.declared.error.Refusal.TheVariants.{TooManyFiles}
 use Rattle.nv_open.proofs.Additions.{are_now_append}
 use Rattle.nv_open.proofs.AsHeld.{begun_before, files_cases}
 use Rattle.nv_open.proofs.BlankLaws.{blank_row}
-use Rattle.nv_open.proofs.GivenBack.{at_some, if_some, still_stands, told_with}
+use Rattle.nv_open.proofs.GivenBack.{at_some, if_some, told_with}
+use Rattle.nv_open.proofs.LineCounts.{lines_at}
 use Rattle.nv_open.proofs.LogLaws.{states_many}
 use Rattle.nv_open.proofs.Openings.{store_of_others}
-use Rattle.nv_open.proofs.Partly.{begun_back, blank_known, blank_left, kept_known, kept_left}
+use Rattle.nv_open.proofs.Partly.{begun_back, blank_entries, blank_known, blank_left, blank_page, kept_entries, kept_known, kept_left, kept_page}
+use Rattle.nv_open.proofs.Returns.{states_tell}
 use Rattle.nv_open.proofs.Sized.{blank_stays, opened_kept}
 use Rattle.nv_open.proofs.WithWanted.{new_stores, not_contained}
 
@@ -58,24 +60,24 @@ by_test true yes_so no_so = yes_so refl
 by_test false yes_so no_so = no_so refl
 
 -- what stands as before stands so too
-pub opening_kept : (was back : Holding) (wanted : List (List ℕ)) → is_blank was.parts ≡ false → Fits version_1 (row_words was.parts) → StandsAsBefore was back → StandsOpening (length was.parts) was wanted back
-opening_kept was back wanted blank fits stands =
+pub opening_kept : (geometry : Geometry) (was back : Holding) (wanted : List (List ℕ)) → is_blank was.parts ≡ false → Fits version_1 (row_words was.parts) → StandsAsBefore was back → StandsOpening (line_counts was.parts) geometry was wanted back
+opening_kept geometry was back wanted blank fits stands =
     let known = names_known was.parts in
     record {
-      images = kept_left was back wanted blank fits stands;
+      images = kept_left geometry was back wanted blank fits stands;
       rest = record {
-        many_are = stands.rest.many_are;
+        lines_are = stands.rest.lines_are;
         others = λ name other. stands.rest.others name
             (λ there. other (Contains-append_left known (new_names known wanted) name (subst (λ names. Contains names name) (sym (kept_known was.parts blank)) there)));
       };
     }
 
-module _ {X Y : Type 0} (part_history : X → lines.PartHistory) (store_history : Y → StoreHistory) (old new : BenchState) (row : List lines.PartHistory) (parts : List X) (stores : List Y) (wanted : List (List ℕ)) where
+module _ {X Y : Type 0} (part_history : X → lines.PartHistory) (store_history : Y → StoreHistory) (old new : BenchState) (row : List lines.PartHistory) (parts : List X) (stores : List Y) (geometry : Geometry) (wanted : List (List ℕ)) where
   abbrev was : List Part → Holding → Holding
   was told holding = record { parts = told; stores = holding.stores }
 
   abbrev Back : List Part → Holding → Type 0
-  Back told holding = GivesBack part_history store_history (StandsOpening (length told) (was told holding) wanted) new parts stores
+  Back told holding = GivesBack part_history store_history (StandsOpening (line_counts told) geometry (was told holding) wanted) new parts stores
 
   abbrev Left : Type 0
   Left = IfSome old.told (λ holding. RowTells row (λ told. StandForFiles told → Back told holding))
@@ -87,15 +89,15 @@ module _ {X Y : Type 0} (part_history : X → lines.PartHistory) (store_history 
       if_some old.told (λ holding. RowTells row (λ told. StandForFiles told → Back told holding)) (λ holding told_is.
       row_tells_from row (λ told. StandForFiles told → Back told holding) (λ told are stand.
       let kept = row_tells_at row (λ told. is_blank told ≡ false) told are blank in
-      gives_more part_history store_history (StandsAsBefore (was told holding)) (StandsOpening (length told) (was told holding) wanted) new parts stores
-      (λ back. opening_kept (was told holding) back wanted kept (stand.fits kept))
+      gives_more part_history store_history (StandsAsBefore (was told holding)) (StandsOpening (line_counts told) geometry (was told holding) wanted) new parts stores
+      (λ back. opening_kept geometry (was told holding) back wanted kept (stand.fits kept))
       (row_tells_at row (λ told. HasHeader told → GivesBack part_history store_history (StandsAsBefore (was told holding)) new parts stores) told are
       (at_some old.told (λ holding. RowTells row (λ told. HasHeader told → GivesBack part_history store_history (StandsAsBefore (was told holding)) new parts stores)) holding told_is stands) (stand.readable kept))))
 
   -- a blank one, to which no store came
-  blank_at : (holding : Holding) (told now : List Part) (page entries : ℕ) → old.told ≡ Some holding → old.lent ≡ [] → new ≡ with_faults new.faults (stores_lent [] old) → AreNow (map store_history stores) [] → is_blank told ≡ true
-      → AreNow (map part_history parts) now → length now ≡ length told → InEachRowImage (IsBlankOrFormatted version_1 page entries) now → Back told holding
-  blank_at holding told now page entries told_is home is none blank now_are as_many each = record {
+  blank_at : (holding : Holding) (told now : List Part) → old.told ≡ Some holding → old.lent ≡ [] → new ≡ with_faults new.faults (stores_lent [] old) → AreNow (map store_history stores) [] → is_blank told ≡ true
+      → AreNow (map part_history parts) now → line_counts now ≡ line_counts told → InEachRowImage (IsBlankOrFormatted version_1 geometry.page geometry.entries) now → Back told holding
+  blank_at holding told now told_is home is none blank now_are counted each = record {
     now = now;
     held = [];
     now_are = now_are;
@@ -104,8 +106,8 @@ module _ {X Y : Type 0} (part_history : X → lines.PartHistory) (store_history 
       now = record { parts = now; stores = holding.stores ++ [] };
       told_is = told_with old new [] holding now [] told_is home is;
       is_so = record {
-        images = blank_left (was told holding) (record { parts = now; stores = holding.stores ++ [] }) wanted page entries blank each;
-        rest = record { many_are = as_many; others = λ name other. ap (store_of name) (append-nil holding.stores) };
+        images = blank_left geometry (was told holding) (record { parts = now; stores = holding.stores ++ [] }) wanted blank each;
+        rest = record { lines_are = counted; others = λ name other. ap (store_of name) (append-nil holding.stores) };
       };
     };
   }
@@ -113,15 +115,14 @@ module _ {X Y : Type 0} (part_history : X → lines.PartHistory) (store_history 
   no_store : stores ≡ [] → AreNow (map store_history stores) []
   no_store none = subst (λ (these : List Y). AreNow (map store_history these) []) (sym none) tt
 
-  pub blank_back : (page entries : ℕ) → old.lent ≡ [] → new ≡ with_faults new.faults (stores_lent [] old) → stores ≡ [] → RowTells row (λ told. is_blank told ≡ true) → IfSome old.told (λ holding. AllTell row)
-      → (AllTell row → TellRow (InEachRowImage (IsBlankOrFormatted version_1 page entries)) (map part_history parts) × (length parts ≡ length row)) → Left
-  blank_back page entries home is none blank tell left =
+  pub blank_back : old.lent ≡ [] → new ≡ with_faults new.faults (stores_lent [] old) → stores ≡ [] → RowTells row (λ told. is_blank told ≡ true) → IfSome old.told (λ holding. AllTell row)
+      → (AllTell row → TellRow (InEachRowImage (IsBlankOrFormatted version_1 geometry.page geometry.entries)) (map part_history parts)) → HaveSameLines row (map part_history parts) → Left
+  blank_back home is none blank tell left alike =
       if_some old.told (λ holding. RowTells row (λ told. StandForFiles told → Back told holding)) (λ holding told_is.
-      let both = left (at_some old.told (λ holding. AllTell row) holding told_is tell) in
-      let now = both.0 in
+      let now = left (at_some old.told (λ holding. AllTell row) holding told_is tell) in
       row_tells_from row (λ told. StandForFiles told → Back told holding) (λ told are stand.
-      blank_at holding told now.now page entries told_is home is (no_store none) (row_tells_at row (λ told. is_blank told ≡ true) told are blank) now.now_are
-      (states_many (map part_history parts) now.now now.now_are ∙ length-map parts part_history ∙ both.1 ∙ sym (states_many row told are)) now.is_so))
+      blank_at holding told now.now told_is home is (no_store none) (row_tells_at row (λ told. is_blank told ≡ true) told are blank) now.now_are
+      (lines_at row (map part_history parts) told now.now alike are now.now_are) now.is_so))
 
   -- parts that were only read, blank or not
   pub read_left : QuietPartHasOneImage → HasDistinctStores old → old.lent ≡ [] → new ≡ with_faults new.faults (stores_lent [] old) → stores ≡ [] → map part_history parts ≡ row → RowTells row AreQuiet
@@ -131,10 +132,10 @@ module _ {X Y : Type 0} (part_history : X → lines.PartHistory) (store_history 
       if_some old.told (λ holding. RowTells row (λ told. StandForFiles told → Back told holding)) (λ holding told_is.
       row_tells_from row (λ told. StandForFiles told → Back told holding) (λ told are stand.
       by_test (is_blank told)
-      (λ blank. blank_at holding told told 0 0 told_is home is (no_store none) blank (subst (λ (these : List lines.PartHistory). AreNow these told) (sym same) are) refl
+      (λ blank. blank_at holding told told told_is home is (no_store none) blank (subst (λ (these : List lines.PartHistory). AreNow these told) (sym same) are) refl
       (λ image is_image. inl ((blank_row one told (row_tells_at row AreQuiet told are quiet) blank).blank image is_image)))
-      (λ kept. gives_more part_history store_history (StandsAsBefore (was told holding)) (StandsOpening (length told) (was told holding) wanted) new parts stores
-      (λ back. opening_kept (was told holding) back wanted kept (stand.fits kept))
+      (λ kept. gives_more part_history store_history (StandsAsBefore (was told holding)) (StandsOpening (line_counts told) geometry (was told holding) wanted) new parts stores
+      (λ back. opening_kept geometry (was told holding) back wanted kept (stand.fits kept))
       (row_tells_at row (λ told. HasHeader told → GivesBack part_history store_history (StandsAsBefore (was told holding)) new parts stores) told are
       (at_some old.told (λ holding. RowTells row (λ told. HasHeader told → GivesBack part_history store_history (StandsAsBefore (was told holding)) new parts stores)) holding told_is stands) (stand.readable kept)))))
 
@@ -188,13 +189,14 @@ module _ {X Y : Type 0} (part_history : X → lines.PartHistory) (store_history 
     (named : HasDistinctStores old) (lent : old.lent ≡ known) (are : AreFileNames version_1 (known ++ more)) (one_each : length before ≡ length known) (holds : HoldFiles (map store_history before) files)
     (synced : IfSome old.told (λ holding. All (λ (named : NamedStore). IsQuietStore named.store) holding.stores)) (behind : now ≡ before ++ stores) (is : new ≡ with_faults new.faults (stores_lent more old))
     (stores_are : IfSome old.told (λ holding. AreNow (map store_history stores) (stores_named more holding.stores))) where
-  abbrev Added : (many : ℕ) → Holding → Holding → Type 0
-  Added many holding back = InEachImage (HasSome (length known) (all_names known wanted) (files_behind files (new_names known wanted) holding.stores)) back × HasRest many known holding.stores back
+  abbrev Added : (counts : List ℕ) → Holding → Holding → Type 0
+  Added counts holding back = InEachImage (HasSome page entries (length known) (all_names known wanted) (files_behind files (new_names known wanted) holding.stores)) back × HasRest counts known holding.stores back
 
-  pub added_back : (many : ℕ) → (AllTell row → TellRow (InEachRowImage (HasFirstNames page entries known (new_names known wanted) next)) (map part_history parts) × (length parts ≡ many))
-      → IfSome old.told (λ holding. AllTell row → GivesBack part_history store_history (Added many holding) new parts now)
-  added_back many left =
-      if_some old.told (λ holding. AllTell row → GivesBack part_history store_history (Added many holding) new parts now) (λ holding told_is tell.
+  pub added_back : (AllTell row → TellRow (InEachRowImage (HasFirstNames page entries known (new_names known wanted) next)) (map part_history parts)) → HaveSameLines row (map part_history parts)
+      → IfSome old.told (λ holding. (told : List Part) → AreNow row told → GivesBack part_history store_history (Added (line_counts told) holding) new parts now)
+  added_back left alike =
+      if_some old.told (λ holding. (told : List Part) → AreNow row told → GivesBack part_history store_history (Added (line_counts told) holding) new parts now) (λ holding told_is told told_are.
+      let end = left (states_tell row told told_are) in
       let home = holding.stores in
       let Distinct : List (List ℕ) → Type 0 = λ names. AreDistinct (names_of home ++ names) in
       let distinct = subst Distinct lent (at_some old.told (λ holding. AreDistinct (names_of holding.stores ++ old.lent)) holding told_is named) in
@@ -205,7 +207,7 @@ module _ {X Y : Type 0} (part_history : X → lines.PartHistory) (store_history 
       (at_some old.told (λ holding. AreNow (map store_history stores) (stores_named more holding.stores)) holding told_is stores_are)) in
       begun_back home known (new_names known wanted) more holds.held files page entries next distinct (distinct_front (names_of home) known distinct) are long holds.files_are holds.quiet
       (at_some old.told (λ holding. All (λ (named : NamedStore). IsQuietStore named.store) holding.stores) holding told_is synced) (new_apart known wanted)
-      part_history store_history old new parts now holding many (left tell).1 told_is refl lent is (left tell).0 all_are)
+      part_history store_history old new parts now holding (line_counts told) told_is refl lent is end (lines_at row (map part_history parts) told end.now alike told_are end.now_are) all_are)
 
 -- ---- and then it was to get more names
 
@@ -214,35 +216,50 @@ known_names : (told : List Part) (geometry : Geometry) (page entries : ℕ) (nam
 known_names told geometry page entries names next begun =
     by_test (is_blank told) (λ blank. blank_known told blank ∙ sym (begun.formatted blank).names_are) (λ kept. kept_known told kept ∙ sym (begun.kept kept).recovered.names_are)
 
+-- and so are its sizes
+pub known_page : (told : List Part) (geometry : Geometry) (page entries : ℕ) (names : List (List ℕ)) (next : ℕ) → IsOpeningBegun told geometry page entries names next → page_known told geometry ≡ page
+known_page told geometry page entries names next begun =
+    by_test (is_blank told) (λ blank. blank_page told geometry blank ∙ sym (begun.formatted blank).page_is) (λ kept. kept_page told geometry kept ∙ sym (begun.kept kept).recovered.page_is)
+
+pub known_entries : (told : List Part) (geometry : Geometry) (page entries : ℕ) (names : List (List ℕ)) (next : ℕ) → IsOpeningBegun told geometry page entries names next → entries_known told geometry ≡ entries
+known_entries told geometry page entries names next begun =
+    by_test (is_blank told) (λ blank. blank_entries told geometry blank ∙ sym (begun.formatted blank).entries_is) (λ kept. kept_entries told geometry kept ∙ sym (begun.kept kept).recovered.entries_is)
+
 pub with_wanted : {T X Y E : Type 0} (part_history : X → lines.PartHistory) (store_history : Y → StoreHistory) (result : Result T E) (parts_of : E → List X) (told mid : Option Holding) (new : BenchState) (row region_row : List lines.PartHistory) (store_row : List StoreHistory) (stores : List Y)
-    (geometry : Geometry) (page entries : ℕ) (names wanted : List (List ℕ)) (next many : ℕ) → many ≡ length row → mid ≡ option_map (without_named names) told
+    (geometry : Geometry) (page entries : ℕ) (names wanted : List (List ℕ)) (next : ℕ) → TellingRowsHaveStates → HaveSameLines row region_row → mid ≡ option_map (without_named names) told
     → RowTells row (λ told. IsOpeningBegun told geometry page entries names next)
     → IfSome told (λ holding. RowTells row (λ parts. HoldFiles store_row (files_named parts names holding.stores)))
     → IfSome told (λ holding. AllTell region_row)
-    → ((files : Files) → HoldFiles store_row files → IfErr result (λ failed. IfSome mid (λ holding. AllTell region_row
-    → GivesBack part_history store_history (λ now. InEachImage (HasSome (length names) (all_names names wanted) (files_behind files (new_names names wanted) holding.stores)) now × HasRest many names holding.stores now) new (parts_of failed) stores)))
+    → ((files : Files) → HoldFiles store_row files → IfErr result (λ failed. IfSome mid (λ holding. (told : List Part) → AreNow region_row told
+    → GivesBack part_history store_history (λ now. InEachImage (HasSome page entries (length names) (all_names names wanted) (files_behind files (new_names names wanted) holding.stores)) now × HasRest (line_counts told) names holding.stores now) new (parts_of failed) stores)))
     → IfErr result (λ failed. IfSome told (λ holding. RowTells row (λ told. StandForFiles told
-    → GivesBack part_history store_history (StandsOpening (length told) (record { parts = told; stores = holding.stores }) wanted) new (parts_of failed) stores)))
-with_wanted part_history store_history (Ok done) parts_of told mid new row region_row store_row stores geometry page entries names wanted next many as_many is begun files tell standing = tt
-with_wanted part_history store_history (Err failed) parts_of None mid new row region_row store_row stores geometry page entries names wanted next many as_many is begun files tell standing = tt
-with_wanted {T} {X} {Y} {E} part_history store_history (Err failed) parts_of (Some holding) mid new row region_row store_row stores geometry page entries names wanted next many as_many is begun files tell standing =
+    → GivesBack part_history store_history (StandsOpening (line_counts told) geometry (record { parts = told; stores = holding.stores }) wanted) new (parts_of failed) stores)))
+with_wanted part_history store_history (Ok done) parts_of told mid new row region_row store_row stores geometry page entries names wanted next states alike is begun files tell standing = tt
+with_wanted part_history store_history (Err failed) parts_of None mid new row region_row store_row stores geometry page entries names wanted next states alike is begun files tell standing = tt
+with_wanted {T} {X} {Y} {E} part_history store_history (Err failed) parts_of (Some holding) mid new row region_row store_row stores geometry page entries names wanted next states alike is begun files tell standing =
     let Was : List Part → Holding = λ told. record { parts = told; stores = holding.stores } in
-    row_tells_from row (λ told. StandForFiles told → GivesBack part_history store_history (StandsOpening (length told) (Was told) wanted) new (parts_of failed) stores) (λ told are stand.
+    row_tells_from row (λ told. StandForFiles told → GivesBack part_history store_history (StandsOpening (line_counts told) geometry (Was told) wanted) new (parts_of failed) stores) (λ told are stand.
     let here = files_named told names holding.stores in
-    let same : names_known told ≡ names = known_names told geometry page entries names next (row_tells_at row (λ told. IsOpeningBegun told geometry page entries names next) told are begun) in
+    let here_begun = row_tells_at row (λ told. IsOpeningBegun told geometry page entries names next) told are begun in
+    let same : names_known told ≡ names = known_names told geometry page entries names next here_begun in
+    let region = states region_row (at_some (Some holding) (λ holding. AllTell region_row) holding refl tell) in
     let left : Holding = record { parts = holding.parts; stores = without_stores names holding.stores } in
     let gives = at_some mid
-    (λ holding. AllTell region_row → GivesBack part_history store_history (λ now. InEachImage (HasSome (length names) (all_names names wanted) (files_behind here (new_names names wanted) holding.stores)) now × HasRest many names holding.stores now) new (parts_of failed) stores)
-    left is (standing here (row_tells_at row (λ parts. HoldFiles store_row (files_named parts names holding.stores)) told are files)) tell in
+    (λ holding. (told : List Part) → AreNow region_row told → GivesBack part_history store_history (λ now. InEachImage (HasSome page entries (length names) (all_names names wanted) (files_behind here (new_names names wanted) holding.stores)) now × HasRest (line_counts told) names holding.stores now) new (parts_of failed) stores)
+    left is (standing here (row_tells_at row (λ parts. HoldFiles store_row (files_named parts names holding.stores)) told are files)) region.states region.are in
     let those : files_behind here (new_names names wanted) left.stores ≡ files_with told names wanted holding.stores =
     ap (λ (stores : List Store). record { contents = here.contents ++ (files_of stores).contents }) (new_stores names wanted holding.stores) in
-    let Some_of : Files → Image → Files → Type 0 = λ files image bytes. HasSome (length names) (all_names names wanted) files image bytes in
-    let By : List (List ℕ) → Image → Files → Type 0 = λ names image bytes. HasSome (length names) (all_names names wanted) (files_with told names wanted holding.stores) image bytes in
-    gives_more part_history store_history (λ now. InEachImage (Some_of (files_behind here (new_names names wanted) left.stores)) now × HasRest many names left.stores now) (StandsOpening (length told) (Was told) wanted) new (parts_of failed) stores
+    let Some_of : Files → Image → Files → Type 0 = λ files image bytes. HasSome page entries (length names) (all_names names wanted) files image bytes in
+    let By : List (List ℕ) → Image → Files → Type 0 = λ names image bytes. HasSome page entries (length names) (all_names names wanted) (files_with told names wanted holding.stores) image bytes in
+    let All_of : Image → Files → (page entries : ℕ) → Type 0 = λ image bytes page entries. HasSome page entries (length (names_known told)) (all_names (names_known told) wanted) (files_with told (names_known told) wanted holding.stores) image bytes in
+    gives_more part_history store_history (λ now. InEachImage (Some_of (files_behind here (new_names names wanted) left.stores)) now × HasRest (line_counts region.states) names left.stores now) (StandsOpening (line_counts told) geometry (Was told) wanted) new (parts_of failed) stores
     (λ back both. record {
-      images = λ image bytes is_image are_bytes. inr (subst (λ names. By names image bytes) (sym same) (subst (λ files. Some_of files image bytes) those (both.0 image bytes is_image are_bytes)));
+      images = λ image bytes is_image are_bytes. inr
+          (subst (λ page. All_of image bytes page (entries_known told geometry)) (sym (known_page told geometry page entries names next here_begun))
+          (subst (λ entries. All_of image bytes page entries) (sym (known_entries told geometry page entries names next here_begun))
+          (subst (λ names. By names image bytes) (sym same) (subst (λ files. Some_of files image bytes) those (both.0 image bytes is_image are_bytes)))));
       rest = record {
-        many_are = both.1.many_are ∙ as_many ∙ sym (states_many row told are);
+        lines_are = both.1.lines_are ∙ lines_at row region_row told region.states alike are region.are;
         others = λ name other.
             let absent : ¬ (Contains names name) = λ there. other (subst (λ known. Contains (all_names known wanted) name) (sym same) (Contains-append_left names (new_names names wanted) name there)) in
             both.1.others name absent ∙ store_of_others name names holding.stores absent;
@@ -311,7 +328,17 @@ made_known geometry parts =
     let made = opened (Some geometry) parts in
     by_test (is_blank parts) (λ blank. blank_known made (blank_stays geometry parts ∙ blank) ∙ sym (blank_known parts blank)) (λ kept. ap (λ (these : List Part). names_known these) (opened_kept geometry parts kept))
 
-before_made : (geometry : Geometry) (was : Holding) (wanted : List (List ℕ)) (image : Image) (bytes : Files) → StandsWithSome (record { parts = opened (Some geometry) was.parts; stores = was.stores }) wanted image bytes → StandsWithSome was wanted image bytes
+made_page : (geometry : Geometry) (parts : List Part) → page_known (opened (Some geometry) parts) geometry ≡ page_known parts geometry
+made_page geometry parts =
+    let made = opened (Some geometry) parts in
+    by_test (is_blank parts) (λ blank. blank_page made geometry (blank_stays geometry parts ∙ blank) ∙ sym (blank_page parts geometry blank)) (λ kept. ap (λ (these : List Part). page_known these geometry) (opened_kept geometry parts kept))
+
+made_entries : (geometry : Geometry) (parts : List Part) → entries_known (opened (Some geometry) parts) geometry ≡ entries_known parts geometry
+made_entries geometry parts =
+    let made = opened (Some geometry) parts in
+    by_test (is_blank parts) (λ blank. blank_entries made geometry (blank_stays geometry parts ∙ blank) ∙ sym (blank_entries parts geometry blank)) (λ kept. ap (λ (these : List Part). entries_known these geometry) (opened_kept geometry parts kept))
+
+before_made : (geometry : Geometry) (was : Holding) (wanted : List (List ℕ)) (image : Image) (bytes : Files) → StandsWithSome geometry (record { parts = opened (Some geometry) was.parts; stores = was.stores }) wanted image bytes → StandsWithSome geometry was wanted image bytes
 before_made geometry was wanted image bytes stands =
     let parts = opened (Some geometry) was.parts in
     let stays : is_blank parts ≡ is_blank was.parts = blank_stays geometry was.parts in
@@ -319,19 +346,25 @@ before_made geometry was wanted image bytes stands =
     elim stands [
       | inl blank ↦ inl (sym stays ∙ blank.0, blank.1)
       | inr some ↦
-          let By : List (List ℕ) → Type 0 = λ known. HasSome (length known) (all_names known wanted) (files_with parts known wanted was.stores) image bytes in
+          let page = page_known parts geometry in
+          let entries = entries_known parts geometry in
+          let By : List (List ℕ) → Type 0 = λ known. HasSome page entries (length known) (all_names known wanted) (files_with parts known wanted was.stores) image bytes in
           let known = names_known was.parts in
-          let Of : Files → Type 0 = λ files. HasSome (length known) (all_names known wanted) (files_behind files (new_names known wanted) was.stores) image bytes in
-          inr (subst Of (files_cases geometry was.parts known was.stores (is_blank was.parts) refl) (subst By same some))
+          let Of : Files → Type 0 = λ files. HasSome page entries (length known) (all_names known wanted) (files_behind files (new_names known wanted) was.stores) image bytes in
+          let Sized : (page entries : ℕ) → Type 0 = λ page entries. HasSome page entries (length known) (all_names known wanted) (files_with was.parts known wanted was.stores) image bytes in
+          inr
+          (subst (λ page. Sized page (entries_known was.parts geometry)) (made_page geometry was.parts)
+          (subst (λ entries. Sized page entries) (made_entries geometry was.parts)
+          (subst Of (files_cases geometry was.parts known was.stores (is_blank was.parts) refl) (subst By same some))))
     ]
 
-pub unopened_made : (geometry : Geometry) (was : Holding) (wanted : List (List ℕ)) (now : Holding) → StandsOpening (length (opened (Some geometry) was.parts)) (record { parts = opened (Some geometry) was.parts; stores = was.stores }) wanted now
+pub unopened_made : (geometry : Geometry) (was : Holding) (wanted : List (List ℕ)) (now : Holding) → StandsOpening (line_counts (opened (Some geometry) was.parts)) geometry (record { parts = opened (Some geometry) was.parts; stores = was.stores }) wanted now
     → StandsUnopened was geometry wanted now
 unopened_made geometry was wanted now stands = record {
   either = inr (record {
     images = λ image bytes is are. before_made geometry was wanted image bytes (stands.images image bytes is are);
     rest = record {
-      many_are = stands.rest.many_are;
+      lines_are = stands.rest.lines_are;
       others = λ name other. stands.rest.others name (subst (λ known. ¬ (Contains (all_names known wanted) name)) (sym (made_known geometry was.parts)) other);
     };
   });
@@ -342,17 +375,3 @@ made_stand geometry parts stand = record {
   readable = λ kept. (let was = sym (blank_stays geometry parts) ∙ kept in subst HasHeader (sym (opened_kept geometry parts was)) (stand.readable was));
   fits = λ kept. (let was = sym (blank_stays geometry parts) ∙ kept in subst (λ (these : List Part). Fits version_1 (row_words these)) (sym (opened_kept geometry parts was)) (stand.fits was));
 }
-
--- a bench of which nothing was lent
-pub still_left : (old new : BenchState) (was : Holding) (wanted : List (List ℕ)) → QuietPartHasOneImage → new ≡ with_faults new.faults old → old.told ≡ Some was → IfSome old.told IsQuietHolding → StandForFiles was.parts
-    → TellsOf (StandsOpening (length was.parts) was wanted) new.told
-still_left old new was wanted one is told quiet stand =
-    let still : IsQuietHolding was = at_some old.told IsQuietHolding was told quiet in
-    by_test (is_blank was.parts)
-    (λ blank. record {
-      now = was;
-      told_is = ap (λ (state : BenchState). state.told) is ∙ told;
-      is_so = record { images = blank_left was was wanted 0 0 blank (λ image is_image. inl ((blank_row one was.parts still.parts blank).blank image is_image)); rest = record { many_are = refl; others = λ name other. refl } };
-    })
-    (λ kept. let stays = still_stands old new was is told quiet (stand.readable kept) in
-    record { now = stays.now; told_is = stays.told_is; is_so = opening_kept was stays.now wanted kept (stand.fits kept) stays.is_so })

@@ -29,7 +29,7 @@ use Rattle.nv_recover.proofs.Interrupted.{end_is_stop, promise_is_run}
 use Rattle.nv_recover.specs.Telling.{TellingStoresHaveStates}
 use Rattle.nv_open.specs.Held.{header_names}
 use Rattle.nv_open.specs.Lending.{stores_named}
-use Rattle.nv_open.specs.Unopened.{HasHeader, HasRest, StandAsBefore, StandsAsBefore, names_in}
+use Rattle.nv_open.specs.Unopened.{HasHeader, HasRest, StandAsBefore, StandsAsBefore, line_counts, names_in}
 use Rattle.nv_open.proofs.Returns.{states_tell}
 
 -- Quiet devices have one image, which takes the place of itself.
@@ -127,7 +127,7 @@ own_images stores quiet = record {
 
 -- What only was read stands as before, with stores that are as they were.
 pub stands_read : (parts : List Part) (stores : List NamedStore) (back : Holding) → AreQuiet parts → AreQuietStores (stores_named (header_names parts) stores) → HasHeader parts
-    → back.parts ≡ parts → stores_named (header_names parts) back.stores ≡ stores_named (header_names parts) stores → HasRest (length parts) (header_names parts) stores back → StandsAsBefore (record { parts = parts; stores = stores }) back
+    → back.parts ≡ parts → stores_named (header_names parts) back.stores ≡ stores_named (header_names parts) stores → HasRest (line_counts parts) (header_names parts) stores back → StandsAsBefore (record { parts = parts; stores = stores }) back
 stands_read parts stores back quiet still readable same_parts same_stores rest =
     let names = header_names parts in
     let here = stands_quiet parts (stores_named names stores) quiet still readable in

@@ -3,7 +3,9 @@ use Rattle.std.specs.Prelude.{◌≡◌, ℕ, ◌+◌, ◌<◌, true, false, Lis
 use Rattle.nv_plain.specs.Files.{Files}
 use Rattle.nv_plain.specs.Layouts.{version_1}
 use Rattle.nv_pmem.specs.Moments.{Tells}
+use Rattle.nv_pmem.specs.Part.{Part}
 use Rattle.nv_pmem.specs.Room.{Room}
+use Rattle.nv_pmem.specs.RowStates.{AreNow}
 use Rattle.nv_pmem.specs.Rows.{AreQuiet, RowTells}
 use Rattle.nv_pmem.specs.Steps as lines
 use Rattle.nv_pmem.specs.declared.geometry.Geometry.{Geometry}
@@ -20,7 +22,7 @@ use Rattle.nv_open.specs.Begun.{IsNotOpened, IsOpeningBegun, IsRegionOpened, fil
 use Rattle.nv_open.specs.Held.{AreUnwritten, HoldFiles, IsRecovered, files_named}
 use Rattle.nv_open.specs.Lending.{stores_lent}
 use Rattle.nv_open.specs.Refusals.{IsRefusedFor}
-use Rattle.nv_open.specs.Unopened.{GivesBack, HasHeader, HasRest, HasSome, InEachImage, IsAtRestWith, IsGood, IsUntouched, RestsUnopened, StandForFiles, StandsAsBefore, StandsOpening}
+use Rattle.nv_open.specs.Unopened.{GivesBack, HasHeader, HasRest, HasSome, HaveSameLines, InEachImage, IsAtRestWith, IsGood, IsUntouched, RestsUnopened, StandForFiles, StandsAsBefore, StandsOpening, line_counts}
 use Rattle.nv_open.specs.declared.error.OpenError.{OpenError}
 use Rattle.nv_open.specs.declared.error.OpenError.TheVariants.{Refused}
 use Rattle.nv_open.specs.declared.error.Refusal.{Refusal}
@@ -46,7 +48,7 @@ pub record HasStoresOpen {X Y : Type 0} (part_history : X → lines.PartHistory)
   pub one_each : length stores ≡ length names
   pub quiet : All (λ (store : Y). Tells (store_history store) IsQuietStore) stores
   pub tell : IfSome old.told (λ holding. AllTell (map part_history parts))
-  pub many : length parts ≡ length before
+  pub lines_kept : IfSome old.told (λ holding. HaveSameLines (map part_history before) (map part_history parts))
 
 -- It was recovered, and its stores hold its files.
 pub record IsRecoveredOpen {X Y : Type 0} (part_history : X → lines.PartHistory) (store_history : Y → StoreHistory) (old new : BenchState) (before : List X) (stores : List Y) (page entries : ℕ) (names : List (List ℕ)) (next : ℕ) (parts : List X) (found : Recovered) : Type 0 where
@@ -79,11 +81,11 @@ pub record IsNotRecovered {X Y : Type 0} (part_history : X → lines.PartHistory
       → GivesBack part_history store_history (IsUntouched (record { parts = told; stores = holding.stores })) new back stores))
 
 -- It was neither formatted nor recovered.
-pub record IsNotBegun {X Y : Type 0} (part_history : X → lines.PartHistory) (store_history : Y → StoreHistory) (old new : BenchState) (before back : List X) (stores : List Y) (error : OpenError) : Type 0 where
+pub record IsNotBegun {X Y : Type 0} (part_history : X → lines.PartHistory) (store_history : Y → StoreHistory) (old new : BenchState) (before back : List X) (stores : List Y) (geometry : Geometry) (error : OpenError) : Type 0 where
   pub refused : (why : Refusal) → error ≡ Refused why → IfSome old.told (λ holding. RowTells (map part_history before) (λ told. (is_blank told ≡ false) × IsRefusedFor told why))
   pub unwritten : (why : Refusal) → error ≡ Refused why → AreUnwritten part_history store_history why old new before back stores
   pub standing : (wanted : List (List ℕ)) → IfSome old.told (λ holding. RowTells (map part_history before) (λ told. StandForFiles told
-      → GivesBack part_history store_history (StandsOpening (length told) (record { parts = told; stores = holding.stores }) wanted) new back stores))
+      → GivesBack part_history store_history (StandsOpening (line_counts told) geometry (record { parts = told; stores = holding.stores }) wanted) new back stores))
   pub untouched : IfSome old.told (λ holding. RowTells (map part_history before) (λ told. is_blank told ≡ false → ¬ (IsGood told)
       → GivesBack part_history store_history (IsUntouched (record { parts = told; stores = holding.stores })) new back stores))
 
@@ -94,7 +96,7 @@ pub record IsUnopened {X Y : Type 0} (part_history : X → lines.PartHistory) (s
   pub rests : error ≡ Refused TooManyFiles → IfSome old.told (λ holding. RowTells (map part_history before) (λ told.
       GivesBack part_history store_history (RestsUnopened (record { parts = told; stores = holding.stores }) geometry wanted) new back stores))
   pub standing : IfSome old.told (λ holding. RowTells (map part_history before) (λ told. StandForFiles told
-      → GivesBack part_history store_history (StandsOpening (length told) (record { parts = told; stores = holding.stores }) wanted) new back stores))
+      → GivesBack part_history store_history (StandsOpening (line_counts told) geometry (record { parts = told; stores = holding.stores }) wanted) new back stores))
   pub untouched : IfSome old.told (λ holding. RowTells (map part_history before) (λ told. is_blank told ≡ false → ¬ (IsGood told)
       → GivesBack part_history store_history (IsUntouched (record { parts = told; stores = holding.stores })) new back stores))
 
@@ -110,12 +112,12 @@ pub record HasAdded {X Y : Type 0} (part_history : X → lines.PartHistory) (sto
   pub one_each : length stores ≡ length stores_before + length (new_names known wanted)
   pub quiet : All (λ (store : Y). Tells (store_history store) IsQuietStore) stores_before → All (λ (store : Y). Tells (store_history store) IsQuietStore) stores
   pub tell : AllTell (map part_history before) → AllTell (map part_history parts)
-  pub many : length parts ≡ length before
+  pub lines_kept : HaveSameLines (map part_history before) (map part_history parts)
 
 -- They were not, or not all of them.
 pub record HasNotAdded {X Y : Type 0} (part_history : X → lines.PartHistory) (store_history : Y → StoreHistory) (old new : BenchState) (page entries : ℕ) (known wanted : List (List ℕ)) (next : ℕ) (before back : List X) (stores_before stores : List Y) (error : OpenError) : Type 0 where
   pub refused : (why : Refusal) → error ≡ Refused why → (why ≡ TooManyFiles) × (version_1.file_limit < length (all_names known wanted))
   pub rests : (files : Files) → HoldFiles (map store_history stores_before) files → error ≡ Refused TooManyFiles → IfSome old.told (λ holding. AllTell (map part_history before)
       → GivesBack part_history store_history (IsAtRestWith page entries known next files holding.stores) new back stores)
-  pub standing : (files : Files) → HoldFiles (map store_history stores_before) files → IfSome old.told (λ holding. AllTell (map part_history before)
-      → GivesBack part_history store_history (λ now. InEachImage (HasSome (length known) (all_names known wanted) (files_behind files (new_names known wanted) holding.stores)) now × HasRest (length before) known holding.stores now) new back stores)
+  pub standing : (files : Files) → HoldFiles (map store_history stores_before) files → IfSome old.told (λ holding. (told : List Part) → AreNow (map part_history before) told
+      → GivesBack part_history store_history (λ now. InEachImage (HasSome page entries (length known) (all_names known wanted) (files_behind files (new_names known wanted) holding.stores)) now × HasRest (line_counts told) known holding.stores now) new back stores)

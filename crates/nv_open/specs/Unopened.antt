@@ -6,7 +6,7 @@ use Rattle.nv_plain.specs.Layouts.{version_1}
 use Rattle.nv_plain.specs.Recovered.{Fits, IsBlank}
 use Rattle.nv_pmem.specs.Part.{Part}
 use Rattle.nv_pmem.specs.RowStates.{AreNow}
-use Rattle.nv_pmem.specs.Rows.{IsRowImage, row_words}
+use Rattle.nv_pmem.specs.Rows.{IsRowImage, RowTells, row_words}
 use Rattle.nv_pmem.specs.Steps as lines
 use Rattle.nv_pmem.specs.declared.geometry.Geometry.{Geometry}
 use Rattle.nv_store.specs.Steps.{StoreHistory}
@@ -21,7 +21,7 @@ use Rattle.nv_open.specs.Adding.{all_names}
 use Rattle.nv_open.specs.Begun.{IsOpeningBegun, files_with}
 use Rattle.nv_open.specs.Held.{files_named, header_names, returned}
 use Rattle.nv_open.specs.Lending.{stores_named, without_stores}
-use Rattle.nv_open.specs.Refusals.{AreLong, CanBeRead}
+use Rattle.nv_open.specs.Refusals.{AreLong, CanBeRead, head_image}
 
 -- a bench tells that it holds something that is so
 pub record TellsOf (P : Holding → Type 0) (told : Option Holding) : Type 0 where
@@ -44,11 +44,13 @@ InEachImage P holding =
 abbrev pub first_files : ℕ → Files → Files
 first_files count files = record { contents = take count files.contents }
 
--- An image can be read and has some first ones of these names, no fewer than so many. With the bytes it stands for the files of these.
-pub record HasSome (least : ℕ) (names : List (List ℕ)) (files : Files) (image : Image) (bytes : Files) : Type 0 where
+-- An image can be read, says these sizes, and has some first ones of these names, no fewer than so many. With the bytes it stands for the files of these.
+pub record HasSome (page entries least : ℕ) (names : List (List ℕ)) (files : Files) (image : Image) (bytes : Files) : Type 0 where
   pub count : ℕ
   pub enough : least ≤ count
   pub readable : IsHead version_1 version_1.header_lines image
+  pub page_is : (header_of image).page ≡ page
+  pub entries_is : (header_of image).entries ≡ entries
   pub names_are : names_in image ≡ take count names
   pub stands : StandsFor image bytes (first_files count files)
 
@@ -56,18 +58,26 @@ pub record HasSome (least : ℕ) (names : List (List ℕ)) (files : Files) (imag
 abbrev pub HasHeader : List Part → Type 0
 HasHeader parts = IsHead version_1 version_1.header_lines (row_words parts)
 
--- What a bench holds beside the stores of these names: so many parts, and each store of another name as it was among these.
-pub record HasRest (many : ℕ) (names : List (List ℕ)) (stores : List NamedStore) (now : Holding) : Type 0 where
-  pub many_are : length now.parts ≡ many
+-- how many lines each part has
+abbrev pub line_counts : List Part → List ℕ
+line_counts parts = map (λ part. length part) parts
+
+-- The parts of a row have as many lines as before, and are as many, where all of them tell.
+abbrev pub HaveSameLines : (old new : List lines.PartHistory) → Type 0
+HaveSameLines old new = RowTells old (λ was. RowTells new (λ now. line_counts now ≡ line_counts was))
+
+-- What a bench holds beside the stores of these names: parts of so many lines each, and each store of another name as it was among these.
+pub record HasRest (counts : List ℕ) (names : List (List ℕ)) (stores : List NamedStore) (now : Holding) : Type 0 where
+  pub lines_are : line_counts now.parts ≡ counts
   pub others : (name : List ℕ) → ¬ (Contains names name) → store_of name now.stores ≡ store_of name stores
 
 -- ---- a recovery that failed
 
--- Whatever a power failure leaves of what a bench holds has a header with the same names, and can take the place of what it held. It has as many parts, and each store of another name is as it was.
+-- Whatever a power failure leaves of what a bench holds has a header with the same names, and can take the place of what it held. Its parts have as many lines, and each store of another name is as it was.
 pub record StandsAsBefore (was now : Holding) : Type 0 where
   pub same_names : (image : Image) → IsRowImage now.parts image → names_in image ≡ header_names was.parts
   pub stands : StandsStill (row_words was.parts) (files_of (stores_named (header_names was.parts) was.stores)) now.parts (stores_named (header_names was.parts) now.stores)
-  pub rest : HasRest (length was.parts) (header_names was.parts) was.stores now
+  pub rest : HasRest (line_counts was.parts) (header_names was.parts) was.stores now
 
 -- ---- an opening that failed
 
@@ -75,26 +85,34 @@ pub record StandsAsBefore (was now : Holding) : Type 0 where
 abbrev pub names_known : List Part → List (List ℕ)
 names_known parts = if is_blank parts then [] else header_names parts
 
+-- the sizes of a region at its opening: those that its header says, and those that are wanted of a blank one
+abbrev pub page_known : List Part → Geometry → ℕ
+page_known parts geometry = if is_blank parts then geometry.page else (header_of (head_image parts)).page
+
+abbrev pub entries_known : List Part → Geometry → ℕ
+entries_known parts geometry = if is_blank parts then geometry.entries else (header_of (head_image parts)).entries
+
 -- Parts stand for files: they are blank, or a region that can be read, whose committed numbers lead whole groups.
 pub record StandForFiles (parts : List Part) : Type 0 where
   pub readable : is_blank parts ≡ false → HasHeader parts
   pub fits : is_blank parts ≡ false → Fits version_1 (row_words parts)
 
--- An image of what is left of a bench: it is blank, as the bench was; or it has all names of the region, and maybe some of the new ones, and stands for
--- their files.
-abbrev pub StandsWithSome : (was : Holding) (wanted : List (List ℕ)) → Image → Files → Type 0
-StandsWithSome was wanted image bytes =
+-- An image of what is left of a bench: it is blank, as the bench was; or it has the sizes and all names of the region, and maybe some of the new ones, and
+-- stands for their files.
+abbrev pub StandsWithSome : (geometry : Geometry) (was : Holding) (wanted : List (List ℕ)) → Image → Files → Type 0
+StandsWithSome geometry was wanted image bytes =
     let known = names_known was.parts in
-    ((is_blank was.parts ≡ true) × IsBlank image) ⊎ HasSome (length known) (all_names known wanted) (files_with was.parts known wanted was.stores) image bytes
+    ((is_blank was.parts ≡ true) × IsBlank image)
+    ⊎ HasSome (page_known was.parts geometry) (entries_known was.parts geometry) (length known) (all_names known wanted) (files_with was.parts known wanted was.stores) image bytes
 
--- A bench holds what an opening leaves that failed: in each image it stands with some, and it has so many parts, and each store that is neither of the region nor of these names as it was.
-pub record StandsOpening (many : ℕ) (was : Holding) (wanted : List (List ℕ)) (now : Holding) : Type 0 where
-  pub images : InEachImage (StandsWithSome was wanted) now
-  pub rest : HasRest many (all_names (names_known was.parts) wanted) was.stores now
+-- A bench holds what an opening leaves that failed: in each image it stands with some, and it has parts of so many lines each, and each store that is neither of the region nor of these names as it was.
+pub record StandsOpening (counts : List ℕ) (geometry : Geometry) (was : Holding) (wanted : List (List ℕ)) (now : Holding) : Type 0 where
+  pub images : InEachImage (StandsWithSome geometry was wanted) now
+  pub rest : HasRest counts (all_names (names_known was.parts) wanted) was.stores now
 
--- It has as many parts as the bench had, or as were made of blank ones.
+-- Its region was never given out, and it holds what it held; or its parts have the lines that they had, or that were made of blank ones.
 pub record StandsUnopened (was : Holding) (geometry : Geometry) (wanted : List (List ℕ)) (now : Holding) : Type 0 where
-  pub either : StandsOpening (length was.parts) was wanted now ⊎ StandsOpening (length (opened (Some geometry) was.parts)) was wanted now
+  pub either : (now ≡ was) ⊎ StandsOpening (line_counts (opened (Some geometry) was.parts)) geometry was wanted now
 
 -- ---- a region that isn't good
 

@@ -1,5 +1,5 @@
 //! The names that are wanted and not there are added.
-ghost use Rattle.std.specs.Prelude.{◌≡◌, ◌+◌, ◌++◌, length, map, sum_by, Err, IfOk, IfErr};
+ghost use Rattle.std.specs.Prelude.{◌≡◌, ◌+◌, ◌++◌, map, sum_by, Err, IfOk, IfErr};
 ghost use Rattle.nv_plain.specs.Layouts.{version_1};
 ghost use Rattle.nv_pmem.specs.Rows.{InEachRowImage};
 ghost use Rattle.nv_header.specs.FileNames.{AreFileNames};
@@ -7,7 +7,7 @@ ghost use Rattle.nv_header.specs.Changes.{parts_after_format};
 ghost use Rattle.nv_recover.specs.Telling.{AllTell};
 ghost use Rattle.nv_open.specs.Adding.{new_names};
 ghost use Rattle.nv_open.specs.Causes.{RegionHasCause};
-ghost use Rattle.nv_open.specs.Unopened.{HasFirstNames, TellRow};
+ghost use Rattle.nv_open.specs.Unopened.{HasFirstNames, HaveSameLines, TellRow};
 ghost use Rattle.nv_open.specs.declared.error.OpenError.TheVariants as error;
 
 use crate::OpenError;
@@ -40,8 +40,7 @@ pub(crate) fn add_names<L: Lines + Drop>(
     ensures names { IfOk result (λ added. added.names ≡ region.names ++ names.now) }
     ensures geometry { IfOk result (λ added. added.geometry ≡ region.geometry) }
     ensures next { IfOk result (λ added. added.next ≡ region.next) }
-    ensures many { IfOk result (λ added. length added.parts.items ≡ length region.parts.items) }
-    ensures as_many { IfErr result (λ failed. length failed.0.items ≡ length region.parts.items) }
+    ensures lines { HaveSameLines (map L.history region.parts.items) (map L.history (parts_after_format result)) }
     ensures tell { AllTell (map L.history region.parts.items) → IfOk result (λ added. AllTell (map L.history added.parts.items)) }
     ensures never { (why : _) → IfErr result (λ failed. ¬ (failed.1 ≡ error.Refused why)) }
     ensures left { AllTell (map L.history region.parts.items) → IfErr result (λ failed.

@@ -1,5 +1,5 @@
 //! A blank region of a bench is formatted.
-ghost use Rattle.std.specs.Prelude.{◌≡◌, All, true, length, map, sum_by, IfOk, IfErr};
+ghost use Rattle.std.specs.Prelude.{◌≡◌, All, true, map, sum_by, IfOk, IfErr};
 ghost use Rattle.nv_plain.specs.Layouts.{version_1};
 ghost use Rattle.nv_plain.specs.Faults.{HasCause};
 ghost use Rattle.nv_pmem.specs.Rows.{RowTells, AreOnlyRead, InEachRowImage};
@@ -12,7 +12,7 @@ ghost use Rattle.nv_recover.specs.Telling.{AllTell};
 ghost use Rattle.nv_open.specs.Begun.{IsFormatted};
 ghost use Rattle.nv_open.specs.Causes.{RegionHasCause};
 ghost use Rattle.nv_open.specs.Refusals.{rooms_of, IsBadHeader};
-ghost use Rattle.nv_open.specs.Unopened.{TellRow};
+ghost use Rattle.nv_open.specs.Unopened.{HaveSameLines, TellRow};
 ghost use Rattle.nv_open.specs.declared.error.OpenError.TheVariants as error;
 
 use crate::OpenError;
@@ -29,8 +29,7 @@ pub(crate) fn format_parts<L: Lines + Drop>(
     requires blank { RowTells (map L.history parts.items) IsBlankRow }
     requires spare { All HasSpare (map L.room parts.items) }
     ensures formatted { IfOk result (λ region. IsFormatted geometry region.geometry.page region.geometry.entries region.names region.next) }
-    ensures many { IfOk result (λ region. length region.parts.items ≡ length parts.items) }
-    ensures as_many { IfErr result (λ failed. length failed.0.items ≡ length parts.items) }
+    ensures lines { HaveSameLines (map L.history parts.items) (map L.history (parts_after_format result)) }
     ensures tell { AllTell (map L.history parts.items) → IfOk result (λ region. AllTell (map L.history region.parts.items)) }
     ensures short { (why : _) → IfErr result (λ failed. failed.1 ≡ error.Refused why
         → RowTells (map L.history parts.items) (λ told. ¬ HasLines version_1 geometry.page geometry.entries (rooms_of told))) }

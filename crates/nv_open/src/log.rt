@@ -16,7 +16,7 @@ ghost use Rattle.nv_recover.specs.Telling.{AllTell};
 ghost use Rattle.nv_open.specs.Causes.{OpenHasCause};
 ghost use Rattle.nv_open.specs.Held.{HoldFiles, IsRecovered};
 ghost use Rattle.nv_open.specs.Refusals.{IsRefusedFor, IsBadLog};
-ghost use Rattle.nv_open.specs.Unopened.{IsGood, StandAsBefore};
+ghost use Rattle.nv_open.specs.Unopened.{HaveSameLines, IsGood, StandAsBefore};
 ghost use Rattle.nv_open.specs.declared.error.OpenError.TheVariants as error;
 
 use crate::OpenError;
@@ -52,7 +52,7 @@ pub(crate) fn recover_log<L: Lines + Drop, B: Backing>(
         → IfOk result (λ done. RowTells (map L.history parts.items) (λ told.
         HoldFiles (map B.history stores.new.items) (region_files (row_words told) (files_of was)))) }
     ensures quiet { IfOk result (λ done. All (λ store. Tells (B.history store) IsQuietStore) stores.new.items) }
-    ensures many { IfOk result (λ done. length done.0.parts.items ≡ length parts.items) }
+    ensures lines { HaveSameLines (map L.history parts.items) (map L.history (parts_after result)) }
     ensures tell { AllTell (map L.history parts.items) → AllTell (map B.history stores.old.items)
         → IfOk result (λ done. AllTell (map L.history done.0.parts.items)) }
     ensures refused { (why : _) → answer_of result ≡ Err (error.Refused why)
@@ -66,7 +66,6 @@ pub(crate) fn recover_log<L: Lines + Drop, B: Backing>(
     ensures standing { IfErr result (λ failed. (told : List Part) (was : List Store) → AreNow (map L.history parts.items) told → AreNow (map B.history stores.old.items) was
         → StandAsBefore told was (map L.history failed.0.items) (map B.history stores.new.items)) }
     ensures count { length stores.new.items ≡ length stores.old.items }
-    ensures as_many { IfErr result (λ failed. length failed.0.items ≡ length parts.items) }
     ensures cause { OpenHasCause (sum_by L.fault_count parts.items + sum_by B.fault_count stores.old.items)
         (sum_by L.fault_count (parts_after result) + sum_by B.fault_count stores.new.items) (answer_of result) }
 {

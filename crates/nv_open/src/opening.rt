@@ -18,7 +18,7 @@ ghost use Rattle.nv_open.specs.Held.{told_after};
 ghost use Rattle.nv_open.specs.Layers.{AreLentParts, HasAdded, HasNotAdded, IsBegunOpen, IsNotBegun, IsOpenedOpen, IsUnopened};
 ghost use Rattle.nv_open.specs.Lending.{HasLent, HasLentMore, all_lent};
 ghost use Rattle.nv_open.specs.Refusals.{rooms_of};
-ghost use Rattle.nv_open.specs.Unopened.{IsGood, IsUntouched, RestsUnopened, StandForFiles, StandsUnopened, TellsOf};
+ghost use Rattle.nv_open.specs.Unopened.{IsGood, IsUntouched, RestsUnopened, StandForFiles, StandsUnopened, TellsOf, line_counts};
 ghost use Rattle.nv_open.specs.declared.error.OpenError.TheVariants as error;
 ghost use Rattle.nv_open.specs.declared.error.Refusal.TheVariants as refusal;
 
@@ -58,7 +58,8 @@ pub fn open<T: Bench>(
         opened.region.geometry.page opened.region.geometry.entries opened.region.names opened.region.next (map T.Store.history opened.stores.items))) }
     ensures quiet { IfOk result (λ opened. All (λ store. Tells (T.Store.history store) IsQuietStore) opened.stores.items) }
     ensures tell { IfOk result (λ opened. IfSome (T.state bench.old).told (λ holding. AllTell (map T.Part.history opened.region.parts.items))) }
-    ensures many { IfOk result (λ opened. IfSome (T.state bench.old).told (λ holding. length opened.region.parts.items ≡ length (opened_parts (Some geometry) holding.parts))) }
+    ensures lines { IfOk result (λ opened. IfSome (T.state bench.old).told (λ holding. RowTells (map T.Part.history opened.region.parts.items) (λ now.
+        line_counts now ≡ line_counts (opened_parts (Some geometry) holding.parts)))) }
     ensures counts { IfOk result (λ opened. (T.state bench.old).faults ≡ saturated ((T.state bench.new).faults
         + sum_by T.Part.fault_count opened.region.parts.items + sum_by T.Store.fault_count opened.stores.items)) }
 
@@ -112,6 +113,7 @@ fn open_parts<T: Bench>(
     ensures given_up { IfErr result (λ failed. IsUnopened T.Part.history T.Store.history (T.state bench.old) (T.state bench.new) parts.items failed.0.items stores.new.items
         geometry wanted.now failed.1) }
 {
+    rows_have_states();
     match begin(alloc, bench, geometry, parts, stores) {
         Ok(region) => add_wanted(alloc, bench, wanted, region, stores),
         Err(failed) => Err(failed),
@@ -136,7 +138,7 @@ fn begin<T: Bench>(
         result }
     ensures begun { IfOk result (λ region. IsBegunOpen T.Part.history T.Store.history (T.state bench.old) (T.state bench.new) parts.items stores.new.items
         geometry region.geometry.page region.geometry.entries region.names region.next region.parts.items) }
-    ensures given_up { IfErr result (λ failed. IsNotBegun T.Part.history T.Store.history (T.state bench.old) (T.state bench.new) parts.items failed.0.items stores.new.items failed.1) }
+    ensures given_up { IfErr result (λ failed. IsNotBegun T.Part.history T.Store.history (T.state bench.old) (T.state bench.new) parts.items failed.0.items stores.new.items geometry failed.1) }
 {
     let mut parts = parts;
     images_follow_calls();

@@ -2,6 +2,7 @@
 ghost use Rattle.std.specs.Prelude.{◌≡◌, ◌+◌, ◌++◌, [], false, true, length, map, sum_by, All, None, Err, IfOk, IfErr, IfSome};
 ghost use Rattle.nv_plain.specs.Faults.{saturated};
 ghost use Rattle.nv_pmem.specs.Moments.{Tells};
+ghost use Rattle.nv_pmem.specs.Rows.{RowTells};
 ghost use Rattle.nv_bench.specs.Benches.{with_faults};
 ghost use Rattle.nv_bench.specs.Holding.{IsQuietHolding};
 ghost use Rattle.nv_store.specs.Store.{IsQuietStore};
@@ -12,7 +13,7 @@ ghost use Rattle.nv_open.specs.Held.{HoldFiles, IsRecovered, files_named, told_a
 ghost use Rattle.nv_open.specs.Layers.{AreLentParts, IsNotRecovered, IsRecoveredOpen};
 ghost use Rattle.nv_open.specs.Lending.{HasLent, all_lent};
 ghost use Rattle.nv_open.specs.Refusals.{IsRefusedFor};
-ghost use Rattle.nv_open.specs.Unopened.{HasHeader, IsGood, IsUntouched, StandsAsBefore, TellsOf};
+ghost use Rattle.nv_open.specs.Unopened.{HasHeader, IsGood, IsUntouched, StandsAsBefore, TellsOf, line_counts};
 ghost use Rattle.nv_open.specs.declared.error.OpenError.TheVariants as error;
 
 use crate::header::read_header;
@@ -45,7 +46,8 @@ pub fn recover_region<T: Bench>(
         (files_named holding.parts done.0.region.names holding.stores))) }
     ensures quiet { IfOk result (λ done. All (λ store. Tells (T.Store.history store) IsQuietStore) done.0.stores.items) }
     ensures tell { IfOk result (λ done. IfSome (T.state bench.old).told (λ holding. AllTell (map T.Part.history done.0.region.parts.items))) }
-    ensures many { IfOk result (λ done. IfSome (T.state bench.old).told (λ holding. length done.0.region.parts.items ≡ length holding.parts)) }
+    ensures lines { IfOk result (λ done. IfSome (T.state bench.old).told (λ holding. RowTells (map T.Part.history done.0.region.parts.items) (λ now.
+        line_counts now ≡ line_counts holding.parts))) }
     ensures counts { IfOk result (λ done. (T.state bench.old).faults ≡ saturated ((T.state bench.new).faults
         + sum_by T.Part.fault_count done.0.region.parts.items + sum_by T.Store.fault_count done.0.stores.items)) }
 

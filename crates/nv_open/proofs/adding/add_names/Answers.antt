@@ -3,7 +3,7 @@ use Rattle.nv_open.proofs.NewNames.{not_refused}
 use Rattle.nv_open.proofs.Openings.{item_at}
 use Rattle.std.proofs.Common.{map}
 use Rattle.std.proofs.lemmas.Grind.{common_steps}
-use Rattle.nv_open.proofs.LogLaws.{as_many}
+use Rattle.nv_open.proofs.LineCounts.{same_lines}
 use Rattle.nv_open.proofs.Tells.{did_tells}
 use Rattle.std.proofs.Common.{◌≡◌, ◌++◌, ◌+◌, [], ◌∷◌, List, ℕ, take, inl, inr, subst, append_assoc}
 use Rattle.std.proofs.lemmas.List.{take_more}
@@ -30,13 +30,17 @@ loop-name-preserved g c = record {
   tell = λ told.
       did_tells _ (map g.L.Lines.history c.loop-name.region.parts.items) (map g.L.Lines.history c.in-Ok.added.parts.items) c.in-Ok.ensures.done
       (c.loop-name.invariant.tell told);
-  many = as_many g.L.Lines.device c.loop-name.region.parts.items c.in-Ok.added.parts.items c.in-Ok.ensures.changed.devices ∙ c.loop-name.invariant.many;
+  counts = c.in-Ok.ensures.changed.lines ∙ c.loop-name.invariant.counts;
   next = c.in-Ok.ensures.next ∙ c.loop-name.invariant.next;
   faults = c.in-Ok.ensures.cause ∙ c.loop-name.invariant.faults;
 }
 
-pub returns-in-Err-clause-as_many : goal.returns-in-Err-clause-as_many
-returns-in-Err-clause-as_many g c = as_many g.L.Lines.device c.loop-name.region.parts.items c.in-Err.parts.items c.in-Err.ensures.changed.devices ∙ c.loop-name.invariant.many
+pub returns-in-Err-clause-lines : goal.returns-in-Err-clause-lines
+returns-in-Err-clause-lines g c =
+    same_lines g.L.Lines.history g.L.Lines.room g.met.L.Lines.told_lines c.args.region.parts.items c.in-Err.parts.items (c.in-Err.ensures.changed.lines ∙ c.loop-name.invariant.counts)
+
+pub returns-clause-lines : goal.returns-clause-lines
+returns-clause-lines g c = same_lines g.L.Lines.history g.L.Lines.room g.met.L.Lines.told_lines c.args.region.parts.items c.loop-name.region.parts.items c.loop-name.invariant.counts
 
 pub returns-in-Err-clause-left : goal.returns-in-Err-clause-left
 returns-in-Err-clause-left g c tell =

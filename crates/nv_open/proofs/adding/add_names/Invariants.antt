@@ -1,4 +1,4 @@
-use Rattle.std.proofs.Common.{◌≡◌, ◌++◌, length, map, take, sum_by}
+use Rattle.std.proofs.Common.{◌≡◌, ◌++◌, map, take, sum_by}
 use Rattle.nv_recover.specs.Telling.{AllTell}
 use Rattle.nv_open.proofs.adding.add_names.Given as goal
 
@@ -8,7 +8,7 @@ invariant-loop-name g l = record {
   names : l.region.names ≡ l.fn.region.names ++ take l.name-index l.fn.names;
   geometry : l.region.geometry ≡ l.fn.region.geometry;
   tell : AllTell (map g.L.Lines.history l.fn.region.parts.items) → AllTell (map g.L.Lines.history l.region.parts.items);
-  many : length l.region.parts.items ≡ length l.fn.region.parts.items;
+  counts : map (λ part. (g.L.Lines.room part).lines) l.region.parts.items ≡ map (λ part. (g.L.Lines.room part).lines) l.fn.region.parts.items;
   next : l.region.next ≡ l.fn.region.next;
   faults : sum_by g.L.Lines.fault_count l.region.parts.items ≡ sum_by g.L.Lines.fault_count l.fn.region.parts.items;
 }

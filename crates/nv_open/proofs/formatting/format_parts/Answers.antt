@@ -3,8 +3,7 @@ use Rattle.nv_plain.specs.Layouts.{version_1}
 use Rattle.nv_pmem.specs.RowStates.{row_tells_from}
 use Rattle.nv_header.specs.Needs.{HasLines}
 use Rattle.nv_open.specs.Refusals.{rooms_of}
-use Rattle.nv_open.proofs.LineCounts.{told_counts, has_lines_same}
-use Rattle.nv_open.proofs.LogLaws.{as_many}
+use Rattle.nv_open.proofs.LineCounts.{told_counts, has_lines_same, own_lines, same_lines}
 use Rattle.nv_open.proofs.Tells.{did_tells}
 use Rattle.std.proofs.Common.{inl}
 use Rattle.nv_pmem.specs.RowStates.{row_tells_at}
@@ -30,11 +29,14 @@ format-requires-clause-parts g c =
 pub returns-in-Ok-clause-tell : goal.returns-in-Ok-clause-tell
 returns-in-Ok-clause-tell g c tell = did_tells _ (map g.L.Lines.history c.args.parts.items) (map g.L.Lines.history c.in-Ok.region.parts.items) c.in-Ok.ensures.done tell
 
-pub returns-in-Ok-clause-many : goal.returns-in-Ok-clause-many
-returns-in-Ok-clause-many g c = as_many g.L.Lines.device c.args.parts.items c.in-Ok.region.parts.items c.in-Ok.ensures.changed.devices
+pub returns-in-Ok-clause-lines : goal.returns-in-Ok-clause-lines
+returns-in-Ok-clause-lines g c = same_lines g.L.Lines.history g.L.Lines.room g.met.L.Lines.told_lines c.args.parts.items c.in-Ok.region.parts.items c.in-Ok.ensures.changed.lines
 
-pub returns-clause-as_many : goal.returns-clause-as_many
-returns-clause-as_many g c = as_many g.L.Lines.device c.args.parts.items c.in-Err-format.parts.items c.in-Err-format.ensures.changed.devices
+pub returns-in-Err-clause-lines : goal.returns-in-Err-clause-lines
+returns-in-Err-clause-lines g c = own_lines c.rows_have_states.ensures.one (map g.L.Lines.history c.args.parts.items)
+
+pub returns-clause-lines : goal.returns-clause-lines
+returns-clause-lines g c = same_lines g.L.Lines.history g.L.Lines.room g.met.L.Lines.told_lines c.args.parts.items c.in-Err-format.parts.items c.in-Err-format.ensures.changed.lines
 
 pub returns-in-Err-clause-left : goal.returns-in-Err-clause-left
 returns-in-Err-clause-left g c tell =

@@ -2,6 +2,7 @@ use Rattle.std.proofs.Common.{Err, map, refl, sym, ap, ◌∙◌}
 use Rattle.nv_plain.specs.Layouts.{version_1}
 use Rattle.nv_recover.specs.Changes.{devices_of}
 use Rattle.nv_open.proofs.HeadLaws.{error_is}
+use Rattle.nv_open.proofs.LineCounts.{same_lines}
 use Rattle.nv_open.proofs.LogLaws.{files_held, can_be_read, recovered_told, refused_by_log, unwritten_log, unwritten_unless_good, as_many}
 use Rattle.nv_open.proofs.Stands.{stood, whole_now}
 use Rattle.nv_open.proofs.log.recover_log.Goals as goal
@@ -39,11 +40,11 @@ returns-in-Err-clause-stores_kept g c why is =
 pub returns-in-Err-clause-count : goal.returns-in-Err-clause-count
 returns-in-Err-clause-count g c = as_many g.B.Backing.device c.args.stores.now.items c.recover.new.stores.items c.recover.ensures.kept.stores
 
-pub returns-in-Ok-clause-many : goal.returns-in-Ok-clause-many
-returns-in-Ok-clause-many g c = as_many g.L.Lines.device c.args.parts.items c.in-Ok.done.0.parts.items c.in-Ok.ensures.kept.devices
+pub returns-in-Ok-clause-lines : goal.returns-in-Ok-clause-lines
+returns-in-Ok-clause-lines g c = same_lines g.L.Lines.history g.L.Lines.room g.met.L.Lines.told_lines c.args.parts.items c.in-Ok.done.0.parts.items c.in-Ok.ensures.kept.lines
 
-pub returns-in-Err-clause-as_many : goal.returns-in-Err-clause-as_many
-returns-in-Err-clause-as_many g c = as_many g.L.Lines.device c.args.parts.items c.in-Err.parts.items c.in-Err.ensures.kept.devices
+pub returns-in-Err-clause-lines : goal.returns-in-Err-clause-lines
+returns-in-Err-clause-lines g c = same_lines g.L.Lines.history g.L.Lines.room g.met.L.Lines.told_lines c.args.parts.items c.in-Err.parts.items c.in-Err.ensures.kept.lines
 
 pub returns-in-Err-clause-unfit : goal.returns-in-Err-clause-unfit
 returns-in-Err-clause-unfit g c =

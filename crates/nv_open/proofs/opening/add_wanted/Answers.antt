@@ -9,6 +9,8 @@ use Rattle.nv_open.specs.declared.error.Refusal.TheVariants.{TooManyFiles}
 use Rattle.nv_open.proofs.Additions.{held_more}
 use Rattle.nv_open.proofs.NewNames.{all_are_names}
 use Rattle.std.proofs.lemmas.List.Elements.{All-append}
+use Rattle.nv_pmem.specs.Part.{Part}
+use Rattle.nv_pmem.specs.RowStates.{AreNow}
 use Rattle.nv_pmem.specs.Moments.{Tells}
 use Rattle.nv_store.specs.Store.{IsQuietStore}
 use Rattle.nv_open.proofs.Tells.{opened_quiet}
@@ -16,7 +18,7 @@ use Rattle.std.proofs.Common.{[], refl, take}
 use Rattle.nv_pmem.specs.Rows.{InEachRowImage}
 use Rattle.nv_pmem.specs.Steps as lines
 use Rattle.nv_recover.specs.Telling.{AllTell}
-use Rattle.nv_open.specs.Unopened.{GivesBack, HasFirstNames, HasRest, HasSome, InEachImage, IsAtRestWith, TellRow}
+use Rattle.nv_open.specs.Unopened.{GivesBack, HasFirstNames, HasRest, HasSome, HaveSameLines, InEachImage, IsAtRestWith, TellRow, line_counts}
 use Rattle.nv_open.specs.declared.error.OpenError.{OpenError}
 use Rattle.std.specs.Prelude.{Vec}
 use Rattle.nv_open.proofs.Beginnings.{if_err_both}
@@ -24,7 +26,8 @@ use Rattle.nv_open.proofs.GivenBack.{if_err_each, rest_back}
 use Rattle.nv_open.proofs.Openings.{opened_none}
 use Rattle.nv_open.proofs.PartlyBack.{added_back, alone_are, rest_left, some_are}
 use Rattle.std.proofs.Common.{◌+◌}
-use Rattle.nv_open.proofs.Layers.{as_many, is_added, never_by_bench, never_by_memory, not_added}
+use Rattle.nv_open.proofs.LineCounts.{own_lines}
+use Rattle.nv_open.proofs.Layers.{is_added, lines_left, never_by_bench, never_by_memory, not_added}
 use Rattle.nv_open.proofs.opening.add_wanted.Goals as goal
 
 pub open_stores-requires-clause-names : goal.open_stores-requires-clause-names
@@ -95,7 +98,7 @@ returns-clause-added g c =
     (λ quiet.
     subst Quiet (sym opened.behind)
     (All-append (λ store. Tells (store_history store) IsQuietStore) before opened.stores quiet (opened_quiet store_history state.told missing opened.stores c.requires.synced opened.told opened.untold)))
-    c.add_names.ensures.geometry c.add_names.ensures.names c.add_names.ensures.next c.add_names.ensures.tell c.add_names.ensures.many
+    c.add_names.ensures.geometry c.add_names.ensures.names c.add_names.ensures.next c.add_names.ensures.tell c.add_names.ensures.lines
 
 pub returns-clause-given_up : goal.returns-clause-given_up
 returns-clause-given_up g c =
@@ -119,17 +122,18 @@ returns-clause-given_up g c =
     let all = all_are_names known wanted region.is_region.names_are c.requires.wanted few in
     let row : List lines.PartHistory = map history region.parts.items in
     let Left : Vec _ _ × OpenError → Type 0 = λ failed. TellRow (InEachRowImage (HasFirstNames region.geometry.page region.geometry.entries known missing region.next)) (map history failed.0.items) in
-    let Many : Vec _ _ × OpenError → Type 0 = λ failed. length failed.0.items ≡ length region.parts.items in
-    if_err_each c.add_names.result
-    (λ failed. Left failed × Many failed)
-    (λ failed. IfSome state.told (λ holding. AllTell row
-    → GivesBack history store_history (λ now. InEachImage (HasSome (length known) (all_names known wanted) (files_behind files new holding.stores)) now × HasRest (length region.parts.items) known holding.stores now) then failed.0.items stores))
-    (λ failed left.
+    let Alike : Vec _ _ × OpenError → Type 0 = λ failed. HaveSameLines row (map history failed.0.items) in
+    if_err_both (λ failed. AllTell row → Left failed) Alike
+    (λ failed. IfSome state.told (λ holding. (told : List Part) → AreNow row told
+    → GivesBack history store_history (λ now. InEachImage (HasSome region.geometry.page region.geometry.entries (length known) (all_names known wanted) (files_behind files new holding.stores)) now × HasRest (line_counts told) known holding.stores now) then failed.0.items stores))
+    c.add_names.result
+    (λ failed left alike.
     added_back history store_history state then row failed.0.items c.args.stores.now.items stores opened.stores known wanted missing region.geometry.page region.geometry.entries region.next files
     (g.met.T.Bench.named c.args.bench.now) c.requires.names (subst (λ (these : List (List ℕ)). AreFileNames version_1 (known ++ these)) (sym is) all) c.requires.one_each holds c.requires.synced
-    opened.behind opened.lent opened.told (length region.parts.items)
-    (λ tell. (subst (λ names. TellRow (InEachRowImage (HasFirstNames region.geometry.page region.geometry.entries known names region.next)) (map history failed.0.items)) is (left tell).0, (left tell).1)))
-    (λ tell. if_err_both Left Many (λ failed. Left failed × Many failed) c.add_names.result (λ failed left many. (left, many)) (c.add_names.ensures.left tell) c.add_names.ensures.as_many))
+    opened.behind opened.lent opened.told
+    (λ tell. subst (λ names. TellRow (InEachRowImage (HasFirstNames region.geometry.page region.geometry.entries known names region.next)) (map history failed.0.items)) is (left tell)) alike)
+    (if_err_each c.add_names.result Left (λ failed. AllTell row → Left failed) (λ failed left. left) c.add_names.ensures.left)
+    (lines_left history row c.add_names.result c.add_names.ensures.lines))
 
 pub returns-in_default-clause-given_up : goal.returns-in_default-clause-given_up
 returns-in_default-clause-given_up g c = record {
@@ -148,8 +152,9 @@ returns-in_default-clause-given_up g c = record {
       let row : List lines.PartHistory = map history region.parts.items in
       let same : map history back ≡ row = ap (λ parts. map history parts.items) c.into_parts.ensures.parts in
       added_back history store_history state state row back stores stores none.stores known c.args.wanted.now [] region.geometry.page region.geometry.entries region.next files (g.met.T.Bench.named c.args.bench.now) c.requires.names
-      (alone_are known region.is_region.names_are) c.requires.one_each holds c.requires.synced none.behind none.lent none.told (length region.parts.items)
-      (λ tell. (rest_left (map history back) region.geometry.page region.geometry.entries known new region.next c.rows_have_states.ensures.some (subst AllTell (sym same) tell) c.into_parts.ensures.region.tells, as_many history back region.parts.items same));
+      (alone_are known region.is_region.names_are) c.requires.one_each holds c.requires.synced none.behind none.lent none.told
+      (λ tell. rest_left (map history back) region.geometry.page region.geometry.entries known new region.next c.rows_have_states.ensures.some (subst AllTell (sym same) tell) c.into_parts.ensures.region.tells)
+      (subst (HaveSameLines row) (sym same) (own_lines c.rows_have_states.ensures.one row));
 }
 
 pub returns-then-len-gt-FILE_LIMIT-clause-given_up : goal.returns-then-len-gt-FILE_LIMIT-clause-given_up
@@ -185,8 +190,9 @@ returns-then-len-gt-FILE_LIMIT-clause-given_up g c = record {
       let row : List lines.PartHistory = map history region.parts.items in
       let same : map history back ≡ row = ap (λ parts. map history parts.items) c.into_parts-then-len-gt-FILE_LIMIT.ensures.parts in
       added_back history store_history state state row back stores stores none.stores known c.args.wanted.now [] region.geometry.page region.geometry.entries region.next files (g.met.T.Bench.named c.args.bench.now) c.requires.names
-      (alone_are known region.is_region.names_are) c.requires.one_each holds c.requires.synced none.behind none.lent none.told (length region.parts.items)
-      (λ tell. (rest_left (map history back) region.geometry.page region.geometry.entries known new region.next c.rows_have_states.ensures.some (subst AllTell (sym same) tell) c.into_parts-then-len-gt-FILE_LIMIT.ensures.region.tells, as_many history back region.parts.items same));
+      (alone_are known region.is_region.names_are) c.requires.one_each holds c.requires.synced none.behind none.lent none.told
+      (λ tell. rest_left (map history back) region.geometry.page region.geometry.entries known new region.next c.rows_have_states.ensures.some (subst AllTell (sym same) tell) c.into_parts-then-len-gt-FILE_LIMIT.ensures.region.tells)
+      (subst (HaveSameLines row) (sym same) (own_lines c.rows_have_states.ensures.one row));
 }
 
 pub returns-in-Err-clause-given_up : goal.returns-in-Err-clause-given_up
@@ -214,6 +220,7 @@ returns-in-Err-clause-given_up g c = record {
       let same : map history back ≡ row = ap (λ parts. map history parts.items) c.into_parts-in-Err.ensures.parts in
       added_back history store_history state (g.T.Bench.state c.open_stores.new.bench) row back c.args.stores.now.items c.open_stores.new.stores.items opened.stores known wanted more region.geometry.page region.geometry.entries region.next files
       (g.met.T.Bench.named c.args.bench.now) c.requires.names (some_are begun.number known missing (subst (λ (these : List (List ℕ)). AreFileNames version_1 (known ++ these)) (sym is) all)) c.requires.one_each holds c.requires.synced
-      opened.behind opened.lent opened.told (length region.parts.items)
-      (λ tell. (rest_left (map history back) region.geometry.page region.geometry.entries known new region.next c.rows_have_states.ensures.some (subst AllTell (sym same) tell) c.into_parts-in-Err.ensures.region.tells, as_many history back region.parts.items same));
+      opened.behind opened.lent opened.told
+      (λ tell. rest_left (map history back) region.geometry.page region.geometry.entries known new region.next c.rows_have_states.ensures.some (subst AllTell (sym same) tell) c.into_parts-in-Err.ensures.region.tells)
+      (subst (HaveSameLines row) (sym same) (own_lines c.rows_have_states.ensures.one row));
 }

@@ -7,6 +7,7 @@ use Rattle.nv_pmem.specs.Rows.{RowTells}
 use Rattle.nv_pmem.specs.Steps as lines
 use Rattle.nv_bench.specs.Opening.{is_blank}
 use Rattle.nv_header.specs.Laws.{HasSpare}
+use Rattle.nv_header.specs.Changes.{parts_after_format}
 use Rattle.nv_header.specs.Regions.{IsBlankRow}
 use Rattle.nv_header.specs.Needs.{HasLines}
 use Rattle.nv_plain.specs.Layouts.{version_1}
@@ -20,15 +21,14 @@ use Rattle.nv_open.proofs.Returns.{written_back, unwritten_by}
 use Rattle.nv_header.specs.Regions.{IsBlankOrFormatted}
 use Rattle.nv_pmem.specs.Rows.{InEachRowImage}
 use Rattle.nv_recover.specs.Telling.{AllTell}
-use Rattle.nv_open.specs.Unopened.{GivesBack, IsGood, IsUntouched, StandForFiles, StandsOpening, TellRow}
+use Rattle.nv_open.specs.Unopened.{GivesBack, HaveSameLines, IsGood, IsUntouched, StandForFiles, StandsOpening, TellRow, line_counts}
 use Rattle.nv_open.specs.declared.error.OpenError.{OpenError}
 use Rattle.std.specs.Prelude.{Vec}
-use Rattle.std.proofs.lemmas.List.{length-map}
 use Rattle.nv_pmem.specs.RowStates.{AreNow}
 use Rattle.nv_open.specs.Lending.{stores_named}
 use Rattle.nv_open.proofs.GivenBack.{if_err_any, if_err_each, none_of_header, read_back, read_untouched}
 use Rattle.nv_open.proofs.PartlyBack.{blank_back, read_left}
-use Rattle.nv_open.proofs.Layers.{formatted_begins, never_bad, never_by_fault, not_blank, not_formatted, not_recovered_begins, recovered_begins}
+use Rattle.nv_open.proofs.Layers.{formatted_begins, lines_left, never_bad, never_by_fault, not_blank, not_formatted, not_recovered_begins, recovered_begins}
 use Rattle.nv_pmem.specs.Rows.{AreQuiet}
 use Rattle.nv_open.proofs.opening.begin.Goals as goal
 
@@ -93,7 +93,7 @@ returns-in-Ok-true-clause-begun g c =
     let none = opened_none store_history g.T.Store.Backing.fault_count state c.args.stores.now.items c.args.stores.now.items refl in
     let blank = tells_test (map history c.deref_mut.result.now) row c.in-Ok-true.field-0 true (ap (map history) c.deref_mut.ensures.value) c.in-Ok-true.ensures.told c.in-Ok-true.field-0-test in
     formatted_begins history store_history state state items c.args.stores.now.items c.format_parts.result back c.args.geometry none.lent c.requires.none same blank c.requires.given.tell
-    c.format_parts.ensures.formatted c.format_parts.ensures.many c.format_parts.ensures.tell
+    c.format_parts.ensures.formatted c.format_parts.ensures.lines c.format_parts.ensures.tell
 
 pub returns-in-Ok-true-clause-given_up : goal.returns-in-Ok-true-clause-given_up
 returns-in-Ok-true-clause-given_up g c =
@@ -110,7 +110,7 @@ returns-in-Ok-true-clause-given_up g c =
     let geometry = c.args.geometry in
     let told = state.told in
     let stores = c.args.stores.now.items in
-    not_formatted history store_history state state items stores c.format_parts.result
+    not_formatted history store_history state state items stores c.format_parts.result geometry
     (λ why.
     if_err_map (λ failed. failed.1 ≡ error.Refused why → RowTells (map history back) (λ parts. ¬ (HasLines version_1 geometry.page geometry.entries (rooms_of parts))))
     (λ failed. failed.1 ≡ error.Refused why → IfSome told (λ holding. RowTells row (λ parts. (is_blank parts ≡ false) × IsRefusedFor parts why))) c.format_parts.result
@@ -126,13 +126,13 @@ returns-in-Ok-true-clause-given_up g c =
     (c.format_parts.ensures.header why) (c.format_parts.ensures.kept why))
     (λ wanted.
     let Left : Vec _ _ × OpenError → Type 0 = λ failed. TellRow (InEachRowImage (IsBlankOrFormatted version_1 geometry.page geometry.entries)) (map history failed.0.items) in
-    let Many : Vec _ _ × OpenError → Type 0 = λ failed. length failed.0.items ≡ length back in
-    if_err_each c.format_parts.result
-    (λ failed. Left failed × Many failed)
-    (λ failed. IfSome state.told (λ holding. RowTells row (λ told. StandForFiles told → GivesBack history store_history (StandsOpening (length told) (record { parts = told; stores = holding.stores }) wanted) state failed.0.items stores)))
-    (λ failed left. blank_back history store_history state state row failed.0.items stores wanted geometry.page geometry.entries c.requires.given.home none.lent c.requires.none blank c.requires.given.tell
-    (λ tell. (let both = left tell in (both.0, both.1 ∙ sym (length-map back history) ∙ ap length same))))
-    (λ tell. if_err_both Left Many (λ failed. Left failed × Many failed) c.format_parts.result (λ failed left many. (left, many)) (c.format_parts.ensures.left (subst AllTell (sym same) tell)) c.format_parts.ensures.as_many))
+    let Gives : Vec _ _ × OpenError → Type 0 = λ failed. IfSome state.told (λ holding. RowTells row (λ told. StandForFiles told
+    → GivesBack history store_history (StandsOpening (line_counts told) geometry (record { parts = told; stores = holding.stores }) wanted) state failed.0.items stores)) in
+    let Alike : Vec _ _ × OpenError → Type 0 = λ failed. HaveSameLines row (map history failed.0.items) in
+    if_err_both (λ failed. AllTell row → Left failed) Alike Gives c.format_parts.result
+    (λ failed left alike. blank_back history store_history state state row failed.0.items stores geometry wanted c.requires.given.home none.lent c.requires.none blank c.requires.given.tell left alike)
+    (if_err_each c.format_parts.result Left (λ failed. AllTell row → Left failed) (λ failed left. left) (λ tell. c.format_parts.ensures.left (subst AllTell (sym same) tell)))
+    (lines_left history row c.format_parts.result (subst (λ (these : List lines.PartHistory). HaveSameLines these (map history (parts_after_format c.format_parts.result))) same c.format_parts.ensures.lines)))
     (if_err_any c.format_parts.result
     (λ failed. never_bad state.told row (λ holding told. GivesBack history store_history (IsUntouched (record { parts = told; stores = holding.stores })) state failed.0.items stores)
     (row_tells_from row (λ told. is_blank told ≡ false → ¬ (IsGood told) → ⊥) (λ told are kept not_good. true_is_kept (sym (row_tells_at row (λ told. is_blank told ≡ true) told are blank) ∙ kept)))))
@@ -164,7 +164,7 @@ returns-in-Err-recover_parts-clause-given_up g c =
     let same = ap (map history) (written_back c.args.parts.len new items (omega (arith, c.are_blank.auto.parts, c.deref_mut.ensures.len))) ∙ c.are_blank.ensures.read.histories ∙ ap (map history) c.deref_mut.ensures.value in
     let blank = tells_test (map history c.deref_mut.result.now) row c.in-Ok-false.field-0 false (ap (map history) c.deref_mut.ensures.value) c.in-Ok-false.ensures.told c.in-Ok-false.field-0-test in
     let failed = c.in-Err-recover_parts.failed in
-    not_recovered_begins history store_history state (g.T.Bench.state c.recover_parts.new.bench) items c.recover_parts.new.stores.items back failed.0.items failed.1 same blank c.in-Err-recover_parts.ensures.given_up
+    not_recovered_begins history store_history state (g.T.Bench.state c.recover_parts.new.bench) items c.recover_parts.new.stores.items back failed.0.items c.args.geometry failed.1 same blank c.in-Err-recover_parts.ensures.given_up
 
 pub returns-in-Err-clause-given_up : goal.returns-in-Err-clause-given_up
 returns-in-Err-clause-given_up g c =
@@ -184,7 +184,7 @@ returns-in-Err-clause-given_up g c =
       refused = λ why is. never_by_fault why c.into.result c.into.ensures is;
       unwritten = λ why is. never_by_fault why c.into.result c.into.ensures is;
       standing = λ wanted.
-          read_left history store_history state state row back stores wanted c.images_follow_calls.ensures.quiet named c.requires.given.home none.lent c.requires.none same c.requires.given.quiet c.requires.given.synced
+          read_left history store_history state state row back stores c.args.geometry wanted c.images_follow_calls.ensures.quiet named c.requires.given.home none.lent c.requires.none same c.requires.given.quiet c.requires.given.synced
           (read_back history store_history state state items back stores named c.requires.given.home c.requires.given.quiet c.requires.given.synced [] same none.lent are);
       untouched =
           not_blank state.told row (λ holding told. GivesBack history store_history (IsUntouched (record { parts = told; stores = holding.stores })) state back stores)

@@ -1,5 +1,4 @@
-use Rattle.std.proofs.Common.{◌≡◌, ◌∙◌, List, Some, Err, length, map, refl, sym}
-use Rattle.std.proofs.lemmas.List.{length-map}
+use Rattle.std.proofs.Common.{◌≡◌, ◌∙◌, List, Some, Err, length, map, refl}
 use Rattle.nv_pmem.specs.Part.{Part}
 use Rattle.nv_pmem.specs.RowStates.{AreNow}
 use Rattle.nv_store.specs.Store.{IsQuietStore}
@@ -9,16 +8,15 @@ use Rattle.nv_bench.specs.Opening.{is_blank, opened}
 use Rattle.nv_open.specs.Begun.{IsRegionOpened, IsNotOpened}
 use Rattle.nv_open.proofs.HeadLaws.{error_is}
 use Rattle.nv_open.proofs.AsHeld.{given_long, given_kept, some_map, opened_before, not_opened_before}
-use Rattle.nv_open.proofs.LogLaws.{states_many}
 use Rattle.nv_open.proofs.Regions.{given_quiet, given_spare, given_tell, lent_told, quiet_parts, some_stores, stores_after, still_untold, returned_told}
 use Rattle.nv_open.proofs.Sized.{opened_kept, quiet_opened}
 use Rattle.std.proofs.Common.{Option, [], ap, false, inl, subst}
 use Rattle.std.specs.Prelude.{All, option_map}
 use Rattle.nv_pmem.specs.Rows.{RowTells}
 use Rattle.nv_pmem.specs.RowStates.{row_tells_at}
-use Rattle.nv_open.specs.Unopened.{GivesBack, IsGood, IsUntouched, RestsUnopened, StandForFiles, StandsOpening, StandsUnopened, TellsOf}
+use Rattle.nv_open.specs.Unopened.{GivesBack, IsGood, IsUntouched, RestsUnopened, StandForFiles, StandsOpening, StandsUnopened, TellsOf, line_counts}
 use Rattle.nv_open.proofs.GivenBack.{at_some, if_err_any, if_some, still_untouched, told_so}
-use Rattle.nv_open.proofs.PartlyBack.{gives_more, made_stand, rests_before, still_left, unopened_made}
+use Rattle.nv_open.proofs.PartlyBack.{gives_more, made_stand, rests_before, unopened_made}
 use Rattle.nv_open.proofs.opening.open.Goals as goal
 
 pub open_parts-requires-clause-given : goal.open_parts-requires-clause-given
@@ -91,23 +89,21 @@ returns-in-Err-clause-unwritten g c why is other =
     (c.in-Err.ensures.given_up.unwritten why same other) c.give_back.ensures.told
     (λ none. c.give_back.ensures.untold (still_untold (length c.open_parts.new.stores.items) old mid (g.T.Bench.state c.open_parts.new.bench) c.in_ok-parts.ensures.lent c.in-Err.ensures.lent none))
 
-pub returns-in-Ok-clause-many : goal.returns-in-Ok-clause-many
-returns-in-Ok-clause-many g c =
+pub returns-in-Ok-clause-lines : goal.returns-in-Ok-clause-lines
+returns-in-Ok-clause-lines g c =
+    let old = g.T.Bench.state c.args.bench.now in
+    let mid = g.T.Bench.state c.open_region.new.self in
     let history = g.T.Part.Lines.history in
-    let parts = c.in_ok-parts.parts.items in
-    let given : Holding → List Part = λ holding. opened (Some c.args.geometry) holding.parts in
-    some_map (g.T.Bench.state c.args.bench.now).told (λ holding. AreNow (map history parts) (given holding)) (λ holding. length c.in-Ok.region.parts.items ≡ length (given holding))
-    (λ holding are. c.in-Ok.ensures.opened.devices.many ∙ sym (states_many (map history parts) (given holding) are ∙ length-map parts history)) c.in_ok-parts.ensures.told
+    some_stores old.told mid.told (λ (holding : Holding). opened (Some c.args.geometry) holding.parts) (map history c.in_ok-parts.parts.items)
+    (λ parts held. RowTells (map history c.in-Ok.region.parts.items) (λ now. line_counts now ≡ line_counts parts)) (lent_told old mid c.in_ok-parts.ensures.lent) c.in_ok-parts.ensures.told c.in-Ok.ensures.opened.devices.lines_kept
 
 pub returns-in_err-parts-clause-standing : goal.returns-in_err-parts-clause-standing
 returns-in_err-parts-clause-standing g c =
     let old = g.T.Bench.state c.args.bench.now in
     let new = g.T.Bench.state c.open_region.new.self in
-    let wanted = c.args.wanted.now in
     if_err_any c.from_residual.result (λ why.
-    if_some old.told (λ was. StandForFiles was.parts → TellsOf (StandsUnopened was c.args.geometry wanted) new.told)
-    (λ was told stand. let left = still_left old new was wanted c.images_follow_calls.ensures.quiet c.in_err-parts.ensures.kept told c.requires.quiet stand in
-    record { now = left.now; told_is = left.told_is; is_so = record { either = inl left.is_so } }))
+    if_some old.told (λ was. StandForFiles was.parts → TellsOf (StandsUnopened was c.args.geometry c.args.wanted.now) new.told)
+    (λ was told stand. record { now = was; told_is = ap (λ (state : BenchState). state.told) c.in_err-parts.ensures.kept ∙ told; is_so = record { either = inl refl } }))
 
 pub returns-in-Err-clause-standing : goal.returns-in-Err-clause-standing
 returns-in-Err-clause-standing g c =
@@ -127,12 +123,12 @@ returns-in-Err-clause-standing g c =
     let left : Holding = record { parts = []; stores = was.stores } in
     let mid_told : mid.told ≡ Some left = lent_told old mid c.in_ok-parts.ensures.lent ∙ ap (λ (one : Option Holding). option_map (λ (these : Holding). record { parts = []; stores = these.stores }) one) told in
     let Of : List Part → Holding = λ parts. record { parts = parts; stores = was.stores } in
-    let gives = row_tells_at (map history parts) (λ told. StandForFiles told → GivesBack history store_history (StandsOpening (length told) (Of told) wanted) new back stores) made
+    let gives = row_tells_at (map history parts) (λ told. StandForFiles told → GivesBack history store_history (StandsOpening (line_counts told) geometry (Of told) wanted) new back stores) made
     (at_some old.told (λ holding. AreNow (map history parts) (opened (Some geometry) holding.parts)) was told c.in_ok-parts.ensures.told)
-    (at_some mid.told (λ holding. RowTells (map history parts) (λ told. StandForFiles told → GivesBack history store_history (StandsOpening (length told) (record { parts = told; stores = holding.stores }) wanted) new back stores)) left mid_told
+    (at_some mid.told (λ holding. RowTells (map history parts) (λ told. StandForFiles told → GivesBack history store_history (StandsOpening (line_counts told) geometry (record { parts = told; stores = holding.stores }) wanted) new back stores)) left mid_told
     c.in-Err.ensures.given_up.standing) (made_stand geometry was.parts stand) in
     told_so history store_history (StandsUnopened was geometry wanted) new back stores then
-    (gives_more history store_history (StandsOpening (length made) (Of made) wanted) (StandsUnopened was geometry wanted) new back stores (unopened_made geometry was wanted) gives)
+    (gives_more history store_history (StandsOpening (line_counts made) geometry (Of made) wanted) (StandsUnopened was geometry wanted) new back stores (unopened_made geometry was wanted) gives)
     c.give_back.ensures.told)
 
 pub returns-in_err-parts-clause-untouched : goal.returns-in_err-parts-clause-untouched

@@ -27,13 +27,13 @@ pub returns-in-Ok-clause-opened : goal.returns-in-Ok-clause-opened
 returns-in-Ok-clause-opened g c =
     let region = c.in-Ok.region in
     added_opens g.T.Part.Lines.history g.T.Store.Backing.history (g.T.Bench.state c.args.bench.now) (g.T.Bench.state c.begin.new.bench) (g.T.Bench.state c.add_wanted.new.bench) c.args.parts.items region.parts.items
-    c.begin.new.stores.items c.add_wanted.new.stores.items c.args.geometry c.args.wanted.now region.geometry region.names region.next c.in-Ok.ensures.begun c.add_wanted.result c.add_wanted.ensures.added
+    c.begin.new.stores.items c.add_wanted.new.stores.items c.args.geometry c.args.wanted.now region.geometry region.names region.next c.in-Ok.ensures.begun c.rows_have_states.ensures.some c.add_wanted.result c.add_wanted.ensures.added
 
 pub returns-in-Ok-clause-given_up : goal.returns-in-Ok-clause-given_up
 returns-in-Ok-clause-given_up g c =
     let region = c.in-Ok.region in
     not_added_opens g.T.Part.Lines.history g.T.Store.Backing.history (g.T.Bench.state c.args.bench.now) (g.T.Bench.state c.begin.new.bench) (g.T.Bench.state c.add_wanted.new.bench) c.args.parts.items region.parts.items
-    c.begin.new.stores.items c.add_wanted.new.stores.items c.args.geometry c.args.wanted.now region.geometry region.names region.next c.in-Ok.ensures.begun c.add_wanted.result c.add_wanted.ensures.given_up
+    c.begin.new.stores.items c.add_wanted.new.stores.items c.args.geometry c.args.wanted.now region.geometry region.names region.next c.in-Ok.ensures.begun c.rows_have_states.ensures.some c.add_wanted.result c.add_wanted.ensures.given_up
 
 pub returns-in-Err-clause-given_up : goal.returns-in-Err-clause-given_up
 returns-in-Err-clause-given_up g c =

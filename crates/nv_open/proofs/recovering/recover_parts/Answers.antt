@@ -12,7 +12,7 @@ use Rattle.nv_open.specs.Held.{header_names}
 use Rattle.nv_open.specs.Lending.{stores_named}
 use Rattle.nv_open.specs.Refusals.{IsRefusedFor, IsBadHeader, IsBadLog}
 use Rattle.nv_open.proofs.Beginnings.{if_err_both}
-use Rattle.nv_open.proofs.Layers.{as_many, is_recovered, never_by_bench, not_recovered}
+use Rattle.nv_open.proofs.Layers.{is_recovered, lines_after, never_by_bench, not_recovered}
 use Rattle.nv_open.proofs.LineCounts.{kept_spare}
 use Rattle.nv_open.proofs.Openings.{opened_none, some_nil}
 use Rattle.nv_open.proofs.Returns.{written_back, lent_quiet, opened_alone, files_passed, opened_by_header, opened_by_log, refused_alone, unwritten_by}
@@ -20,7 +20,7 @@ use Rattle.nv_bench.specs.Holding.{Holding}
 use Rattle.nv_recover.specs.Telling.{AllTell}
 use Rattle.nv_open.proofs.Tells.{telling_with}
 use Rattle.nv_pmem.specs.Part.{Part}
-use Rattle.nv_open.specs.Unopened.{IsGood, StandAsBefore}
+use Rattle.nv_open.specs.Unopened.{HaveSameLines, IsGood, StandAsBefore}
 use Rattle.nv_open.proofs.GivenBack.{all_of_header, at_some, first_of_header, none_of_header, read_back, read_untouched, stood_back, untouched_back}
 use Rattle.std.proofs.lemmas.Result.{IfErr-weaker}
 use Rattle.nv_plain.specs.Layouts.{version_1}
@@ -160,7 +160,7 @@ returns-clause-recovered g c =
     c.recover_log.ensures.quiet
     (telling_with (λ done. map history done.0.parts.items) c.recover_log.result state.told (map history items) (map store_history c.open_stores.new.stores.items) (λ (holding : Holding). stores_named names holding.stores)
     c.requires.given.tell lent (λ parts_tell stores_tell. c.recover_log.ensures.tell (subst AllTell (sym same) parts_tell) stores_tell))
-    c.recover_log.ensures.many
+    c.recover_log.ensures.lines
 
 pub returns-clause-given_up : goal.returns-clause-given_up
 returns-clause-given_up g c =
@@ -190,14 +190,15 @@ returns-clause-given_up g c =
     (if_err_both
     (λ failed. (told : List Part) (was : List _) → AreNow (map history back) told → AreNow (map store_history c.open_stores.new.stores.items) was
     → StandAsBefore told was (map history failed.0.items) (map store_history c.recover_log.new.stores.items))
-    (λ failed. length failed.0.items ≡ length back)
+    (λ failed. HaveSameLines row (map history failed.0.items))
     (λ failed. IfSome state.told (λ holding. RowTells (map history items) (λ told. _))) c.recover_log.result
-    (λ failed stands many.
+    (λ failed stands alike.
     stood_back history store_history state then items failed.0.items c.recover_log.new.stores.items (g.met.T.Bench.named c.args.bench.now) c.requires.given.home c.requires.given.quiet c.requires.given.synced names
-    says c.in-Ok.ensures.limits.names (c.recover_log.ensures.count ∙ sym (ap length alone) ∙ opened.count) (many ∙ as_many history back items same) opened.lent
+    says c.in-Ok.ensures.limits.names (c.recover_log.ensures.count ∙ sym (ap length alone) ∙ opened.count) alike opened.lent
     (λ holding told_is told told_are. stands told (stores_named names holding.stores) (subst (λ (row : List lines.PartHistory). AreNow row told) (sym same) told_are)
     (at_some state.told (λ holding. AreNow (map store_history c.open_stores.new.stores.items) (stores_named names holding.stores)) holding told_is lent)))
-    c.recover_log.ensures.standing c.recover_log.ensures.as_many)
+    c.recover_log.ensures.standing
+    (lines_after history row c.recover_log.result (subst (λ (these : List lines.PartHistory). HaveSameLines these (map history (parts_after c.recover_log.result))) same c.recover_log.ensures.lines)))
     (IfErr-weaker c.recover_log.result
     (λ failed. RowTells (map history back) (λ told. ¬ (IsGood told)
     → (map history failed.0.items ≡ map history back) × (map store_history c.recover_log.new.stores.items ≡ map store_history c.open_stores.new.stores.items)))

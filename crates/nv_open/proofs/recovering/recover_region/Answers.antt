@@ -1,5 +1,4 @@
-use Rattle.std.proofs.Common.{◌≡◌, ◌∙◌, Err, length, map, refl, sym, ap}
-use Rattle.std.proofs.lemmas.List.{length-map}
+use Rattle.std.proofs.Common.{◌≡◌, ◌∙◌, Err, length, map, refl, ap}
 use Rattle.nv_pmem.specs.RowStates.{AreNow}
 use Rattle.nv_store.specs.Store.{IsQuietStore}
 use Rattle.nv_bench.specs.Holding.{Holding, IsQuietHolding, NamedStore}
@@ -8,14 +7,13 @@ use Rattle.nv_open.specs.Held.{HoldFiles, IsRecovered, files_named}
 use Rattle.nv_open.specs.Refusals.{IsRefusedFor}
 use Rattle.nv_open.proofs.HeadLaws.{error_is}
 use Rattle.nv_open.proofs.AsHeld.{some_map}
-use Rattle.nv_open.proofs.LogLaws.{states_many}
 use Rattle.nv_open.proofs.Regions.{given_quiet, given_spare, given_tell, lent_told, quiet_parts, some_told, some_stores, stores_after, still_untold, returned_told}
 use Rattle.std.proofs.Common.{Some, Option, List, []}
 use Rattle.std.specs.Prelude.{All, option_map}
 use Rattle.nv_bench.specs.Benches.{BenchState}
 use Rattle.nv_pmem.specs.Rows.{RowTells}
 use Rattle.nv_pmem.specs.RowStates.{row_tells_at}
-use Rattle.nv_open.specs.Unopened.{HasHeader, GivesBack, IsGood, IsUntouched, StandsAsBefore, TellsOf}
+use Rattle.nv_open.specs.Unopened.{HasHeader, GivesBack, IsGood, IsUntouched, StandsAsBefore, TellsOf, line_counts}
 use Rattle.nv_open.proofs.GivenBack.{at_some, if_err_any, if_some, still_stands, still_untouched, told_so}
 use Rattle.nv_open.proofs.recovering.recover_region.Goals as goal
 
@@ -67,12 +65,13 @@ returns-in-Err-clause-unwritten g c why is =
     (c.in-Err.ensures.given_up.unwritten why (error_is (Err c.in-Err.error) _ _ refl is)) c.give_back.ensures.told
     (λ none. c.give_back.ensures.untold (still_untold (length c.recover_parts.new.stores.items) old mid (g.T.Bench.state c.recover_parts.new.bench) c.in_ok-parts.ensures.lent c.in-Err.ensures.lent none))
 
-pub returns-in-Ok-clause-many : goal.returns-in-Ok-clause-many
-returns-in-Ok-clause-many g c =
+pub returns-in-Ok-clause-lines : goal.returns-in-Ok-clause-lines
+returns-in-Ok-clause-lines g c =
+    let old = g.T.Bench.state c.args.bench.now in
+    let mid = g.T.Bench.state c.open_region.new.self in
     let history = g.T.Part.Lines.history in
-    let parts = c.in_ok-parts.parts.items in
-    some_map (g.T.Bench.state c.args.bench.now).told (λ holding. AreNow (map history parts) holding.parts) (λ holding. length c.in-Ok.region.parts.items ≡ length holding.parts)
-    (λ holding are. c.in-Ok.ensures.recovered.devices.many ∙ sym (states_many (map history parts) holding.parts are ∙ length-map parts history)) c.in_ok-parts.ensures.told
+    some_stores old.told mid.told (λ (holding : Holding). holding.parts) (map history c.in_ok-parts.parts.items)
+    (λ parts held. RowTells (map history c.in-Ok.region.parts.items) (λ now. line_counts now ≡ line_counts parts)) (lent_told old mid c.in_ok-parts.ensures.lent) c.in_ok-parts.ensures.told c.in-Ok.ensures.recovered.devices.lines_kept
 
 pub returns-in_err-parts-clause-standing : goal.returns-in_err-parts-clause-standing
 returns-in_err-parts-clause-standing g c =
