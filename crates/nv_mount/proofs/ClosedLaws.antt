@@ -80,5 +80,9 @@ module _ {L B : Type 0} (device : L → ℕ) (history : L → PartHistory) (faul
         stores_tell device history faults room store_device store_history store_faults pass.view parts stores placed tail many_parts many_stores whole sound keeps mount files log opens,
       )
 
-  pub lines_stay : KeepLines pass.view (map history parts)
-  lines_stay = keep_lines device history faults room store_device store_history store_faults pass.view parts stores placed tail many_parts many_stores whole
+  pub lines_stay : KeepLines pass (map history parts)
+  lines_stay =
+      let part = part_value device history faults room in
+      let same : board.opened.sizes.entries ≡ pass.view.opened.sizes.entries = ap (λ (o : Opened). o.sizes.entries) (sym of_board.same_mount) in
+      keep_lines device history faults room store_device store_history store_faults pass.view parts stores placed tail many_parts many_stores whole pass.spare
+      (subst (λ n. map part (drop (1 + n) parts) ≡ pass.spare) same closed.same_spare)

@@ -1,5 +1,5 @@
 -- Laws about what a mount opens: the files of its stores, and the empty log of its region.
-use Rattle.std.proofs.Common.{◌≡◌, ℕ, zero, suc, ◌+◌, ◌<◌, ◌≤◌, ◌⊎◌, false, List, [], ◌∷◌, length, get_or, map, Option, inl, inr, refl, sym, ap, subst, ◌∙◌, arith}
+use Rattle.std.proofs.Common.{◌≡◌, ℕ, zero, suc, ◌+◌, ◌<◌, ◌≤◌, ◌⊎◌, false, List, [], ◌∷◌, length, get_or, map, drop, Option, inl, inr, refl, sym, ap, subst, ◌∙◌, arith}
 use Rattle.std.specs.Prelude.{Some, None}
 use Rattle.std.specs.List.{All, AllZip}
 use Rattle.std.proofs.lemmas.Bool.{cases_lt}
@@ -10,14 +10,15 @@ use Rattle.nv_plain.specs.Layouts.{mount_layout}
 use Rattle.nv_pmem.specs.Moments.{Tells}
 use Rattle.nv_pmem.specs.Part.{Part}
 use Rattle.nv_pmem.specs.Room.{Room}
-use Rattle.nv_pmem.specs.RowStates.{AreNow, EachPartHasOne, row_tells_at}
+use Rattle.nv_pmem.specs.RowStates.{AreNow, EachPartHasOne, row_tells_at, row_tells_from}
+use Rattle.nv_pmem.specs.Rows.{RowTells}
 use Rattle.nv_pmem.specs.Steps.{PartHistory}
 use Rattle.nv_store.specs.Steps.{StoreHistory}
 use Rattle.nv_store.specs.Store.{Store, IsQuietStore}
 use Rattle.nv_header.specs.Regions.{part_lines, IsAtRest, IsRegion}
 use Rattle.nv_header.proofs.InRow.{HaveLines, told_room}
 use Rattle.nv_core.specs.state.Words.{Sizes, STORE, PAGE}
-use Rattle.nv_core.specs.state.Values.{Value, Bare, is_valid}
+use Rattle.nv_core.specs.state.Values.{Value, Bare, APart, AStore, ABuffer, is_valid}
 use Rattle.nv_core.specs.content.StorePages.{store_of_value}
 use Rattle.nv_core.specs.log.Written.{IsPart}
 use Rattle.nv_core.specs.content.Content.{Opens}
@@ -25,16 +26,17 @@ use Rattle.nv_core.specs.log.LogContent.{OpensLog}
 use Rattle.nv_core.specs.crash.CrashImages.{StoresQuiet, OpensRegion}
 use Rattle.nv_core.specs.crash.RegionsAtRest.{KeepRow, RegionsAtRestOpen}
 use Rattle.nv_table.specs.declared.slot.PageBuffer.{PageBuffer}
+use Rattle.nv_table.specs.state.Layout.{cell_of}
 use Rattle.nv_table.specs.state.SlotValues.{present, part_value, store_value, buffer_value, slot_value}
 use Rattle.nv_table.specs.state.Opened.{Opened, held_in, mount_of}
 use Rattle.nv_table.specs.ends.OpeningSlots.{IsFreshBuffer, AreOpeningSlots}
 use Rattle.nv_table.specs.state.States.{PassState}
-use Rattle.nv_core.proofs.log.ImageLaws.{part_one}
 use Rattle.nv_table.proofs.state.LayoutLaws.{slot_there}
 use Rattle.nv_table.proofs.state.ShapeLaws.{each_held, held_part, held_store, no_store}
 use Rattle.nv_mount.specs.declared.fds.Fd.{Fd}
 use Rattle.nv_mount.specs.Mounts.{MountState, AreLengths, IsOpened}
-use Rattle.nv_mount.specs.Telling.{HasLongParts, IsSeen, StoresHave}
+use Rattle.nv_mount.specs.Telling.{HasLongParts, IsSeen, StoresHave, lines_kept, mounted_lines, told_lines}
+use Rattle.nv_mount.proofs.TellingLaws.{lines_in_slots, shown_lines}
 
 -- ---- what stores tell
 
@@ -72,6 +74,13 @@ not_valid : (page : ℕ) (buffer : Option PageBuffer) → IsFreshBuffer page buf
 not_valid page None is = refl
 not_valid page (Some buffer) (inl fresh) = fresh.1
 not_valid page (Some buffer) (inr none) = absurd cc
+
+-- the lines of the part that a value keeps
+shown_by : (value : Value) (one : Part) → IsPart value one → lines_kept value ≡ length one
+shown_by (APart device spares) one is = ap told_lines is
+shown_by Bare one is = absurd is
+shown_by (AStore device) one is = absurd is
+shown_by (ABuffer buffer) one is = absurd is
 
 -- ---- the mount
 
@@ -164,6 +173,18 @@ module _ {L B : Type 0} (device : L → ℕ) (history : L → PartHistory) (faul
           sym (get_or-map store_history is.asked k d [] less) ∙ ap (λ (row : List StoreHistory). get_or row k []) is.same_histories ∙ get_or-map store_history stores k d [] there in
           quiet_told (store_history (get_or is.asked k d)) state (subst (λ (h : StoreHistory). Tells h IsQuietStore) (sym at) (quiet k d there)) told
 
+  -- Its parts tell what they told of their lines.
+  pub opens_lines : RowTells (map history parts) (λ now. mounted_lines (mount_of opened) pass.spare ≡ map (λ part. length part) now)
+  opens_lines =
+      let same : opened.sizes.entries ≡ sizes.entries = ap (λ (s : Sizes). s.entries) is.begun.sizes_are in
+      row_tells_from (map history parts) (λ now. mounted_lines (mount_of opened) pass.spare ≡ map (λ part. length part) now) (λ now now_are.
+      lines_in_slots part parts (1 + opened.sizes.entries) (λ slot. lines_kept ((mount_of opened).values (cell_of opened.sizes slot))) pass.spare enough_then (λ i less.
+      let one = held_part part store opened parts is.asked is.begun.slots is.begun.slots_show are enough_then (λ one. lines_kept (part one)) i (omega (arith, less)) in
+      let place = slot_there opened.sizes i (omega (arith, less)) in
+      ap (λ place. lines_kept (held_in opened.slots place)) place.0 ∙ ap lines_kept one.1 ∙ sym (one.2 0))
+      (subst (λ n. pass.spare ≡ map part (drop (1 + n) parts)) (sym same) is.begun.spare)
+      ∙ sym (shown_lines device history faults room parts now now_are))
+
   -- The log of its region is empty, and the mount opens it.
   module _ (names : List (List ℕ)) (names_many : length names ≡ sizes.files) (few_pages : sizes.pages ≤ 1024)
       (region : IsRegion mount_layout sizes.page sizes.entries names next (map room parts) (map history parts))
@@ -220,9 +241,7 @@ module _ {L B : Type 0} (device : L → ℕ) (history : L → PartHistory) (faul
         both.1
 
     pub has_long_parts : HasLongParts (mount_of opened)
-    has_long_parts slot one least is =
+    has_long_parts slot least =
         let place = slot_there opened.sizes slot (omega (arith, least)) in
-        let here : IsPart (get_or opened.slots slot Bare) one = subst (λ place. IsPart (held_in opened.slots place) one) place.0 is in
-        let same = part_one (get_or opened.slots slot Bare) (get_or states slot []) one (part_at slot least) here in
         let enough = lines slot least in
-        omega (arith, enough, ap (λ (p : Part). length p) same)
+        omega (arith, enough, ap (λ place. lines_kept (held_in opened.slots place)) place.0, shown_by (get_or opened.slots slot Bare) (get_or states slot []) (part_at slot least))

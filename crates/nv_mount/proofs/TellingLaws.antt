@@ -1,13 +1,17 @@
 -- Laws about what tells: a part that tells when it is mounted tells when the mount is closed, and so does a store.
-use Rattle.std.proofs.Common.{◌≡◌, ℕ, zero, suc, ◌+◌, ◌-◌, ◌<◌, ◌≤◌, Bool, true, false, List, [], ◌∷◌, length, get_or, map, drop, inl, inr, Option, refl, sym, ap, subst, ◌∙◌, arith}
+use Rattle.std.proofs.Common.{◌≡◌, ℕ, zero, suc, ◌+◌, ◌-◌, ◌<◌, ◌≤◌, Bool, true, false, List, [], ◌∷◌, ◌++◌, length, get_or, map, take, drop, inl, inr, Option, refl, sym, ap, subst, ◌∙◌, arith}
 use Rattle.std.specs.Prelude.{Some, None, is_some}
-use Rattle.std.specs.List.{All}
+use Rattle.std.specs.List.{All, range_with_len}
 use Rattle.std.proofs.lemmas.Bool.{cases_lt}
-use Rattle.std.proofs.lemmas.List.{drop-map, get_or-drop, get_or_default, length-drop, length-map}
+use Rattle.std.proofs.lemmas.List.{drop-map, ext_get_or, get_or-drop, get_or-take, get_or_default, length-drop, length-map, length-take-le, take-append-drop}
+use Rattle.std.proofs.lemmas.List.FromFn.{get_or-map-range_with_len, length-map-range_with_len}
+use Rattle.std.proofs.lemmas.Simd.{map-map}
 use Rattle.std.proofs.lemmas.List.Elements.{All-nil, All-cons, All-head, All-tail}
 use Rattle.nv_plain.specs.Files.{Files}
 use Rattle.nv_pmem.specs.Part.{Part as PartState}
 use Rattle.nv_pmem.specs.Room.{Room}
+use Rattle.nv_pmem.specs.RowStates.{AreNow, row_tells_from}
+use Rattle.nv_pmem.specs.Rows.{RowTells}
 use Rattle.nv_pmem.specs.Steps.{PartHistory}
 use Rattle.nv_pmem.proofs.LineLaws.{length-after_step}
 use Rattle.nv_store.specs.Store.{Store as StoreState}
@@ -32,7 +36,7 @@ use Rattle.nv_table.specs.state.Opened.{mount_of}
 use Rattle.nv_table.specs.state.SlotValues.{present, part_value, store_value, slot_value}
 use Rattle.nv_table.specs.state.Views.{PassView}
 use Rattle.nv_table.proofs.state.LayoutLaws.{cell_there}
-use Rattle.nv_mount.specs.Telling.{AllDevicesTell, IsTelling, KeepLines}
+use Rattle.nv_mount.specs.Telling.{AllDevicesTell, IsTelling, lines_kept, mounted_lines, told_lines}
 use Rattle.nv_mount.specs.WholeRuns.{IsWholeRun}
 use Rattle.nv_mount.proofs.ClosedFilesLaws.{store_shown}
 use Rattle.nv_mount.proofs.WholeRunLaws.{there}
@@ -107,22 +111,25 @@ told_run : (sizes : Sizes) (core : Core) (run : List Event) (cell : Word) → pa
 told_run sizes core [] cell = refl
 told_run sizes core (event ∷ later) cell = told_run sizes (after_event sizes event core) later cell ∙ told_act sizes event.by event.act core cell
 
+-- nor how many lines it tells
+kept_told : (value : Value) → lines_kept value ≡ parts_told value - 1
+kept_told (APart device spares) = go device.told
+  where
+    go : (told : Option PartState) → told_lines told ≡ count_told told - 1
+    go None = refl
+    go (Some part) = omega arith
+kept_told Bare = refl
+kept_told (AStore device) = refl
+kept_told (ABuffer buffer) = refl
+
+kept_run : (sizes : Sizes) (core : Core) (run : List Event) (cell : Word) → lines_kept ((after_run sizes core run).values cell) ≡ lines_kept (core.values cell)
+kept_run sizes core run cell = kept_told ((after_run sizes core run).values cell) ∙ ap (λ n. n - 1) (told_run sizes core run cell) ∙ sym (kept_told (core.values cell))
+
 told_part : (value : Value) (part : PartState) → IsPart value part → parts_told value ≡ 1 + length part
 told_part (APart device spares) part is = ap count_told is
 told_part Bare part is = absurd is
 told_part (AStore device) part is = absurd is
 told_part (ABuffer buffer) part is = absurd is
-
--- what is told was told of a part
-part_told : (value : Value) (lines : ℕ) → parts_told value ≡ 1 + lines → (part : PartState) × IsPart value part × (length part ≡ lines)
-part_told (APart device spares) lines is = go device.told is
-  where
-    go : (told : Option PartState) → count_told told ≡ 1 + lines → (part : PartState) × (told ≡ Some part) × (length part ≡ lines)
-    go None is = absurd (omega (arith, is))
-    go (Some part) is = (part, refl, omega (arith, is))
-part_told Bare lines is = absurd (omega (arith, is))
-part_told (AStore device) lines is = absurd (omega (arith, is))
-part_told (ABuffer buffer) lines is = absurd (omega (arith, is))
 
 some_told : (history : PartHistory) (lines : ℕ) → count_told (present history) ≡ 1 + lines → 0 < length history
 some_told [] lines told = absurd (omega (arith, told))
@@ -131,6 +138,34 @@ some_told (now ∷ past) lines told = omega arith
 some_present : (history : StoreHistory) (store : StoreState) → present history ≡ Some store → 0 < length history
 some_present [] store told = absurd cc
 some_present (now ∷ past) store told = omega arith
+
+-- ---- the lines of parts
+
+-- parts that tell show their lines
+pub shown_lines : {L : Type 0} (device : L → ℕ) (history : L → PartHistory) (faults : L → ℕ) (room : L → Room) (parts : List L) (now : List PartState)
+    → AreNow (map history parts) now → map (λ part. length part) now ≡ map (λ one. lines_kept (part_value device history faults room one)) parts
+shown_lines device history faults room [] [] are = refl
+shown_lines device history faults room [] (state ∷ now) are = absurd are
+shown_lines device history faults room (part ∷ parts) [] are = absurd are
+shown_lines device history faults room (part ∷ parts) (state ∷ now) are =
+    ap (λ (n : ℕ). n ∷ map (λ one. length one) now) (sym (ap (λ (these : PartHistory). told_lines (present these)) are.0.is))
+    ∙ ap (λ (counts : List ℕ). lines_kept (part_value device history faults room part) ∷ counts) (shown_lines device history faults room parts now are.1)
+
+-- parts of which the first so many show the lines of cells
+pub lines_in_slots : {L : Type 0} (value : L → Value) (parts : List L) (many : ℕ) (of_slot : ℕ → ℕ) (spare : List Value) → many ≤ length parts
+    → ((i : ℕ) → i < many → of_slot i ≡ get_or (map (λ one. lines_kept (value one)) parts) i 0) → spare ≡ map value (drop many parts)
+    → map of_slot (range_with_len 0 many) ++ map (λ one. lines_kept one) spare ≡ map (λ one. lines_kept (value one)) parts
+lines_in_slots value parts many of_slot spare enough each same =
+    let all = map (λ one. lines_kept (value one)) parts in
+    let long : length all ≡ length parts = length-map parts (λ one. lines_kept (value one)) in
+    let few : length (take many all) ≡ many = length-take-le many all (omega (arith, enough, long)) in
+    let front : map of_slot (range_with_len 0 many) ≡ take many all =
+    ext_get_or 0 (map of_slot (range_with_len 0 many)) (take many all) (length-map-range_with_len of_slot 0 many ∙ sym few) (λ i less.
+    let below : i < many = omega (arith, less, length-map-range_with_len of_slot 0 many) in
+    get_or-map-range_with_len of_slot 0 many i i 0 below (omega arith) ∙ each i below ∙ sym (get_or-take many all i 0 below)) in
+    ap (λ (counts : List ℕ). counts ++ map (λ one. lines_kept one) spare) front
+    ∙ ap (λ (counts : List ℕ). take many all ++ counts) (ap (map (λ one. lines_kept one)) same ∙ map-map (λ one. lines_kept one) value (drop many parts) ∙ sym (drop-map (λ one. lines_kept (value one)) many parts))
+    ∙ take-append-drop many all
 
 -- ---- parts that have no slot
 
@@ -184,15 +219,15 @@ module _ {L B : Type 0} (device : L → ℕ) (history : L → PartHistory) (faul
       subst (λ h. 0 < length h) (sym one.3) (some_told (history one.0) (length part) told)
 
   -- no part has more or fewer lines
-  pub keep_lines : KeepLines view (map history parts)
-  keep_lines long slot now least is =
-      let one = there (part_value device history faults room) history Bare [] parts slot (omega (arith, parts_many, least)) in
-      let told : present (history one.0) ≡ Some now = ap present (sym one.3 ∙ is.is) in
-      let lines : parts_told ((mount_of view.opened).values (cell_of sizes slot)) ≡ 1 + length now =
-      sym (told_run sizes (opening (mount_of view.opened)) view.run (cell_of sizes slot)) ∙ ap parts_told (sym (whole.parts_show slot least) ∙ one.2) ∙ ap count_told told in
-      let was = part_told ((mount_of view.opened).values (cell_of sizes slot)) (length now) lines in
-      let enough = long slot was.0 least was.1 in
-      omega (arith, enough, was.2)
+  pub keep_lines : (spare : List Value) → map (part_value device history faults room) (drop (1 + sizes.entries) parts) ≡ spare
+      → RowTells (map history parts) (λ now. map (λ part. length part) now ≡ mounted_lines (mount_of view.opened) spare)
+  keep_lines spare same =
+      let value = part_value device history faults room in
+      row_tells_from (map history parts) (λ now. map (λ part. length part) now ≡ mounted_lines (mount_of view.opened) spare) (λ now are.
+      shown_lines device history faults room parts now are
+      ∙ sym (lines_in_slots value parts (1 + sizes.entries) (λ slot. lines_kept ((mount_of view.opened).values (cell_of sizes slot))) spare parts_many (λ i less.
+      let one = there value (λ one. lines_kept (value one)) Bare 0 parts i (omega (arith, parts_many, less)) in
+      sym (kept_run sizes (opening (mount_of view.opened)) view.run (cell_of sizes i)) ∙ sym (ap lines_kept (whole.parts_show i (omega (arith, less)))) ∙ ap lines_kept one.2 ∙ sym one.3) (sym same)))
 
   module _ (sound : RunsAreSound) (keeps : RunsKeepTheLog) (mount : IsMount (mount_of view.opened)) (files : Files) (log : OpensLog (mount_of view.opened) view.opened.next) (opens : Opens (mount_of view.opened) files) where
     slot_tells : (i : ℕ) → i ≤ sizes.entries → 0 < length (get_or (map history parts) i [])

@@ -3,6 +3,7 @@ ghost use Rattle.std.specs.Prelude.{◌≡◌, ◌+◌, ◌<◌, ◌≤◌, leng
 ghost use Rattle.nv_plain.specs.Faults.{Rose};
 ghost use Rattle.nv_plain.specs.Files.{Files};
 ghost use Rattle.nv_pmem.specs.Moments.{Tells};
+ghost use Rattle.nv_pmem.specs.Rows.{RowTells};
 ghost use Rattle.nv_store.specs.Store.{IsQuietStore};
 ghost use Rattle.nv_core.specs.content.Content.{Opens};
 ghost use Rattle.nv_core.specs.crash.CrashImages.{OpensRegion};
@@ -19,7 +20,7 @@ ghost use Rattle.nv_mount.specs.ClosedAtRest.{HasEmptiedLog, HaveFilesWhereEmpty
 ghost use Rattle.nv_mount.specs.ClosedFiles.{ReadAsFiles};
 ghost use Rattle.nv_mount.specs.OneHistories.{HasOneHistory};
 ghost use Rattle.nv_mount.specs.RisenCounts.{SawStop, failed_before};
-ghost use Rattle.nv_mount.specs.Telling.{AllDevicesTell, DevicesGoOnTelling, HasLongParts, IsTelling, KeepLines, StoresHave};
+ghost use Rattle.nv_mount.specs.Telling.{AllDevicesTell, DevicesGoOnTelling, HasLongParts, IsTelling, KeepLines, StoresHave, mounted_lines};
 ghost use Rattle.nv_mount.specs.WholeRuns.{IsWholeRun};
 ghost use Rattle.nv_mount.specs.WholeWrites.{CrashesLeaveWholeWrites};
 
@@ -98,6 +99,8 @@ impl<L: Lines + Drop, B: Backing + Drop> Mount<L, B> {
         ensures region { IfOk result (λ made. AllDevicesTell (map L.history region.parts.items) → OpensRegion (mount_of made.0.board.opened) region.names) }
         ensures empty { IfOk result (λ made. HasEmptiedLog made.1.view) }
         ensures long { IfOk result (λ made. AllDevicesTell (map L.history region.parts.items) → HasLongParts (mount_of made.0.board.opened)) }
+        ensures lines { IfOk result (λ made. RowTells (map L.history region.parts.items) (λ now.
+            mounted_lines (mount_of made.0.board.opened) made.1.spare ≡ map (λ part. length part) now)) }
         ensures spare { IfOk result (λ made. AllDevicesTell (map L.history region.parts.items) → All IsTelling made.1.spare) }
         ensures counts { IfOk result (λ made. failed_before made.1 ≡ sum_by L.fault_count region.parts.items + sum_by B.fault_count stores.items) }
         ensures parts_back { IfErr result (λ failed. failed.region.parts.items ≡ region.parts.items) }
@@ -149,7 +152,7 @@ impl<L: Lines + Drop, B: Backing + Drop> Mount<L, B> {
     /// mount and pass come back unchanged. What the pass has seen is the whole run then, and what comes out is told over it: the calls of
     /// all passes have one history, as long as `placed` says. The devices that come out have failed no less often than when the mount was
     /// opened, and more often where one of the passes saw STOP set; and where all devices told then, all that come out tell,
-    /// and no part has more or fewer lines. Over stores and parts that tell, whatever a power failure leaves of them recovers to the
+    /// and no part has more or fewer lines than then. Over stores and parts that tell, whatever a power failure leaves of them recovers to the
     /// files after the history and then some of the writes in flight, each whole; where no pass holds a cell, these are writes that faults
     /// ended, and where the log is empty too, the stores have all files; where STOP is 0 besides, they are durable, and the parts are a region at rest.
     /// No device call may have come since the pass's last step. Takes no memory.
@@ -172,7 +175,7 @@ impl<L: Lines + Drop, B: Backing + Drop> Mount<L, B> {
         ensures rest { IfOk result (λ closed. RestsWhereEmpty pass.view (map L.history closed.parts.items) (map B.history closed.stores.items) closed.tail) }
         ensures crash { IfOk result (λ closed. CrashesLeaveWholeWrites pass.view (map L.history closed.parts.items) (map B.history closed.stores.items)) }
         ensures telling { IfOk result (λ closed. DevicesGoOnTelling pass (map L.history closed.parts.items) (map B.history closed.stores.items)) }
-        ensures lines { IfOk result (λ closed. KeepLines pass.view (map L.history closed.parts.items)) }
+        ensures lines { IfOk result (λ closed. KeepLines pass (map L.history closed.parts.items)) }
         ensures stopped { IfOk result (λ closed. SawStop pass.view → Rose (failed_before pass) (sum_by L.fault_count closed.parts.items + sum_by B.fault_count closed.stores.items)) }
         ensures grew { IfOk result (λ closed. failed_before pass ≤ sum_by L.fault_count closed.parts.items + sum_by B.fault_count closed.stores.items) }
         ensures out { IfErr result (λ failed. length pass.view.ended < made_of pass.view) }

@@ -69,7 +69,7 @@ pub record IsClosedBy (zero : PassState) (part_values store_values : List Value)
   pub stopped : SawStop zero.view → Rose (failed_before zero) faults
   pub grew : failed_before zero ≤ faults
   pub telling : DevicesGoOnTelling zero parts stores
-  pub lines : KeepLines zero.view parts
+  pub lines : KeepLines zero parts
 
 -- why a call of such a run was refused, whatever batches pass 0 has run since
 abbrev pub IsRefusedSo : List Fd → (worker : Option ℕ) → List MadeCall → (zero : PassState) → TracedCall → Refusal → Type 0

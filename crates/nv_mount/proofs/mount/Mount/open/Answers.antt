@@ -6,7 +6,7 @@ use Rattle.nv_table.specs.ends.Begun.{begun_sizes}
 use Rattle.nv_table.specs.state.SlotValues.{store_value}
 use Rattle.nv_mount.specs.Telling.{AllDevicesTell, IsTelling}
 use Rattle.nv_mount.proofs.ClosedAtRestLaws.{begins_empty}
-use Rattle.nv_mount.proofs.OpenLaws.{has_long_parts, opens_files, opens_log, opens_region}
+use Rattle.nv_mount.proofs.OpenLaws.{has_long_parts, opens_files, opens_lines, opens_log, opens_region}
 use Rattle.nv_mount.proofs.StoppedLaws.{counts_opened}
 use Rattle.nv_mount.proofs.TellingLaws.{all_behind, told_spares}
 use Rattle.nv_mount.proofs.mount.Mount.open.Goals as goal
@@ -75,3 +75,11 @@ returns-in-Ok-new-clause-long g c tell =
     has_long_parts g.L.Lines.device g.L.Lines.history g.L.Lines.fault_count g.L.Lines.room g.B.Backing.device g.B.Backing.history g.B.Backing.fault_count
     sizes region.next region.parts.items c.args.stores.items c.args.fds _ c.in-Ok-new.pass (returns-in-Ok-new-clause-opened g c) enough c.requires.stores
     region.names refl c.requires.few_pages region.is_region g.met.L.Lines.told_lines c.rows_have_states.ensures.each states.states states.are
+
+pub returns-in-Ok-new-clause-lines : goal.returns-in-Ok-new-clause-lines
+returns-in-Ok-new-clause-lines g c =
+    let region = c.args.region in
+    let sizes = begun_sizes region.geometry.page region.geometry.entries (length region.names) c.args.pages c.args.cache in
+    let enough : 1 + sizes.entries ≤ length region.parts.items = omega (arith, region.is_region.parts.count, length-map region.parts.items g.L.Lines.room) in
+    opens_lines g.L.Lines.device g.L.Lines.history g.L.Lines.fault_count g.L.Lines.room g.B.Backing.device g.B.Backing.history g.B.Backing.fault_count
+    sizes region.next region.parts.items c.args.stores.items c.args.fds _ c.in-Ok-new.pass (returns-in-Ok-new-clause-opened g c) enough c.requires.stores
