@@ -203,6 +203,8 @@ runs_leave_lives basis trace fds plan start ended outcome part_values store_valu
     let kept = kept_of fds on_file on_files log.first log.groups left in
     record {
       readable = whole.header.readable;
+      page_is = whole.header.page_is ∙ sym there.page;
+      entries_is = whole.header.entries_is ∙ sym there.entries;
       names_are = whole.header.names_are;
       fits = whole.fits;
       kept = kept.calls;

@@ -44,9 +44,11 @@ files_behind basis trace history calls =
     let descriptors = descriptors_in basis.names trace in
     after_calls (map (λ call. file_call descriptors call.call) calls) (after (history_of descriptors history) basis.files)
 
--- An image recovers to the files after a history and then some other calls of the trace, each whole. No two of all these are of one line, so each call is there once.
+-- An image says the sizes and names of a basis, and recovers to the files after a history and then some other calls of the trace, each whole. No two of all these are of one line, so each call is there once.
 pub record RecoversBehind (basis : Basis) (trace : Traced) (history : List PlacedCall) (image : Image) (bytes : Files) : Type 0 where
   pub readable : IsHead mount_layout mount_layout.header_lines image
+  pub page_is : (header_of image).page ≡ basis.sizes.page
+  pub entries_is : (header_of image).entries ≡ basis.sizes.entries
   pub names_are : first_names mount_layout image (header_of image).files ≡ basis.names
   pub fits : Fits mount_layout image
   pub kept : List TracedCall

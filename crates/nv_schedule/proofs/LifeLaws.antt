@@ -62,6 +62,8 @@ schedules_leave_lives basis trace mount batch start ended bench armed outcome pa
     let kept = kept_of mount.fds on_file on_files log.first log.groups left in
     record {
       readable = whole.header.readable;
+      page_is = whole.header.page_is ∙ sym there.page;
+      entries_is = whole.header.entries_is ∙ sym there.entries;
       names_are = whole.header.names_are;
       fits = whole.fits;
       kept = kept.calls;
