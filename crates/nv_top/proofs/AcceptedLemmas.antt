@@ -1,12 +1,13 @@
--- What a command leaves of a region that was blank or good: none of its bytes is refused, once power went off.
-use Rattle.std.proofs.Common.{◌≡◌, ◌⊎◌, ℕ, ◌≤◌, Bool, true, false, List, [], ◌∷◌, Option, Some, None, Ok, Err, length, map, inl, inr, refl, sym, ap, subst, ◌∙◌, arith}
+-- What a command leaves of a region that was blank or good: it is so again, once power went off.
+use Rattle.std.proofs.Common.{◌≡◌, ◌⊎◌, ℕ, ◌≤◌, Bool, true, false, List, [], ◌∷◌, Option, Some, None, Ok, Err, length, map, inl, inr, refl, sym, ap, subst, ◌∙◌, ◌==◌, arith}
 use Rattle.std.specs.Global.{Vec}
 use Rattle.std.specs.Prelude.{IfOk, IfSome, IsOk, is_ok, slice_index_or}
 use Rattle.std.proofs.lemmas.Bool.{eqb-true, true≢false}
 use Rattle.nv_plain.specs.Files.{Files}
-use Rattle.nv_plain.specs.Images.{header_of}
+use Rattle.nv_plain.specs.Images.{Image, header_of}
 use Rattle.nv_plain.specs.Layouts.{mount_layout}
 use Rattle.nv_plain.specs.Recovered.{Fits, IsBlank}
+use Rattle.nv_pmem.specs.Draws.{draws_of}
 use Rattle.nv_pmem.specs.Laws.{QuietPartHasOneImage}
 use Rattle.nv_pmem.specs.Part.{Part}
 use Rattle.nv_pmem.specs.Rows.{IsRowImage, row_words}
@@ -17,24 +18,23 @@ use Rattle.nv_store.specs.Store.{Store}
 use Rattle.nv_bench.specs.Benches.{BenchState}
 use Rattle.nv_bench.specs.Holding.{Holding, IsQuietHolding, NamedStore}
 use Rattle.nv_bench.specs.Laws.{AreWholeStores, PowerLeavesAnImage}
-use Rattle.nv_bench.specs.Opening.{is_blank}
+use Rattle.nv_bench.specs.Opening.{is_blank, opened}
 use Rattle.nv_bench.specs.Powered.{powered}
 use Rattle.nv_header.specs.Heads.{IsHead}
 use Rattle.nv_header.specs.Needs.{HasLines, header_lines_in}
-use Rattle.nv_header.specs.Refusals.{ReadIsNotRefused}
 use Rattle.nv_header.specs.Regions.{IsAtRest}
-use Rattle.nv_header.specs.declared.head.HeadError.TheVariants as head
-use Rattle.nv_recover.specs.Groups.{FittingHasNoBad}
 use Rattle.nv_recover.specs.Standing.{AreStoreImages}
 use Rattle.nv_recover.proofs.AlikeLaws.{empty_fits}
 use Rattle.nv_recover.proofs.EmptyLaws.{empty_none}
 use Rattle.nv_open.specs.Held.{header_names}
 use Rattle.nv_open.specs.Lending.{stores_named}
 use Rattle.nv_open.specs.Looking.{names_until, told_by}
-use Rattle.nv_open.specs.Refusals.{CanBeRead, IsRefusedFor, head_image, header_part, rooms_of}
-use Rattle.nv_open.specs.Unopened.{InEachImage, IsGood, IsUntouched, StandForFiles, StandsAsBefore, StandsOpening, StandsWithSome, TellsOf, names_in}
-use Rattle.nv_open.specs.declared.error.Refusal.{Refusal}
-use Rattle.nv_open.specs.declared.error.Refusal.TheVariants.{Truncated, BadMagic, BadVersion, BadGeometry, BadName, BadEntry, TooManyFiles}
+use Rattle.nv_open.specs.Refusals.{CanBeRead, head_image, header_part, rooms_of}
+use Rattle.nv_open.specs.Unopened.{InEachImage, IsGood, IsUntouched, StandForFiles, StandsAsBefore, StandsOpening, TellsOf, entries_known, line_counts, names_in, page_known}
+use Rattle.nv_open.proofs.LineCounts.{long_alike}
+use Rattle.nv_open.proofs.Partly.{blank_entries, blank_page, kept_entries, kept_page}
+use Rattle.nv_open.proofs.PartlyBack.{known_entries, known_page}
+use Rattle.nv_open.proofs.Sized.{blank_stays, long_opened, opened_kept}
 use Rattle.nv_open.proofs.Stands.{durable_images}
 use Rattle.nv_trace.specs.Traced.{Traced}
 use Rattle.nv_trace.specs.declared.trace.Form.{Form}
@@ -43,8 +43,8 @@ use Rattle.nv_runner.specs.Faithful.{Basis}
 use Rattle.nv_runner.specs.Histories.{PlacedCall}
 use Rattle.nv_runner.specs.Lives.{RecoversBehind}
 use Rattle.nv_load.specs.Generated.{generated}
-use Rattle.nv_top.specs.Accepted.{IsAcceptedBehindPower, IsBlankOrGood, IsForLines, HasMadeRegion, MayHaveTrace, NextIsAccepted, WhatIsMadeIsGood}
-use Rattle.nv_top.specs.Commands.{IsLookedAt}
+use Rattle.nv_top.specs.Accepted.{IsAcceptedBehindPower, IsBlankOrGood, HasMadeRegion, MayHaveTrace, NextIsAccepted, WhatIsMadeIsGood}
+use Rattle.nv_top.specs.Commands.{IsBasis, IsLookedAt}
 use Rattle.nv_top.specs.Endings.{IsTrace, OfRead}
 use Rattle.nv_top.specs.Headline.{IsShown, IsShownOf, UsesTurns}
 use Rattle.nv_top.specs.Leaving.{Leaves}
@@ -60,8 +60,14 @@ use Rattle.nv_words.specs.declared.words.Command.TheVariants.{Run, Sched, Recove
 use Rattle.nv_words.specs.declared.words.RunOptions.{RunOptions}
 use Rattle.nv_top.proofs.CommandLemmas.{told_at}
 use Rattle.nv_top.proofs.LifeLemmas.{all_whole, one_image}
+use Rattle.nv_top.proofs.PoweredHomes.{powered_lines}
 
 -- ---- what is read of parts
+
+-- the header's part has the header's lines
+first_long : (parts : List Part) → mount_layout.header_lines ≤ header_lines_in (rooms_of parts) → mount_layout.header_lines ≤ length (header_part parts)
+first_long [] enough = enough
+first_long (part ∷ parts) enough = enough
 
 -- a header that can be read of the parts' words can be read of its part, where that has its lines
 read_of : (parts : List Part) → IsHead mount_layout mount_layout.header_lines (row_words parts) → mount_layout.header_lines ≤ length (header_part parts) → CanBeRead parts
@@ -82,153 +88,172 @@ not_blank parts good = go (is_blank parts) refl
     go true e = absurd (let blank = blank_is parts e in let magic = good.readable.fields.magic in omega (arith, blank, magic))
     go false e = refl
 
--- ---- refusals
+-- a region is good whose header can be read of its words, and which has the lines that this says and whole groups
+good_of : (parts : List Part) → IsHead mount_layout mount_layout.header_lines (row_words parts) → Fits mount_layout (row_words parts)
+    → HasLines mount_layout (header_of (head_image parts)).page (header_of (head_image parts)).entries (rooms_of parts) → IsGood parts
+good_of parts read fits long = record { readable = read_of parts read (first_long parts long.header); long = long; fits = fits }
 
-module _ (good_so : FittingHasNoBad) (read_so : ReadIsNotRefused) where
-  allowed : (parts : List Part) → IsHead mount_layout mount_layout.header_lines (row_words parts) → Fits mount_layout (row_words parts) → (why : Refusal) → IsRefusedFor parts why → IsForLines why
-  allowed parts read fits (Truncated found wanted) is = tt
-  allowed parts read fits BadMagic is = absurd (read_so mount_layout (length (header_part parts)) (head_image parts) head.BadMagic (read_of parts read is.0) tt is)
-  allowed parts read fits (BadVersion found) is = absurd (read_so mount_layout (length (header_part parts)) (head_image parts) (head.BadVersion found) (read_of parts read is.0) tt is)
-  allowed parts read fits (BadGeometry field found) is = absurd (read_so mount_layout (length (header_part parts)) (head_image parts) (head.BadGeometry field found) (read_of parts read is.0) tt is)
-  allowed parts read fits (BadName i) is = absurd (read_so mount_layout (length (header_part parts)) (head_image parts) (head.BadName i) (read_of parts read is.0) tt is)
-  allowed parts read fits (BadEntry number) is = absurd (good_so mount_layout (row_words parts) number fits is.2)
-  allowed parts read fits TooManyFiles is = absurd is
+-- it has the lines that its header says, where it has those of these sizes, and the header says these
+sizes_long : (page entries : ℕ) (parts : List Part) → (header_of (head_image parts)).page ≡ page → (header_of (head_image parts)).entries ≡ entries → HasLines mount_layout page entries (rooms_of parts)
+    → HasLines mount_layout (header_of (head_image parts)).page (header_of (head_image parts)).entries (rooms_of parts)
+sizes_long page entries parts page_is entries_are long =
+    subst (λ n. HasLines mount_layout n (header_of (head_image parts)).entries (rooms_of parts)) (sym page_is) (subst (λ n. HasLines mount_layout page n (rooms_of parts)) (sym entries_are) long)
 
-  blank_allowed : (parts : List Part) → IsBlank (row_words parts) → (why : Refusal) → IsRefusedFor parts why → IsForLines why ⊎ (why ≡ BadMagic)
-  blank_allowed parts blank (Truncated found wanted) is = inl tt
-  blank_allowed parts blank BadMagic is = inr refl
-  blank_allowed parts blank (BadVersion found) is = absurd (let magic = is.1.0 in omega (arith, blank, magic))
-  blank_allowed parts blank (BadGeometry field found) is = absurd (let magic = is.1.0.magic in omega (arith, blank, magic))
-  blank_allowed parts blank (BadName i) is = absurd (let magic = is.1.magic in omega (arith, blank, magic))
-  blank_allowed parts blank (BadEntry number) is = absurd (let magic = is.0.fields.magic in omega (arith, blank, magic))
-  blank_allowed parts blank TooManyFiles is = absurd is
+-- the parts of a region at its opening have the lines of its sizes
+known_long : (geometry : Geometry) (parts : List Part) → IsBlankOrGood parts → HasLines mount_layout (page_known parts geometry) (entries_known parts geometry) (rooms_of (opened (Some geometry) parts))
+known_long geometry parts sound =
+    let made = opened (Some geometry) parts in
+    elim sound [
+      | inl blank ↦
+          subst (λ n. HasLines mount_layout n (entries_known parts geometry) (rooms_of made)) (sym (blank_page parts geometry blank))
+          (subst (λ n. HasLines mount_layout geometry.page n (rooms_of made)) (sym (blank_entries parts geometry blank)) (long_opened geometry parts (blank_stays geometry parts ∙ blank)))
+      | inr good ↦
+          let kept = not_blank parts good in
+          subst (λ n. HasLines mount_layout n (entries_known parts geometry) (rooms_of made)) (sym (kept_page parts geometry kept))
+          (subst (λ n. HasLines mount_layout (header_of (head_image parts)).page n (rooms_of made)) (sym (kept_entries parts geometry kept))
+          (subst (λ (these : List Part). HasLines mount_layout (header_of (head_image parts)).page (header_of (head_image parts)).entries (rooms_of these)) (sym (opened_kept geometry parts kept)) good.long))
+    ]
 
-  -- ---- what is left, whatever power leaves of it
+-- ---- what is left, whatever power leaves of it
 
-  module _ (one_so : QuietPartHasOneImage) (power_so : PowerLeavesAnImage) (was : Holding) (sound : IsBlankOrGood was.parts) (still : IsQuietHolding was) where
-    abbrev Accepts : Holding → Type 0
-    Accepts now = AreWholeStores now → IsAcceptedBehindPower (is_blank was.parts ≡ true) now
+module _ (one_so : QuietPartHasOneImage) (power_so : PowerLeavesAnImage) (was : Holding) (sound : IsBlankOrGood was.parts) (still : IsQuietHolding was) where
+  abbrev Accepts : Holding → Type 0
+  Accepts now = AreWholeStores now → IsAcceptedBehindPower (is_blank was.parts ≡ true) now
 
-    blank_or : (parts : List Part) → IsBlank (row_words parts) → is_blank was.parts ≡ true → (why : Refusal) → IsRefusedFor parts why → IsForLines why ⊎ ((why ≡ BadMagic) × (is_blank was.parts ≡ true))
-    blank_or parts blank so why refused = elim (blank_allowed parts blank why refused) [ inl lines ↦ inl lines | inr magic ↦ inr (magic, so) ]
+  blank_or : (parts : List Part) → IsBlank (row_words parts) → is_blank was.parts ≡ true → IsGood parts ⊎ ((is_blank parts ≡ true) × (is_blank was.parts ≡ true))
+  blank_or parts blank so = inr (ap (λ (n : ℕ). n == 0) blank, so)
 
-    stands : StandForFiles was.parts
-    stands = record {
-      readable = λ not. elim sound [ inl blank ↦ absurd (true≢false (sym blank ∙ not)) | inr good ↦ head_of was.parts good.readable ];
-      fits = λ not. elim sound [ inl blank ↦ absurd (true≢false (sym blank ∙ not)) | inr good ↦ good.fits ];
-    }
+  stands : StandForFiles was.parts
+  stands = record {
+    readable = λ not. elim sound [ inl blank ↦ absurd (true≢false (sym blank ∙ not)) | inr good ↦ head_of was.parts good.readable ];
+    fits = λ not. elim sound [ inl blank ↦ absurd (true≢false (sym blank ∙ not)) | inr good ↦ good.fits ];
+  }
 
-    -- an image of the stores of some names
-    bytes_of : (names : List (List ℕ)) (now : Holding) → AreWholeStores now → (bytes : Files) × AreStoreImages (stores_named names now.stores) bytes
-    bytes_of names now whole =
-        (record { contents = map (λ (store : Store). store.durable) (stores_named names now.stores) }, durable_images (stores_named names now.stores) (all_whole names now.stores whole))
+  -- an image of the stores of some names
+  bytes_of : (names : List (List ℕ)) (now : Holding) → AreWholeStores now → (bytes : Files) × AreStoreImages (stores_named names now.stores) bytes
+  bytes_of names now whole =
+      (record { contents = map (λ (store : Store). store.durable) (stores_named names now.stores) }, durable_images (stores_named names now.stores) (all_whole names now.stores whole))
 
-    image_of : (now : Holding) → AreWholeStores now → (pick : Pick) → IsRowImage now.parts (row_words (powered pick now).parts)
-    image_of now whole pick = (power_so pick now whole).0.parts
+  image_of : (now : Holding) → AreWholeStores now → (pick : Pick) → IsRowImage now.parts (row_words (powered pick now).parts)
+  image_of now whole pick = (power_so pick now whole).0.parts
 
-    opening_left : (wanted : List (List ℕ)) (now : Holding) → InEachImage (StandsWithSome was wanted) now → Accepts now
-    opening_left wanted now images whole pick why refused =
-        let image = row_words (powered pick now).parts in
-        let bytes = bytes_of (names_in image) now whole in
-        elim (images image bytes.0 (image_of now whole pick) bytes.1) [
-          | inl blank ↦ blank_or (powered pick now).parts blank.1 blank.0 why refused
-          | inr some ↦ inl (allowed (powered pick now).parts some.readable some.stands.fits why refused)
-        ]
+  -- the lines of what power leaves, where these have them
+  lines_left : (now : Holding) (pick : Pick) (page entries : ℕ) (others : List Part) → line_counts now.parts ≡ line_counts others → HasLines mount_layout page entries (rooms_of others)
+      → HasLines mount_layout page entries (rooms_of (powered pick now).parts)
+  lines_left now pick page entries others same = long_alike mount_layout page entries others (powered pick now).parts (sym (powered_lines (draws_of pick) now.parts ∙ same))
 
-    lived_left : (basis : Basis) (trace : Traced) (history : List PlacedCall) (now : Holding) → InEachImage (RecoversBehind basis trace history) now → Accepts now
-    lived_left basis trace history now images whole pick why refused =
-        let image = row_words (powered pick now).parts in
-        let bytes = bytes_of (names_in image) now whole in
-        let behind = images image bytes.0 (image_of now whole pick) bytes.1 in
-        inl (allowed (powered pick now).parts behind.readable behind.fits why refused)
-
-    recovery_left : IsGood was.parts → (now : Holding) → StandsAsBefore was now → Accepts now
-    recovery_left good now before whole pick why refused =
-        let image = row_words (powered pick now).parts in
-        let bytes = bytes_of (header_names was.parts) now whole in
-        let takes = before.stands image bytes.0 (image_of now whole pick) bytes.1 in
-        inl (allowed (powered pick now).parts takes.header.readable (takes.files good.fits).fits why refused)
-
-    -- the same parts
-    same_left : (now : Holding) → now.parts ≡ was.parts → Accepts now
-    same_left now same whole pick why refused =
-        let parts = (powered pick now).parts in
-        let image : row_words parts ≡ row_words was.parts = one_image one_so was.parts (row_words parts) still.parts (subst (λ p. IsRowImage p (row_words parts)) same (image_of now whole pick)) in
-        elim sound [
-          | inl blank ↦ blank_or parts (subst IsBlank (sym image) (blank_is was.parts blank)) blank why refused
-          | inr good ↦ inl (allowed parts (subst (IsHead mount_layout mount_layout.header_lines) (sym image) (head_of was.parts good.readable)) (subst (Fits mount_layout) (sym image) good.fits) why refused)
-        ]
-
-    -- ---- what a command tells
-
-    module _ (here : Holding) (told : Option Holding) (told_is : told ≡ Some here) where
-      told_so : (P : Holding → Type 0) (tells : TellsOf P told) → ((now : Holding) → P now → Accepts now) → Accepts here
-      told_so P tells each = subst Accepts (same (sym tells.told_is ∙ told_is)) (each tells.now tells.is_so)
-        where
-          same : {x y : Holding} → Some x ≡ Some y → x ≡ y
-          same {x} {y} is = cc
-
-      run_left : (options : RunOptions) (trace : Traced) → LeavesRun options was trace told → Accepts here
-      run_left options trace run = elim (run.stands stands) [
-        | inl none ↦ elim none [
-          | inl own ↦ told_so (StandsOpening (length was.parts) was trace.names) own (λ now is. opening_left trace.names now is.images)
-          | inr made ↦ told_so _ made.left (λ now is. opening_left trace.names now is.images)
-        ]
-        | inr lived ↦ told_so _ lived.lived.images (λ now is. lived_left lived.basis trace lived.lived.history now is.0)
+  opening_left : (geometry : Geometry) (wanted : List (List ℕ)) (now : Holding) → StandsOpening (line_counts (opened (Some geometry) was.parts)) geometry was wanted now → Accepts now
+  opening_left geometry wanted now stands whole pick =
+      let parts = (powered pick now).parts in
+      let image = row_words parts in
+      let bytes = bytes_of (names_in image) now whole in
+      elim (stands.images image bytes.0 (image_of now whole pick) bytes.1) [
+        | inl blank ↦ blank_or parts blank.1 blank.0
+        | inr some ↦ inl (good_of parts some.readable some.stands.fits (sizes_long (page_known was.parts geometry) (entries_known was.parts geometry) parts some.page_is some.entries_is
+            (lines_left now pick (page_known was.parts geometry) (entries_known was.parts geometry) (opened (Some geometry) was.parts) stands.rest.lines_are (known_long geometry was.parts sound))))
       ]
 
-      recovered_left : LeavesRecovery was told → Accepts here
-      recovered_left leaves = elim sound [
-        | inr good ↦ told_so (StandsAsBefore was) (leaves.stands (head_of was.parts good.readable)) (recovery_left good)
-        | inl blank ↦ told_so (IsUntouched was) (leaves.untouched (λ good. true≢false (sym blank ∙ not_blank was.parts good))) (λ now is. same_left now (ap (λ (h : Holding). h.parts) is.now_is))
+  lived_left : (options : RunOptions) (trace : Traced) (basis : Basis) (begun : IsBasis options was trace.names basis) (history : List PlacedCall) (now : Holding) → InEachImage (RecoversBehind basis trace history) now
+      → line_counts now.parts ≡ line_counts (opened (Some begun.geometry) was.parts) → Accepts now
+  lived_left options trace basis begun history now images counted whole pick =
+      let parts = (powered pick now).parts in
+      let image = row_words parts in
+      let bytes = bytes_of (names_in image) now whole in
+      let behind = images image bytes.0 (image_of now whole pick) bytes.1 in
+      let geometry = begun.geometry in
+      inl (good_of parts behind.readable behind.fits (sizes_long (page_known was.parts geometry) (entries_known was.parts geometry) parts
+      (behind.page_is ∙ sym (known_page was.parts geometry basis.sizes.page basis.sizes.entries begun.known basis.next begun.begun))
+      (behind.entries_is ∙ sym (known_entries was.parts geometry basis.sizes.page basis.sizes.entries begun.known basis.next begun.begun))
+      (lines_left now pick (page_known was.parts geometry) (entries_known was.parts geometry) (opened (Some geometry) was.parts) counted (known_long geometry was.parts sound))))
+
+  recovery_left : IsGood was.parts → (now : Holding) → StandsAsBefore was now → Accepts now
+  recovery_left good now before whole pick =
+      let parts = (powered pick now).parts in
+      let bytes = bytes_of (header_names was.parts) now whole in
+      let takes = before.stands (row_words parts) bytes.0 (image_of now whole pick) bytes.1 in
+      let header = header_of (head_image was.parts) in
+      inl (good_of parts takes.header.readable (takes.files good.fits).fits (sizes_long header.page header.entries parts takes.header.page takes.header.entries
+      (lines_left now pick header.page header.entries was.parts before.rest.lines_are good.long)))
+
+  -- the same parts
+  same_left : (now : Holding) → now.parts ≡ was.parts → Accepts now
+  same_left now same whole pick =
+      let parts = (powered pick now).parts in
+      let image : row_words parts ≡ row_words was.parts = one_image one_so was.parts (row_words parts) still.parts (subst (λ p. IsRowImage p (row_words parts)) same (image_of now whole pick)) in
+      let header = header_of (head_image was.parts) in
+      elim sound [
+        | inl blank ↦ blank_or parts (subst IsBlank (sym image) (blank_is was.parts blank)) blank
+        | inr good ↦ inl (good_of parts (subst (IsHead mount_layout mount_layout.header_lines) (sym image) (head_of was.parts good.readable)) (subst (Fits mount_layout) (sym image) good.fits)
+            (sizes_long header.page header.entries parts (ap (λ (one : Image). (header_of one).page) image) (ap (λ (one : Image). (header_of one).entries) image)
+            (lines_left now pick header.page header.entries was.parts (ap line_counts same) good.long)))
       ]
 
-      same_told : told ≡ Some was → Accepts here
-      same_told is = same_left here (ap (λ (h : Holding). h.parts) (same (sym told_is ∙ is)))
-        where
-          same : {x y : Holding} → Some x ≡ Some y → x ≡ y
-          same {x} {y} is = cc
+  -- ---- what a command tells
 
-      trace_left : (form : Form) (options : RunOptions) (input : Option (List ℕ)) → IfSome input (IsTrace form) → LeavesTrace form options input was told → Accepts here
-      trace_left form options None read leaves = elim leaves [ inl same ↦ same_told same | inr run ↦ run_left options run.0 run.3 ]
-      trace_left form options (Some input) read leaves = run_left options read.0 (leaves read.0 read.1)
+  module _ (here : Holding) (told : Option Holding) (told_is : told ≡ Some here) where
+    told_so : (P : Holding → Type 0) (tells : TellsOf P told) → ((now : Holding) → P now → Accepts now) → Accepts here
+    told_so P tells each = subst Accepts (same (sym tells.told_is ∙ told_is)) (each tells.now tells.is_so)
+      where
+        same : {x y : Holding} → Some x ≡ Some y → x ≡ y
+        same {x} {y} is = cc
 
-  some_parts : (one other : Holding) → Some one ≡ Some other → one.parts ≡ other.parts
-  some_parts one other is = ap (λ (h : Holding). h.parts) (same is)
-    where
-      same : Some one ≡ Some other → one ≡ other
-      same is = cc
+    same_told : told ≡ Some was → Accepts here
+    same_told is = same_left here (ap (λ (h : Holding). h.parts) (same (sym told_is ∙ is)))
+      where
+        same : {x y : Holding} → Some x ≡ Some y → x ≡ y
+        same {x} {y} is = cc
 
-  looked : (files : Bool) (old new : BenchState) (was here : Holding) → IsLookedAt files old new → old.told ≡ Some was → new.told ≡ Some here → here.parts ≡ was.parts
-  looked false old new was here is told_was told_here = some_parts here was (sym told_here ∙ ap (λ (s : BenchState). s.told) is ∙ told_was)
-  looked true old new was here is told_was told_here = some_parts here _ (sym told_here ∙ is.1.1 ∙ ap (told_by (names_until is.1.0)) told_was)
+    run_left : (options : RunOptions) (trace : Traced) → LeavesRun options was trace told → Accepts here
+    run_left options trace run = elim (run.stands stands) [
+      | inl none ↦ elim none [
+        | inl same ↦ same_told same
+        | inr made ↦ told_so _ made.left (λ now is. opening_left made.geometry trace.names now is)
+      ]
+      | inr lived ↦ told_so _ lived.lived.images (λ now is. lived_left options trace lived.basis lived.begun lived.lived.history now is.0 is.1.lines_are)
+    ]
 
-  -- by the command
-  module _ (one_so : QuietPartHasOneImage) (power_so : PowerLeavesAnImage) (given left : Option (List ℕ)) (before now : ℕ) (old new : BenchState) (result : Outcome) (was here : Holding)
-      (ready : IsReady old) (told_was : old.told ≡ Some was) (told_here : new.told ≡ Some here) (whole : AreWholeStores here) (sound : IsBlankOrGood was.parts) where
-    still_was : IsQuietHolding was
-    still_was = told_at old.told IsQuietHolding was told_was ready.at_home.quiet
+    recovered_left : LeavesRecovery was told → Accepts here
+    recovered_left leaves = elim sound [
+      | inr good ↦ told_so (StandsAsBefore was) (leaves.stands (head_of was.parts good.readable)) (recovery_left good)
+      | inl blank ↦ told_so (IsUntouched was) (leaves.untouched (λ good. true≢false (sym blank ∙ not_blank was.parts good))) (λ now is. same_left now (ap (λ (h : Holding). h.parts) is.now_is))
+    ]
 
-    by_command : (command : Command) → HasReported (Some command) given left before now old new result → MayHaveTrace command given → IsAcceptedBehindPower (is_blank was.parts ≡ true) here
-    by_command (Run options) came read = trace_left one_so power_so was sound still_was here new.told told_here forms.Run options given read (told_at old.told _ was told_was (came.life (Run options) refl)) whole
-    by_command (Sched options) came read = trace_left one_so power_so was sound still_was here new.told told_here forms.Sched options given read (told_at old.told _ was told_was (came.life (Sched options) refl)) whole
-    by_command Recover came read = recovered_left one_so power_so was sound still_was here new.told told_here (told_at old.told _ was told_was (came.life Recover refl)) whole
-    by_command (Look files) came read = same_left one_so power_so was sound still_was here (looked files old new was here (came.back (Look files) refl) told_was told_here) whole
-    by_command (Gen load) came read = run_left one_so power_so was sound still_was here new.told told_here load_options (generated load) (told_at old.told _ was told_was (came.life (Gen load) refl)) whole
+    trace_left : (form : Form) (options : RunOptions) (input : Option (List ℕ)) → IfSome input (IsTrace form) → LeavesTrace form options input was told → Accepts here
+    trace_left form options None read leaves = elim leaves [ inl same ↦ same_told same | inr run ↦ run_left options run.0 run.3 ]
+    trace_left form options (Some input) read leaves = run_left options read.0 (leaves read.0 read.1)
 
-  pub next_is_accepted : QuietPartHasOneImage → PowerLeavesAnImage → NextIsAccepted
-  next_is_accepted one_so power_so command given left before now old new result was here came ready told_was told_here whole read sound =
-      by_command one_so power_so given left before now old new result was here ready told_was told_here whole sound command came read
+some_parts : (one other : Holding) → Some one ≡ Some other → one.parts ≡ other.parts
+some_parts one other is = ap (λ (h : Holding). h.parts) (same is)
+  where
+    same : Some one ≡ Some other → one ≡ other
+    same is = cc
+
+looked : (files : Bool) (old new : BenchState) (was here : Holding) → IsLookedAt files old new → old.told ≡ Some was → new.told ≡ Some here → here.parts ≡ was.parts
+looked false old new was here is told_was told_here = some_parts here was (sym told_here ∙ ap (λ (s : BenchState). s.told) is ∙ told_was)
+looked true old new was here is told_was told_here = some_parts here _ (sym told_here ∙ is.1.1 ∙ ap (told_by (names_until is.1.0)) told_was)
+
+-- by the command
+module _ (one_so : QuietPartHasOneImage) (power_so : PowerLeavesAnImage) (given left : Option (List ℕ)) (before now : ℕ) (old new : BenchState) (result : Outcome) (was here : Holding)
+    (ready : IsReady old) (told_was : old.told ≡ Some was) (told_here : new.told ≡ Some here) (whole : AreWholeStores here) (sound : IsBlankOrGood was.parts) where
+  still_was : IsQuietHolding was
+  still_was = told_at old.told IsQuietHolding was told_was ready.at_home.quiet
+
+  by_command : (command : Command) → HasReported (Some command) given left before now old new result → MayHaveTrace command given → IsAcceptedBehindPower (is_blank was.parts ≡ true) here
+  by_command (Run options) came read = trace_left one_so power_so was sound still_was here new.told told_here forms.Run options given read (told_at old.told _ was told_was (came.life (Run options) refl)) whole
+  by_command (Sched options) came read = trace_left one_so power_so was sound still_was here new.told told_here forms.Sched options given read (told_at old.told _ was told_was (came.life (Sched options) refl)) whole
+  by_command Recover came read = recovered_left one_so power_so was sound still_was here new.told told_here (told_at old.told _ was told_was (came.life Recover refl)) whole
+  by_command (Look files) came read = same_left one_so power_so was sound still_was here (looked files old new was here (came.back (Look files) refl) told_was told_here) whole
+  by_command (Gen load) came read = run_left one_so power_so was sound still_was here new.told told_here load_options (generated load) (told_at old.told _ was told_was (came.life (Gen load) refl)) whole
+
+pub next_is_accepted : QuietPartHasOneImage → PowerLeavesAnImage → NextIsAccepted
+next_is_accepted one_so power_so command given left before now old new result was here came ready told_was told_here whole read sound =
+    by_command one_so power_so given left before now old new result was here ready told_was told_here whole sound command came read
 
 -- ---- what is made is good
 
 -- the words of parts are an image of them
 own_image : (parts : List Part) → IsRowImage parts (row_words parts)
 own_image parts = record { each = λ i. image_of_now (slice_index_or parts i []) }
-
-first_long : (parts : List Part) → mount_layout.header_lines ≤ header_lines_in (rooms_of parts) → mount_layout.header_lines ≤ length (header_part parts)
-first_long [] enough = enough
-first_long (part ∷ parts) enough = enough
 
 rest_good : (page entries next : ℕ) (names : List (List ℕ)) (parts : List Part) → IsAtRest mount_layout page entries names next parts → HasLines mount_layout page entries (rooms_of parts) → IsGood parts
 rest_good page entries next names parts rest long =

@@ -15,14 +15,12 @@ use Rattle.nv_pmem.proofs.ImageLaws.{image_of_now}
 use Rattle.nv_pmem.specs.declared.picker.Pick.{Pick}
 use Rattle.nv_store.specs.Steps as stores
 use Rattle.nv_store.specs.Store.{IsQuietStore, IsWholeStore, Store}
-use Rattle.nv_store.proofs.RowReads.{length_now}
 use Rattle.nv_bench.specs.Benches.{BenchState, with_faults}
 use Rattle.nv_bench.specs.Holding.{Holding, IsQuietHolding, NamedStore, is_named, named_stores, store_of}
 use Rattle.nv_bench.specs.Laws.{AreWholeStores, PowerLeavesAnImage}
 use Rattle.nv_bench.specs.Naming.{AreDistinct, names_of}
 use Rattle.nv_bench.specs.Powered.{powered, powered_parts}
 use Rattle.nv_pmem.specs.Draws.{draws_of}
-use Rattle.std.proofs.lemmas.List.{length-map}
 use Rattle.nv_header.specs.Heads.{first_names}
 use Rattle.nv_header.specs.Regions.{HasEmptyLog, IsAtRest}
 use Rattle.nv_recover.specs.Standing.{AreQuietStores, AreStoreImages, ReadableStandsForRecovered, files_of}
@@ -33,7 +31,7 @@ use Rattle.nv_recover.proofs.ApplyLaws.{quiet_image}
 use Rattle.nv_recover.proofs.EmptyLaws.{empty_none}
 use Rattle.nv_open.specs.Held.{IsRecovered, files_named, header_names}
 use Rattle.nv_open.specs.Lending.{stores_named, without_stores}
-use Rattle.nv_open.specs.Unopened.{HasHeader, InEachImage, StandsAsBefore, TellsOf, names_in}
+use Rattle.nv_open.specs.Unopened.{HasHeader, InEachImage, StandsAsBefore, TellsOf, line_counts, names_in}
 use Rattle.nv_open.proofs.Homes.{back_again, in_front, not_given, others_again}
 use Rattle.nv_open.proofs.Openings.{store_of_others}
 use Rattle.nv_open.proofs.Returns.{named_quiet}
@@ -45,10 +43,12 @@ use Rattle.nv_trace.specs.Traced.{Traced}
 use Rattle.nv_words.specs.declared.words.Command.{Command}
 use Rattle.nv_words.specs.declared.words.Command.TheVariants.{Run, Sched, Recover, Look, Gen}
 use Rattle.nv_open.proofs.GivenBack.{still_stands, still_untouched}
+use Rattle.nv_core.specs.state.Values.{Value}
+use Rattle.nv_table.specs.state.Opened.{Opened, mount_of}
+use Rattle.nv_mount.specs.Telling.{mounted_lines}
 use Rattle.nv_runner.specs.Faithful.{Basis}
 use Rattle.nv_runner.specs.Histories.{PlacedCall}
 use Rattle.nv_runner.specs.Lives.{LeaveLife, RecoversBehind}
-use Rattle.nv_open.proofs.PartlyBack.{still_left}
 use Rattle.nv_load.specs.Generated.{generated}
 use Rattle.nv_top.specs.Loads.{load_options}
 use Rattle.nv_top.specs.Lives.{AreLeftSo, HasLived, LeavesLife, LeavesRun, LeavesTrace}
@@ -56,7 +56,7 @@ use Rattle.nv_top.specs.Ready.{IsRunnable}
 use Rattle.nv_words.specs.declared.words.RunOptions.{RunOptions}
 use Rattle.nv_top.proofs.CommandLemmas.{if_told, told_at}
 use Rattle.nv_top.proofs.HomeLemmas.{any_images}
-use Rattle.nv_top.proofs.PoweredHomes.{found_powered, powered_many}
+use Rattle.nv_top.proofs.PoweredHomes.{found_powered, powered_lines}
 use Rattle.nv_top.proofs.RowLemmas.{all_tell, present}
 
 -- ---- stores that are found
@@ -103,11 +103,11 @@ module _ (basis : Basis) (trace : Traced) where
       every bytes (subst (λ stores. AreStoreImages stores bytes) same (subst (λ names. AreStoreImages (stores_named names all) bytes) read are))
 
   pub lived_home : {X Y : Type 0} (history : X → lines.PartHistory) (held : Y → stores.StoreHistory)
-      (parts : List X) (backing : List Y) (many : ℕ) (as_many : length parts ≡ many) (told : Option Holding) (home : List NamedStore) (whole : (holding : Holding) → told ≡ Some holding → AreWholeStores holding) → AreLeftSo history held basis trace parts backing
+      (parts : List X) (backing : List Y) (counts : List ℕ) (told : Option Holding) (home : List NamedStore) (whole : (holding : Holding) → told ≡ Some holding → AreWholeStores holding) → AreLeftSo history held basis trace counts parts backing
       → ((disks : List Store) → AreNow (map held backing) disks → stores_named basis.names (home ++ named_stores basis.names disks) ≡ disks)
       → ((now : List Part) (disks : List Store) → AreNow (map history parts) now → AreNow (map held backing) disks → told ≡ Some (record { parts = now; stores = home ++ named_stores basis.names disks }))
-      → HasLived basis trace many home told
-  lived_home history held parts backing many as_many told home whole left same gives =
+      → HasLived basis trace counts home told
+  lived_home history held parts backing counts told home whole left same gives =
       let now = present (map history parts) left.parts_tell in
       let disks = present (map held backing) left.stores_tell in
       let all = home ++ named_stores basis.names disks.states in
@@ -123,7 +123,7 @@ module _ (basis : Basis) (trace : Traced) where
             images_home (map history parts) (map held backing) left.life now.states disks.states all now.are disks.are
                 (subst (All IsWholeStore) here (all_whole basis.names all (whole (record { parts = now.states; stores = all }) told_is))) here,
             record {
-              many_are = length_now (map history parts) now.states now.are ∙ length-map parts history ∙ as_many;
+              lines_are = row_tells_at (map history parts) (λ now. line_counts now ≡ counts) now.states now.are left.lines_are;
               others = λ name other. in_front name home (named_stores basis.names disks.states) (not_given name basis.names disks.states other);
             },
           );
@@ -132,9 +132,9 @@ module _ (basis : Basis) (trace : Traced) where
 
   -- ---- power
 
-  pub lived_powered : QuietPartHasOneImage → PowerLeavesAnImage → (pick : Pick) (many : ℕ) (stores : List NamedStore) → All (λ (named : NamedStore). IsQuietStore named.store) stores → (home off : Option Holding) → ((holding : Holding) → home ≡ Some holding → AreWholeStores holding) → off ≡ option_map (powered pick) home
-      → HasLived basis trace many stores home → HasLived basis trace many stores off
-  lived_powered one power pick many stores still home off whole powers lived =
+  pub lived_powered : QuietPartHasOneImage → PowerLeavesAnImage → (pick : Pick) (counts : List ℕ) (stores : List NamedStore) → All (λ (named : NamedStore). IsQuietStore named.store) stores → (home off : Option Holding) → ((holding : Holding) → home ≡ Some holding → AreWholeStores holding) → off ≡ option_map (powered pick) home
+      → HasLived basis trace counts stores home → HasLived basis trace counts stores off
+  lived_powered one power pick counts stores still home off whole powers lived =
       let before = lived.images.now in
       let after = powered pick before in
       let both = power pick before (whole before lived.images.told_is) in
@@ -152,7 +152,7 @@ module _ (basis : Basis) (trace : Traced) where
                 lived.images.is_so.0 image bytes (subst (λ (image : Image). IsRowImage before.parts image) (sym same) both.0.parts)
                 (subst (λ (files : Files). AreStoreImages (stores_named names before.stores) files) (sym here) (any_images names before after both.0)),
             record {
-              many_are = powered_many (draws_of pick) before.parts ∙ lived.images.is_so.1.many_are;
+              lines_are = powered_lines (draws_of pick) before.parts ∙ lived.images.is_so.1.lines_are;
               others = λ name other.
                   let found = lived.images.is_so.1.others name other in
                   found_powered (powered_parts (draws_of pick) before.parts).1 name before.stores (whole before lived.images.told_is) (subst IsQuietStore (sym found) (quiet_found name stores still)) ∙ found;
@@ -163,9 +163,9 @@ module _ (basis : Basis) (trace : Traced) where
 
   -- ---- a recovery
 
-  pub lived_recovered : QuietPartHasOneImage → (was : Option Holding) (told : Option Holding) → IfSome was IsQuietHolding → (many : ℕ) (stores : List NamedStore) (lived : HasLived basis trace many stores was) → (HasHeader lived.images.now.parts → TellsOf (StandsAsBefore lived.images.now) told)
-      → HasLived basis trace many stores told
-  lived_recovered one was told quiet many stores lived stands =
+  pub lived_recovered : QuietPartHasOneImage → (was : Option Holding) (told : Option Holding) → IfSome was IsQuietHolding → (counts : List ℕ) (stores : List NamedStore) (lived : HasLived basis trace counts stores was) → (HasHeader lived.images.now.parts → TellsOf (StandsAsBefore lived.images.now) told)
+      → HasLived basis trace counts stores told
+  lived_recovered one was told quiet counts stores lived stands =
       let before = lived.images.now in
       let still : IsQuietHolding before = subst (λ (one : Option Holding). IfSome one IsQuietHolding) lived.images.told_is quiet in
       let first = row_words before.parts in
@@ -189,6 +189,8 @@ module _ (basis : Basis) (trace : Traced) where
                 let stand = place.files here.fits in
                 record {
                   readable = place.header.readable;
+                  page_is = place.header.page ∙ here.page_is;
+                  entries_is = place.header.entries ∙ here.entries_is;
                   names_are = same ∙ read ∙ here.names_are;
                   fits = stand.fits;
                   kept = here.kept;
@@ -197,7 +199,7 @@ module _ (basis : Basis) (trace : Traced) where
                   files = stand.recovers ∙ here.files;
                 },
             record {
-              many_are = after.is_so.rest.many_are ∙ lived.images.is_so.1.many_are;
+              lines_are = after.is_so.rest.lines_are ∙ lived.images.is_so.1.lines_are;
               others = λ name other. after.is_so.rest.others name (subst (λ names. ¬ (Contains names name)) (sym (read ∙ here.names_are)) other) ∙ lived.images.is_so.1.others name other;
             },
           );
@@ -206,8 +208,8 @@ module _ (basis : Basis) (trace : Traced) where
 
   -- ---- by what the bench held before the stores were lent
 
-  pub lived_on : (many made : ℕ) (stores : List NamedStore) (told : Option Holding) → many ≡ made → HasLived basis trace many (without_stores basis.names stores) told → HasLived basis trace made stores told
-  lived_on many made stores told same lived = record {
+  pub lived_on : (counts made : List ℕ) (stores : List NamedStore) (told : Option Holding) → counts ≡ made → HasLived basis trace counts (without_stores basis.names stores) told → HasLived basis trace made stores told
+  lived_on counts made stores told same lived = record {
     history = lived.history;
     is = lived.is;
     images = record {
@@ -216,7 +218,7 @@ module _ (basis : Basis) (trace : Traced) where
       is_so = (
         lived.images.is_so.0,
         record {
-          many_are = lived.images.is_so.1.many_are ∙ same;
+          lines_are = lived.images.is_so.1.lines_are ∙ same;
           others = λ name other. lived.images.is_so.1.others name other ∙ store_of_others name basis.names stores other;
         },
       );
@@ -227,7 +229,7 @@ module _ (basis : Basis) (trace : Traced) where
 
 module _ (stand_so : ReadableStandsForRecovered) (was : Holding) (page entries next : ℕ) (names : List (List ℕ)) (found : recover.Recovered) (now : List Part) (held : List Store)
     (recovered_so : IsRecovered was.parts page entries names next found) (rest : IsAtRest mount_layout page entries names next now) (files_are : files_of held ≡ files_named was.parts names was.stores) (quiet : AreQuietStores held)
-    (distinct : AreDistinct (names_of was.stores)) (many : length now ≡ length was.parts) (long : length names ≡ length held) (differ : (i j : ℕ) → i < j → j < length names → slice_index_or names i [] ≢ slice_index_or names j []) where
+    (distinct : AreDistinct (names_of was.stores)) (counted : line_counts now ≡ line_counts was.parts) (long : length names ≡ length held) (differ : (i j : ℕ) → i < j → j < length names → slice_index_or names i [] ≢ slice_index_or names j []) where
   abbrev back : Holding
   back = record { parts = now; stores = without_stores names was.stores ++ named_stores names held }
 
@@ -241,7 +243,7 @@ module _ (stand_so : ReadableStandsForRecovered) (was : Holding) (page entries n
       let there : stores_named (header_names was.parts) back.stores ≡ held = subst (λ names. stores_named names back.stores ≡ held) same (back_again names was.stores held distinct long differ) in
       record {
         same_names = λ image is. (rest.empty image is).header.names_are ∙ same;
-        rest = record { many_are = many; others = λ name other. others_again name names was.stores held (subst (λ these. ¬ (Contains these name)) (sym same) other) };
+        rest = record { lines_are = counted; others = λ name other. others_again name names was.stores held (subst (λ these. ¬ (Contains these name)) (sym same) other) };
         stands = λ image bytes is are.
             let empty = rest.empty image is in
             let none = empty_none page entries names next image empty in
@@ -281,22 +283,25 @@ same_states (history ∷ row) (x ∷ one) [] a b = absurd b
 same_states {S} (history ∷ row) (x ∷ one) (y ∷ other) a b =
     ap (λ (s : S). s ∷ one) (same_first x y a.0.past b.0.past (sym a.0.is ∙ b.0.is)) ∙ ap (λ (rest : List S). y ∷ rest) (same_states row one other a.1 b.1)
 
-pub rest_lives : {X Y : Type 0} (history : X → lines.PartHistory) (held : Y → stores.StoreHistory) (basis : Basis) (trace : Traced) (parts : List X) (backing : List Y) (states : List Part) (disks : List Store) (page entries next : ℕ)
-    → AreNow (map history parts) states → AreNow (map held backing) disks → RowTells (map history parts) (IsAtRest mount_layout page entries basis.names next) → AreQuietStores disks → files_of disks ≡ basis.files
-    → AreLeftSo history held basis trace parts backing
-rest_lives history held basis trace parts backing states disks page entries next are disks_are rest quiet files_are = record {
+pub rest_lives : {X Y : Type 0} (history : X → lines.PartHistory) (held : Y → stores.StoreHistory) (basis : Basis) (trace : Traced) (parts : List X) (backing : List Y) (states : List Part) (disks : List Store) (next : ℕ)
+    → AreNow (map history parts) states → AreNow (map held backing) disks → RowTells (map history parts) (IsAtRest mount_layout basis.sizes.page basis.sizes.entries basis.names next) → AreQuietStores disks → files_of disks ≡ basis.files
+    → AreLeftSo history held basis trace (line_counts states) parts backing
+rest_lives history held basis trace parts backing states disks next are disks_are rest quiet files_are = record {
   parts_tell = all_tell (map history parts) states are;
   stores_tell = all_tell (map held backing) disks disks_are;
+  lines_are = row_tells_from (map history parts) (λ now. line_counts now ≡ line_counts states) (λ now now_are. ap line_counts (same_states (map history parts) now states now_are are));
   life = record {
     history = [];
     is = record { legal = tt; of_trace = λ p one. absurd one; in_order = tt };
     images =
         row_tells_from (map history parts) (InEachRowImage (λ image. RowTells (map held backing) (λ held. (bytes : Files) → AreStoreImages held bytes → RecoversBehind basis trace [] image bytes))) (λ these these_are image is.
-        let empty = (row_tells_at (map history parts) (IsAtRest mount_layout page entries basis.names next) these these_are rest).empty image is in
-        let none = empty_none page entries basis.names next image empty in
+        let empty = (row_tells_at (map history parts) (IsAtRest mount_layout basis.sizes.page basis.sizes.entries basis.names next) these these_are rest).empty image is in
+        let none = empty_none basis.sizes.page basis.sizes.entries basis.names next image empty in
         row_tells_from (map held backing) (λ held. (bytes : Files) → AreStoreImages held bytes → RecoversBehind basis trace [] image bytes) (λ those those_are bytes images.
         record {
           readable = empty.header.readable;
+          page_is = empty.header.page_is;
+          entries_is = empty.header.entries_is;
           names_are = empty.header.names_are;
           fits = empty_fits mount_layout image none;
           kept = [];
@@ -308,19 +313,27 @@ rest_lives history held basis trace parts backing states disks page entries next
 }
 
 -- stores that tell the same
-pub left_same : {X Y : Type 0} (history : X → lines.PartHistory) (held : Y → stores.StoreHistory) (basis : Basis) (trace : Traced) (parts was : List X) (backing before : List Y) → map history parts ≡ map history was → map held backing ≡ map held before
-    → AreLeftSo history held basis trace was before → AreLeftSo history held basis trace parts backing
-left_same history held basis trace parts was backing before same_parts same_stores left = record {
+pub left_same : {X Y : Type 0} (history : X → lines.PartHistory) (held : Y → stores.StoreHistory) (basis : Basis) (trace : Traced) (counts : List ℕ) (parts was : List X) (backing before : List Y) → map history parts ≡ map history was → map held backing ≡ map held before
+    → AreLeftSo history held basis trace counts was before → AreLeftSo history held basis trace counts parts backing
+left_same history held basis trace counts parts was backing before same_parts same_stores left = record {
   parts_tell = subst AllTell (sym same_parts) left.parts_tell;
   stores_tell = subst AllTell (sym same_stores) left.stores_tell;
+  lines_are = subst (λ row. RowTells row (λ now. line_counts now ≡ counts)) (sym same_parts) left.lines_are;
   life = subst (λ row. LeaveLife basis trace row (map held backing)) (sym same_parts) (subst (λ row. LeaveLife basis trace (map history was) row) (sym same_stores) left.life);
 }
+
+-- the lines of parts that come out of a mount, by those that it was opened with
+pub lines_home : (parts : List lines.PartHistory) (begun ended : Opened) (was spare : List Value) → begun ≡ ended → spare ≡ was → RowTells parts (λ now. line_counts now ≡ mounted_lines (mount_of ended) spare)
+    → RowTells parts (λ now. line_counts now ≡ mounted_lines (mount_of begun) was)
+lines_home parts begun ended was spare same alike keeps =
+    subst (λ (o : Opened). RowTells parts (λ now. line_counts now ≡ mounted_lines (mount_of o) was)) (sym same)
+    (subst (λ (values : List Value). RowTells parts (λ now. line_counts now ≡ mounted_lines (mount_of ended) values)) alike keeps)
 
 -- a run of a bench of which nothing was lent
 pub still_run : (old new : BenchState) (options : RunOptions) (trace : Traced) → QuietPartHasOneImage → new ≡ with_faults new.faults old → IfSome old.told IsQuietHolding → IfSome old.told (λ was. LeavesRun options was trace new.told)
 still_run old new options trace one is quiet =
     if_told old.told (λ was. LeavesRun options was trace new.told) (λ was told. record {
-      stands = λ stand. inl (inl (still_left old new was trace.names one is told quiet stand));
+      stands = λ stand. inl (inl (ap (λ (bench : BenchState). bench.told) is ∙ told));
       untouched = λ kept bad. still_untouched old new was is told;
     })
 

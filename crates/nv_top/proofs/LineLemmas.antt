@@ -1,16 +1,22 @@
 -- Lines: parts that have those of their region.
-use Rattle.std.proofs.Common.{◌≡◌, ℕ, zero, suc, ◌+◌, ◌<◌, ◌≤◌, List, [], ◌∷◌, length, map, get_or, sym, subst, ◌∙◌, arith}
-use Rattle.std.proofs.lemmas.List.{get_or-map, get_or-take, length-map, length-take}
+use Rattle.std.proofs.Common.{◌≡◌, ℕ, zero, suc, ◌+◌, ◌<◌, ◌≤◌, List, [], ◌∷◌, ◌++◌, length, map, get_or, sym, ap, subst, ◌∙◌, arith, length-append}
+use Rattle.std.proofs.lemmas.List.{get_or-map, get_or-take, get_or_append_left, length-map, length-take}
+use Rattle.std.proofs.lemmas.List.FromFn.{get_or-map-range_with_len, length-map-range_with_len}
+use Rattle.std.specs.List.{range_with_len}
 use Rattle.nv_plain.specs.Layouts.{mount_layout}
 use Rattle.nv_pmem.specs.Limits.{entry_lines}
 use Rattle.nv_pmem.specs.Part.{Part}
 use Rattle.nv_pmem.specs.Room.{Room}
-use Rattle.nv_pmem.specs.RowStates.{AreNow}
+use Rattle.nv_pmem.specs.RowStates.{AreNow, row_tells_at}
 use Rattle.nv_pmem.specs.Steps.{PartHistory}
 use Rattle.nv_store.proofs.RowReads.{length_now}
 use Rattle.nv_header.specs.Needs.{HasLines}
 use Rattle.nv_header.specs.Regions.{HasParts, part_lines}
 use Rattle.nv_open.specs.Refusals.{rooms_of}
+use Rattle.nv_table.specs.state.Layout.{cell_of}
+use Rattle.nv_table.specs.state.Opened.{mount_of}
+use Rattle.nv_table.specs.state.States.{PassState}
+use Rattle.nv_mount.specs.Telling.{HasLongParts, KeepLines, lines_kept, mounted_lines}
 
 -- the room of so many lines, as far as it is their count
 abbrev pub room_with : ℕ → Room
@@ -53,3 +59,23 @@ module _ {L : Type 0} (history : L → PartHistory) (room : L → Room) (told_li
       let there = (has.each slot (room_with 0) least).there in
       let same = line_at parts states are slot (room_with 0) (omega (arith, least, many, long)) in
       omega (arith, there, same))
+
+-- parts that come out of a mount have its lines
+pub kept_long : (pass : PassState) (parts : List PartHistory) (states : List Part) → KeepLines pass parts → HasLongParts (mount_of pass.view.opened) → AreNow parts states
+    → HasLines mount_layout pass.view.opened.sizes.page pass.view.opened.sizes.entries (rooms_of states)
+kept_long pass parts states keeps long are =
+    let opened = pass.view.opened in
+    let many = 1 + opened.sizes.entries in
+    let of_slot : ℕ → ℕ = λ slot. lines_kept ((mount_of opened).values (cell_of opened.sizes slot)) in
+    let front = map of_slot (range_with_len 0 many) in
+    let rest = map (λ value. lines_kept value) pass.spare in
+    let counted : map (λ part. length part) states ≡ front ++ rest = row_tells_at parts (λ now. map (λ part. length part) now ≡ mounted_lines (mount_of opened) pass.spare) states are keeps in
+    let counts = length-map states (λ part. length part) in
+    let fronts = length-map-range_with_len of_slot 0 many in
+    let enough : many ≤ length states = omega (arith, counts, ap length counted, length-append front rest, fronts) in
+    have_lines opened.sizes.page opened.sizes.entries states enough (λ slot least.
+    let below : slot < many = omega (arith, least) in
+    let same : length (get_or states slot []) ≡ of_slot slot =
+    sym (get_or-map (λ part. length part) states slot [] 0 (omega (arith, below, enough))) ∙ ap (λ (counts : List ℕ). get_or counts slot 0) counted
+    ∙ get_or_append_left front rest 0 slot (omega (arith, below, fronts)) ∙ get_or-map-range_with_len of_slot 0 many slot slot 0 below (omega arith) in
+    omega (arith, long slot least, same))

@@ -11,6 +11,7 @@ use Rattle.nv_pmem.specs.Picked.{picked}
 use Rattle.nv_pmem.specs.Room.{Room}
 use Rattle.nv_pmem.specs.RowStates.{IsNow}
 use Rattle.nv_pmem.specs.Steps.{PartHistory}
+use Rattle.nv_pmem.proofs.PickedLaws.{length-picked}
 use Rattle.nv_store.specs.Images.{IsStoreImage}
 use Rattle.nv_store.specs.Picked.{draws_after, picked_image}
 use Rattle.nv_store.specs.Steps.{StoreHistory}
@@ -23,6 +24,7 @@ use Rattle.nv_core.specs.content.StorePages.{store_of_value}
 use Rattle.nv_core.specs.log.Written.{IsPart}
 use Rattle.nv_core.specs.state.Values.{Bare, Value}
 use Rattle.nv_open.specs.Lending.{without_stores}
+use Rattle.nv_open.specs.Unopened.{line_counts}
 use Rattle.nv_open.proofs.Homes.{NotNamed}
 use Rattle.nv_table.specs.state.SlotValues.{part_value, present, store_value}
 
@@ -33,6 +35,13 @@ pub powered_many : (draws : Draws) (parts : List Part) → length (powered_parts
 unfolding powered_parts
 powered_many draws [] = refl
 powered_many draws (part ∷ parts) = ap suc (powered_many (picked draws part).1 parts)
+
+-- and as many lines of each
+pub powered_lines : (draws : Draws) (parts : List Part) → line_counts (powered_parts draws parts).0 ≡ line_counts parts
+unfolding powered_parts
+powered_lines draws [] = refl
+powered_lines draws (part ∷ parts) =
+    ap (λ (n : ℕ). n ∷ line_counts (powered_parts (picked draws part).1 parts).0) (length-picked draws part) ∙ ap (λ (counts : List ℕ). length part ∷ counts) (powered_lines (picked draws part).1 parts)
 
 -- parts of which those behind the first so many show some values
 pub parts_counted : {X : Type 0} (shown : X → Value) (parts : List X) (count : ℕ) (spare : List Value) → count ≤ length parts → map shown (drop count parts) ≡ spare → length parts ≡ count + length spare

@@ -474,7 +474,7 @@ module _ (options : RunOptions) (wanted names : List (List ℕ)) (old new : Benc
             let left = told_at old.told (λ was. StandForFiles was.parts → TellsOf (StandsUnopened was sizes wanted) new.told) was told standing stand in
             let Unrun : List (List ℕ) → Type 0 = λ names. HasMadeNoCall options was names new.told in
             inl (subst Unrun (same ∙ are) (elim left.is_so.either [
-              | inl own ↦ inl (record { now = left.now; told_is = left.told_is; is_so = own })
+              | inl own ↦ inl (left.told_is ∙ ap (λ (now : Holding). Some now) own)
               | inr made ↦ inr (record { geometry = sizes; page_is = page_is; entries_are = entries_are; left = record { now = left.now; told_is = left.told_is; is_so = made } })
             ]));
       })

@@ -1,12 +1,16 @@
 -- Rows of devices: the present states of all.
-use Rattle.std.proofs.Common.{◌≡◌, ℕ, ◌<◌, List, [], ◌∷◌, ◌++◌, All, length, take, drop, map, refl, sym, ap, subst, arith}
-use Rattle.std.proofs.lemmas.List.{take_at}
+use Rattle.std.proofs.Common.{◌≡◌, ℕ, ◌<◌, List, [], ◌∷◌, ◌++◌, All, length, take, drop, map, refl, sym, ap, subst, ◌∙◌, arith}
+use Rattle.std.proofs.lemmas.List.{length-map, take_at}
 use Rattle.std.proofs.lemmas.List.Elements.{All-cons, All-head, All-tail}
 use Rattle.nv_pmem.specs.Moments.{Tells}
-use Rattle.nv_pmem.specs.RowStates.{AreNow, IsNow, row_tells_from, tells_at}
+use Rattle.nv_pmem.specs.Part.{Part}
+use Rattle.nv_pmem.specs.RowStates.{AreNow, IsNow, row_tells_at, row_tells_from, tells_at}
 use Rattle.nv_pmem.specs.Rows.{RowTells}
+use Rattle.nv_pmem.specs.Steps.{PartHistory}
 use Rattle.nv_store.specs.Steps.{StoreHistory}
 use Rattle.nv_store.specs.Store.{IsQuietStore, Store}
+use Rattle.nv_store.proofs.RowReads.{length_now}
+use Rattle.nv_open.specs.Unopened.{line_counts}
 use Rattle.nv_recover.specs.Standing.{AreQuietStores, files_of}
 use Rattle.nv_mount.specs.Telling.{IsSeen, StoresHave}
 
@@ -30,6 +34,12 @@ present ([] ∷ row) told = let some = All-head (λ (history : List _). 0 < leng
 present ((now ∷ past) ∷ row) told =
     let rest = present row (All-tail (λ (history : List _). 0 < length history) (now ∷ past) row told) in
     record { states = now ∷ rest.states; are = (record { past = past; is = refl }, rest.are) }
+
+-- parts that tell, and have the lines of these, are as many
+pub made_many : {X : Type 0} (history : X → PartHistory) (parts : List X) (others : List Part) → Present (map history parts) → RowTells (map history parts) (λ now. line_counts now ≡ line_counts others) → length parts ≡ length others
+made_many history parts others now lines =
+    let same = row_tells_at (map history parts) (λ now. line_counts now ≡ line_counts others) now.states now.are lines in
+    sym (length_now (map history parts) now.states now.are ∙ length-map parts history) ∙ sym (length-map now.states (λ part. length part)) ∙ ap length same ∙ length-map others (λ part. length part)
 
 -- ---- what a call did to a slice, it did to the vector that lent it
 

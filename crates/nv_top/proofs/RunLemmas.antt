@@ -71,8 +71,7 @@ use Rattle.nv_top.specs.Outcomes.{shown_report}
 use Rattle.nv_top.specs.Shows.{text_as}
 use Rattle.nv_top.specs.declared.show.Show.{Show}
 use Rattle.nv_top.specs.Runs.{HasRunOver, IsQuietSpare}
-use Rattle.nv_store.proofs.RowReads.{length_now}
-use Rattle.nv_top.proofs.LineLemmas.{have_lines}
+use Rattle.nv_top.proofs.LineLemmas.{kept_long}
 use Rattle.nv_top.proofs.NameLemmas.{each_allowed, names_plain}
 use Rattle.nv_top.proofs.RestLemmas.{all_rest, first_states, is_longer, now_of, same_state, state_at}
 use Rattle.nv_top.proofs.RowLemmas.{Present, present as present_states}
@@ -314,9 +313,7 @@ module _ {L B : Type 0} (device : L → ℕ) (history : L → PartHistory) (faul
       now = part_states.states;
       now_are = part_states.are;
       rest = all_at_rest;
-      long = have_lines sizes.page sizes.entries part_states.states (omega (arith, many, length_now (map history parts) part_states.states part_states.are, length-map parts history))
-          (λ slot least. by.lines long_parts slot (get_or part_states.states slot []) least
-          (state_at (map history parts) part_states.states slot [] part_states.are (omega (arith, many, least, length-map parts history))));
+      long = kept_long ended (map history parts) part_states.states by.lines long_parts part_states.are;
       disks = store_states.states;
       disks_are = subst (λ (row : List StoreHistory). AreNow row store_states.states) (sym same) store_states.are;
       files_are = files_are;

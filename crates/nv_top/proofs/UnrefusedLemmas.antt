@@ -1,24 +1,21 @@
 -- Regions that aren't refused: the header can be read, the lines are there, and the groups are whole. So it is with one that power was lost of.
-use Rattle.std.proofs.Common.{◌≡◌, ℕ, ◌+◌, ◌≤◌, All, List, [], ◌∷◌, Option, Some, IfSome, option_map, length, map, get_or, refl, sym, ap, subst, ◌∙◌, inl, inr, arith}
+use Rattle.std.proofs.Common.{◌≡◌, ℕ, ◌≤◌, All, List, [], ◌∷◌, Option, Some, IfSome, option_map, length, map, sym, ap, subst, ◌∙◌, inl, inr, arith}
 use Rattle.std.proofs.lemmas.List.Elements.{All-nil, All-cons, All-head, All-tail}
 use Rattle.nv_plain.specs.Images.{header_of}
 use Rattle.nv_plain.specs.Layouts.{mount_layout}
 use Rattle.nv_plain.specs.Recovered.{Fits}
-use Rattle.nv_pmem.specs.Draws.{Draws, draws_of}
+use Rattle.nv_pmem.specs.Draws.{draws_of}
 use Rattle.nv_pmem.specs.Part.{Part}
-use Rattle.nv_pmem.specs.Picked.{picked}
-use Rattle.nv_pmem.specs.Room.{Room}
-use Rattle.nv_pmem.specs.RowStates.{AreNow, EachPartHasOne}
+use Rattle.nv_pmem.specs.RowStates.{AreNow}
 use Rattle.nv_pmem.specs.Rows.{row_words}
 use Rattle.nv_pmem.specs.Steps as lines
 use Rattle.nv_pmem.specs.declared.picker.Pick.{Pick}
-use Rattle.nv_pmem.proofs.PickedLaws.{length-picked}
 use Rattle.nv_store.specs.Steps as stores
 use Rattle.nv_store.specs.Store.{IsWholeStore, Store}
 use Rattle.nv_store.proofs.RowReads.{length_now}
 use Rattle.nv_bench.specs.Holding.{Holding, NamedStore, named_stores}
 use Rattle.nv_bench.specs.Laws.{AreWholeStores, PowerLeavesAnImage}
-use Rattle.nv_bench.specs.Powered.{powered, powered_parts}
+use Rattle.nv_bench.specs.Powered.{powered}
 use Rattle.nv_header.specs.Needs.{HasLines, header_lines_in}
 use Rattle.nv_header.specs.Refusals.{ReadIsNotRefused, SpeaksOfImage}
 use Rattle.nv_header.specs.Regions.{ReadsAs}
@@ -36,18 +33,11 @@ use Rattle.nv_open.specs.declared.error.Refusal.{Refusal}
 use Rattle.nv_open.specs.declared.error.Refusal.TheVariants.{Truncated, BadMagic, BadVersion, BadGeometry, BadName, BadEntry, TooManyFiles}
 use Rattle.nv_trace.specs.Traced.{Traced}
 use Rattle.nv_runner.specs.Faithful.{Basis}
-use Rattle.nv_top.proofs.LineLemmas.{have_lines, room_with}
+use Rattle.nv_open.proofs.LineCounts.{long_alike}
+use Rattle.nv_top.proofs.LineLemmas.{kept_long}
+use Rattle.nv_top.proofs.PoweredHomes.{powered_lines}
 use Rattle.nv_top.proofs.RowLemmas.{present}
 use Rattle.nv_top.proofs.StoppingLemmas.{HasClosedOver, all_right, at_some, devices_tell, home_with, power_leaves, still_opened}
-
--- power leaves each part as many lines
-pub powered_rooms : (draws : Draws) (parts : List Part) → rooms_of (powered_parts draws parts).0 ≡ rooms_of parts
-unfolding powered_parts
-powered_rooms draws [] = refl
-powered_rooms draws (part ∷ parts) =
-    let one = picked draws part in
-    ap (λ count. room_with count ∷ rooms_of (powered_parts one.1 parts).0) (length-picked draws part)
-    ∙ ap (λ rooms. room_with (length part) ∷ rooms) (powered_rooms one.1 parts)
 
 -- ---- a region that can be read, and has its lines
 
@@ -117,18 +107,15 @@ whole_named (name ∷ names) (store ∷ disks) long all =
 module _ (basis : Basis) (trace : Traced) (mount : MountState) (pass zero : PassState) (part_values store_values : List Value)
     (parts : List lines.PartHistory) (held : List stores.StoreHistory) (faults placed tail : ℕ)
     (over : HasClosedOver basis trace mount pass zero part_values store_values parts held faults placed tail)
-    (power_so : PowerLeavesAnImage) (good_so : FittingHasNoBad) (read_so : ReadIsNotRefused) (each_so : EachPartHasOne)
-    (many_parts : 1 + mount.board.opened.sizes.entries ≤ length parts) (many : length held ≡ mount.board.opened.sizes.files) (pick : Pick) (left : Holding) (given off : Option Holding)
+    (power_so : PowerLeavesAnImage) (good_so : FittingHasNoBad) (read_so : ReadIsNotRefused)
+    (many : length held ≡ mount.board.opened.sizes.files) (pick : Pick) (left : Holding) (given off : Option Holding)
     (gives : (now : List Part) (disks : List Store) → AreNow parts now → AreNow held disks → given ≡ Some (home_with left basis.names now disks))
     (powers : off ≡ option_map (powered pick) given) (whole : (holding : Holding) → given ≡ Some holding → AreWholeStores holding) where
   slots_long : (states : List Part) → AreNow parts states → HasLines mount_layout zero.view.opened.sizes.page zero.view.opened.sizes.entries (rooms_of states)
   slots_long states are =
-      let same : zero.view.opened.sizes.entries ≡ mount.board.opened.sizes.entries =
-      ap (λ (o : Opened). o.sizes.entries) (still_opened basis trace mount pass zero part_values store_values parts held faults placed tail over) in
       let long : HasLongParts (mount_of zero.view.opened) =
       subst (λ (o : Opened). HasLongParts (mount_of o)) (sym (still_opened basis trace mount pass zero part_values store_values parts held faults placed tail over)) over.begins.long in
-      have_lines zero.view.opened.sizes.page zero.view.opened.sizes.entries states (omega (arith, many_parts, same, length_now parts states are))
-      (λ slot least. over.closed.lines long slot (get_or states slot []) least (each_so parts states slot are (omega (arith, many_parts, same, least))))
+      kept_long zero parts states over.closed.lines long are
 
   pub never_refused : (why : Refusal) → ¬ (IfSome off (λ holding. IsRefusedFor holding.parts why))
   never_refused why refused =
@@ -147,7 +134,6 @@ module _ (basis : Basis) (trace : Traced) (mount : MountState) (pass zero : Pass
       let left_whole =
       power_leaves basis trace mount pass zero part_values store_values parts held faults placed tail over states.states disks.states states.are disks.are
       (row_words after.parts) (record { contents = map (λ (store : Store). store.durable) disks.states }) image.parts (durable_images disks.states each_whole) in
-      let Long : List Room → Type 0 = λ rooms. HasLines mount_layout zero.view.opened.sizes.page zero.view.opened.sizes.entries rooms in
       not_refused good_so read_so zero.view.opened.sizes.page zero.view.opened.sizes.entries _ basis.names after.parts left_whole.header left_whole.fits
-      (subst Long (sym (powered_rooms (draws_of pick) states.states)) (slots_long states.states states.are))
+      (long_alike mount_layout zero.view.opened.sizes.page zero.view.opened.sizes.entries states.states after.parts (sym (powered_lines (draws_of pick) states.states)) (slots_long states.states states.are))
       why (at_some off (λ holding. IsRefusedFor holding.parts why) after off_is refused)

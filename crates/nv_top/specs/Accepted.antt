@@ -7,10 +7,7 @@ use Rattle.nv_bench.specs.Holding.{Holding}
 use Rattle.nv_bench.specs.Laws.{AreWholeStores}
 use Rattle.nv_bench.specs.Opening.{is_blank}
 use Rattle.nv_bench.specs.Powered.{powered}
-use Rattle.nv_open.specs.Refusals.{IsRefusedFor}
 use Rattle.nv_open.specs.Unopened.{IsGood}
-use Rattle.nv_open.specs.declared.error.Refusal.{Refusal}
-use Rattle.nv_open.specs.declared.error.Refusal.TheVariants.{Truncated, BadMagic, BadVersion, BadGeometry, BadName, BadEntry, TooManyFiles}
 use Rattle.nv_trace.specs.declared.trace.Form.TheVariants as forms
 use Rattle.nv_top.specs.Endings.{IsTrace}
 use Rattle.nv_top.specs.Ready.{IsReady}
@@ -24,19 +21,9 @@ use Rattle.nv_words.specs.declared.words.Command.TheVariants.{Run, Sched, Recove
 abbrev pub IsBlankOrGood : List Part → Type 0
 IsBlankOrGood parts = (is_blank parts ≡ true) ⊎ IsGood parts
 
--- the refusal is for lines that are wanting
-abbrev pub IsForLines : Refusal → Type 0
-IsForLines (Truncated found wanted) = Unit {0}
-IsForLines BadMagic = ⊥
-IsForLines (BadVersion found) = ⊥
-IsForLines (BadGeometry field found) = ⊥
-IsForLines (BadName i) = ⊥
-IsForLines (BadEntry number) = ⊥
-IsForLines TooManyFiles = ⊥
-
--- Whatever a power failure leaves of what a bench holds, no field, no name and no entry of its region is bad. If it is refused, that is for lines that are wanting; or it is blank still, if this says so.
+-- Whatever a power failure leaves of what a bench holds, its region is good; or it is blank still, if this says so.
 abbrev pub IsAcceptedBehindPower : (blank : Type 0) → Holding → Type 0
-IsAcceptedBehindPower blank now = (pick : Pick) (why : Refusal) → IsRefusedFor (powered pick now).parts why → IsForLines why ⊎ ((why ≡ BadMagic) × blank)
+IsAcceptedBehindPower blank now = (pick : Pick) → IsGood (powered pick now).parts ⊎ ((is_blank (powered pick now).parts ≡ true) × blank)
 
 -- what a command was to read is a trace, as far as the source tells it
 abbrev pub MayHaveTrace : Command → (input : Option (List ℕ)) → Type 0

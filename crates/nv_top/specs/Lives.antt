@@ -1,11 +1,12 @@
 -- Lives: what a command leaves of a bench, whatever it was ended by.
-use Rattle.std.specs.Prelude.{◌≡◌, ◌⊎◌, ℕ, false, List, length, map, Option, None, Some}
+use Rattle.std.specs.Prelude.{◌≡◌, ◌⊎◌, ℕ, false, List, map, Option, None, Some}
+use Rattle.nv_pmem.specs.Rows.{RowTells}
 use Rattle.nv_pmem.specs.Steps as lines
 use Rattle.nv_store.specs.Steps as stores
 use Rattle.nv_pmem.specs.declared.geometry.Geometry.{Geometry}
 use Rattle.nv_bench.specs.Holding.{Holding, NamedStore}
 use Rattle.nv_bench.specs.Opening.{is_blank, opened}
-use Rattle.nv_open.specs.Unopened.{HasHeader, HasRest, InEachImage, IsGood, IsUntouched, StandForFiles, StandsAsBefore, StandsOpening, TellsOf}
+use Rattle.nv_open.specs.Unopened.{HasHeader, HasRest, InEachImage, IsGood, IsUntouched, StandForFiles, StandsAsBefore, StandsOpening, TellsOf, line_counts}
 use Rattle.nv_recover.specs.Telling.{AllTell}
 use Rattle.nv_runner.specs.Faithful.{Basis}
 use Rattle.nv_runner.specs.Histories.{PlacedCall}
@@ -23,28 +24,28 @@ use Rattle.nv_words.specs.declared.words.Command.TheVariants.{Run, Sched, Recove
 use Rattle.nv_words.specs.declared.words.RunOptions.{RunOptions}
 
 -- Calls of a trace were made from a basis: some of them have their place, in a legal history, and whatever a power failure leaves of what the bench tells recovers to the files after it and then some others,
--- each whole. The bench has so many parts, and each store of another name is as it was among these.
-pub record HasLived (basis : Basis) (trace : Traced) (many : ℕ) (stores : List NamedStore) (told : Option Holding) : Type 0 where
+-- each whole. The bench has parts of so many lines each, and each store of another name is as it was among these.
+pub record HasLived (basis : Basis) (trace : Traced) (counts : List ℕ) (stores : List NamedStore) (told : Option Holding) : Type 0 where
   pub history : List PlacedCall
   pub is : IsHistoryOf basis trace history
-  pub images : TellsOf (λ now. InEachImage (RecoversBehind basis trace history) now × HasRest many basis.names stores now) told
+  pub images : TellsOf (λ now. InEachImage (RecoversBehind basis trace history) now × HasRest counts basis.names stores now) told
 
--- They were made from what the bench had held; it has as many parts as when it was opened.
+-- They were made from what the bench had held; its parts have the lines that they had when it was opened.
 pub record HasLivedOn (options : RunOptions) (was : Holding) (trace : Traced) (told : Option Holding) : Type 0 where
   pub basis : Basis
   pub begun : IsBasis options was trace.names basis
-  pub lived : HasLived basis trace (length (opened (Some begun.geometry) was.parts)) was.stores told
+  pub lived : HasLived basis trace (line_counts (opened (Some begun.geometry) was.parts)) was.stores told
 
--- No call has its place, on a bench whose parts were made those that a run asks for: it stands for what it stood for, with the new stores' files maybe.
+-- No call has its place, on a bench whose region was given out, with the parts that a run asks for where it was blank: it stands for what it stood for, with the new stores' files maybe.
 pub record HasMadeParts (options : RunOptions) (was : Holding) (wanted : List (List ℕ)) (told : Option Holding) : Type 0 where
   pub geometry : Geometry
   pub page_is : geometry.page ≡ options.page
   pub entries_are : geometry.entries ≡ options.entries
-  pub left : TellsOf (StandsOpening (length (opened (Some geometry) was.parts)) was wanted) told
+  pub left : TellsOf (StandsOpening (line_counts (opened (Some geometry) was.parts)) geometry was wanted) told
 
--- So it does where it has its own parts.
+-- So it does where it is as it was.
 abbrev pub HasMadeNoCall : RunOptions → (was : Holding) → (wanted : List (List ℕ)) → (told : Option Holding) → Type 0
-HasMadeNoCall options was wanted told = TellsOf (StandsOpening (length was.parts) was wanted) told ⊎ HasMadeParts options was wanted told
+HasMadeNoCall options was wanted told = (told ≡ Some was) ⊎ HasMadeParts options was wanted told
 
 -- What a run of a trace, or a schedule of it, leaves of a bench. Where that stood for files, no call has its place, or calls were made; and its other stores are as they were. A region that isn't good, nor blank, is untouched.
 pub record LeavesRun (options : RunOptions) (was : Holding) (trace : Traced) (told : Option Holding) : Type 0 where
@@ -69,8 +70,9 @@ LeavesLife Recover input was told = LeavesRecovery was told
 LeavesLife (Look files) input was told = Unit {0}
 LeavesLife (Gen load) input was told = LeavesRun load_options was (generated load) told
 
--- Parts and stores tell, and were left so by a run, or a schedule, of a trace from a basis.
-pub record AreLeftSo {X Y : Type 0} (history : X → lines.PartHistory) (held : Y → stores.StoreHistory) (basis : Basis) (trace : Traced) (parts : List X) (backing : List Y) : Type 0 where
+-- Parts and stores tell, and were left so by a run, or a schedule, of a trace from a basis. The parts have so many lines each.
+pub record AreLeftSo {X Y : Type 0} (history : X → lines.PartHistory) (held : Y → stores.StoreHistory) (basis : Basis) (trace : Traced) (counts : List ℕ) (parts : List X) (backing : List Y) : Type 0 where
   pub parts_tell : AllTell (map history parts)
   pub stores_tell : AllTell (map held backing)
+  pub lines_are : RowTells (map history parts) (λ now. line_counts now ≡ counts)
   pub life : LeaveLife basis trace (map history parts) (map held backing)

@@ -90,9 +90,10 @@ pub fn fates_are_tied()
     ensures { FatesAreTied }
 {}
 
-/// What a command leaves of a region that was blank or good isn't refused by its bytes, whatever the command came to, and whatever a power failure makes
-/// of it: no field, no name and no entry of it is bad (`next`). So a next command is refused by the region only for lines that are wanting; a recovery
-/// or a look, where it is blank still; and a run for too many files. It says nothing where the source tells an input that is no trace.
+/// What a command leaves of a region that was blank or good is so again, whatever the command came to, and whatever a power failure makes of it: it is
+/// good, or blank still as it was (`next`). A good one isn't refused by its bytes, nor for lines that are wanting, which is a law of its own
+/// ([`a_refused_region_shows_nothing`]): a next recovery or look is refused only where it is blank still, and a run only for too many files. It says nothing where the
+/// source tells an input that is no trace.
 ///
 /// A region that a run, a schedule, a recovery or a load has shown, or that a schedule has left whose turns are used up, is good, and has its lines
 /// (`made`): it is refused for nothing but too many files.
@@ -100,8 +101,6 @@ pub fn a_region_stays_accepted()
     ensures next { NextIsAccepted }
     ensures made { WhatIsMadeIsGood }
 {
-    images_stand_for_files();
-    a_header_has_one_answer();
     images_follow_calls();
     power_leaves_an_image();
 }

@@ -3,11 +3,15 @@ ghost use Rattle.std.specs.Prelude.{◌≡◌, ◌+◌, ◌<◌, List, [], lengt
 ghost use Rattle.nv_pmem.specs.Moments.{Tells};
 ghost use Rattle.nv_pmem.specs.Part.{Part};
 ghost use Rattle.nv_pmem.specs.RowStates.{AreNow};
+ghost use Rattle.nv_pmem.specs.Rows.{RowTells};
 ghost use Rattle.nv_store.specs.Store.{IsQuietStore, Store};
 ghost use Rattle.nv_recover.specs.Standing.{files_of};
+ghost use Rattle.nv_open.specs.Unopened.{line_counts};
+ghost use Rattle.nv_table.specs.state.Opened.{mount_of};
 ghost use Rattle.nv_table.specs.state.States.{IsOf};
 ghost use Rattle.nv_table.specs.state.Views.{first_view};
 ghost use Rattle.nv_mount.specs.RisenCounts.{failed_before};
+ghost use Rattle.nv_mount.specs.Telling.{mounted_lines};
 ghost use Rattle.nv_trace.specs.Said.{said_place};
 ghost use Rattle.nv_trace.specs.Shape.{IsWellFormed};
 ghost use Rattle.nv_top.specs.Runs.{BeginsMount, HasCache, IsQuietSpare, basis_over};
@@ -57,6 +61,8 @@ pub(crate) fn mount_over<L: Lines + Drop, B: Backing + Drop>(
         → AreNow (map L.history region.parts.items) parts → AreNow (map B.history stores.items) now
         → BeginsMount (basis_over region options.pages (files_of now)) trace.now made.0 made.1) }
     ensures parts { IfOk result (λ made. 1 + made.0.board.opened.sizes.entries + length made.1.spare ≡ length region.parts.items) }
+    ensures lines { IfOk result (λ made. RowTells (map L.history region.parts.items) (λ told.
+        mounted_lines (mount_of made.0.board.opened) made.1.spare ≡ line_counts told)) }
     ensures spare { IfOk result (λ made. (parts : List Part) → AreNow (map L.history region.parts.items) parts → All IsQuietSpare made.1.spare) }
     ensures many { IfErr result (λ failed. length failed.parts.items ≡ length region.parts.items) }
     ensures count { IfErr result (λ failed. length failed.stores.items ≡ length stores.items) }

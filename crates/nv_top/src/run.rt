@@ -7,9 +7,12 @@ ghost use Rattle.nv_pmem.specs.RowStates.{AreNow};
 ghost use Rattle.nv_store.specs.Store.{IsQuietStore, Store};
 ghost use Rattle.nv_recover.specs.Standing.{files_of};
 ghost use Rattle.nv_header.specs.FileNames.{AreFileNames};
+ghost use Rattle.nv_open.specs.Unopened.{line_counts};
+ghost use Rattle.nv_table.specs.state.Opened.{mount_of};
 ghost use Rattle.nv_table.specs.state.States.{IsOf};
 ghost use Rattle.nv_table.specs.state.Views.{first_view};
 ghost use Rattle.nv_mount.specs.RisenCounts.{failed_before};
+ghost use Rattle.nv_mount.specs.Telling.{mounted_lines};
 ghost use Rattle.nv_runner.specs.Faithful.{Basis};
 ghost use Rattle.nv_runner.specs.declared.sorted.SortedCalls.{SortedCalls as AnySorted};
 ghost use Rattle.nv_trace.specs.Said.{said_place};
@@ -135,7 +138,7 @@ fn run_region<
         → AreNow (map L.history region.parts.items) parts → AreNow (map B.history stores.items) now
         → HasRunOver L.history B.history show options.worker (basis_over region options.pages (files_of now)) (trace_run show trace.now) text.items result.parts.items result.stores.items) }
     ensures life { (parts : List Part) (now : List Store) → AreNow (map L.history region.parts.items) parts → AreNow (map B.history stores.items) now
-        → AreLeftSo L.history B.history (basis_over region options.pages (files_of now)) (trace_run show trace.now) result.parts.items result.stores.items }
+        → AreLeftSo L.history B.history (basis_over region options.pages (files_of now)) (trace_run show trace.now) (line_counts parts) result.parts.items result.stores.items }
     ensures cause { RunHasCause (sum_by L.fault_count region.parts.items + sum_by B.fault_count stores.items)
         (sum_by L.fault_count result.parts.items + sum_by B.fault_count result.stores.items) result.report }
 {
@@ -197,7 +200,8 @@ fn run_mount<
     ensures many { length result.parts.items ≡ 1 + mount.board.opened.sizes.entries + length pass.spare }
     ensures ran { IfOk result.report (λ text. (basis : Basis) → BeginsMount basis (trace_run show trace.now) mount pass → basis.names ≡ names.now → All IsQuietSpare pass.spare
         → HasRunOver L.history B.history show plan.worker basis (trace_run show trace.now) text.items result.parts.items result.stores.items) }
-    ensures life { (basis : Basis) → BeginsMount basis (trace_run show trace.now) mount pass → AreLeftSo L.history B.history basis (trace_run show trace.now) result.parts.items result.stores.items }
+    ensures life { (basis : Basis) → BeginsMount basis (trace_run show trace.now) mount pass → AreLeftSo L.history B.history basis (trace_run show trace.now)
+        (mounted_lines (mount_of mount.board.opened) pass.spare) result.parts.items result.stores.items }
     ensures cause { RunHasCause (failed_before pass) (sum_by L.fault_count result.parts.items + sum_by B.fault_count result.stores.items) result.report }
 {
     runs_are_sound();

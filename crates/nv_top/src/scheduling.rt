@@ -10,10 +10,12 @@ ghost use Rattle.nv_bench.specs.Holding.{IsQuietHolding};
 ghost use Rattle.nv_header.specs.FileNames.{AreFileNames};
 ghost use Rattle.nv_recover.specs.Standing.{files_of};
 ghost use Rattle.nv_open.specs.Refusals.{IsRefusedFor};
-ghost use Rattle.nv_open.specs.Unopened.{HasHeader, StandsAsBefore, TellsOf};
+ghost use Rattle.nv_open.specs.Unopened.{HasHeader, StandsAsBefore, TellsOf, line_counts};
+ghost use Rattle.nv_table.specs.state.Opened.{mount_of};
 ghost use Rattle.nv_table.specs.state.States.{IsOf};
 ghost use Rattle.nv_table.specs.state.Views.{first_view};
 ghost use Rattle.nv_mount.specs.RisenCounts.{failed_before};
+ghost use Rattle.nv_mount.specs.Telling.{mounted_lines};
 ghost use Rattle.nv_trace.specs.Forms.{has_rounds};
 ghost use Rattle.nv_trace.specs.Said.{said_place};
 ghost use Rattle.nv_runner.specs.Faithful.{Basis};
@@ -38,7 +40,7 @@ use nv_bench::{Bench, power_leaves_an_image};
 use nv_header::a_header_has_one_answer;
 use nv_mount::Mount;
 use nv_open::{Opened, open};
-use nv_pmem::{Geometry, images_follow_calls, rows_have_states};
+use nv_pmem::{Geometry, images_follow_calls};
 use nv_recover::images_stand_for_files;
 use nv_runner::{history_of_threads_is_legal, open_calls_are_the_faults, sort_out};
 use nv_schedule::{
@@ -124,7 +126,7 @@ fn schedule_region<T: Bench>(
         → (T.state bench.old).told ≡ None }
     ensures turns { result ≡ Err stops.Turns → (T.state bench.new).picked ≡ options.image ∷ (T.state bench.old).picked }
     ensures life { (parts : List Part) (now : List Store) → AreNow (map T.Part.history opened.region.parts.items) parts → AreNow (map T.Store.history opened.stores.items) now
-        → IfSome (T.state bench.old).told (λ home. IsAway opened.region.names home → HasLived (basis_over opened.region options.pages (files_of now)) trace.now (length opened.region.parts.items) home.stores (T.state bench.new).told) }
+        → IfSome (T.state bench.old).told (λ home. IsAway opened.region.names home → HasLived (basis_over opened.region options.pages (files_of now)) trace.now (line_counts parts) home.stores (T.state bench.new).told) }
     ensures used { result ≡ Err stops.Turns → (parts : List Part) (now : List Store)
         → AreNow (map T.Part.history opened.region.parts.items) parts → AreNow (map T.Store.history opened.stores.items) now
         → IfSome (T.state bench.old).told (λ home. IsAway opened.region.names home
@@ -189,7 +191,7 @@ fn schedule_mount<T: Bench>(
         → basis.names ≡ (T.state bench.old).lent → (T.state bench.old).told ≡ None }
     ensures turns { result ≡ Err stops.Turns → (T.state bench.new).picked ≡ options.image ∷ (T.state bench.old).picked }
     ensures life { (basis : Basis) → BeginsMount basis trace.now mount pass → basis.names ≡ (T.state bench.old).lent
-        → IfSome (T.state bench.old).told (λ home. IsAway basis.names home → HasLived basis trace.now (1 + mount.board.opened.sizes.entries + length pass.spare) home.stores (T.state bench.new).told) }
+        → IfSome (T.state bench.old).told (λ home. IsAway basis.names home → HasLived basis trace.now (mounted_lines (mount_of mount.board.opened) pass.spare) home.stores (T.state bench.new).told) }
     ensures used { result ≡ Err stops.Turns → (basis : Basis) → BeginsMount basis trace.now mount pass → basis.names ≡ (T.state bench.old).lent
         → IfSome (T.state bench.old).told (λ home. IsAway basis.names home
         → HasUsedTurns (Rose (saturated ((T.state bench.old).faults + failed_before pass)) (T.state bench.new).faults)
@@ -202,7 +204,6 @@ fn schedule_mount<T: Bench>(
     images_stand_for_files();
     a_header_has_one_answer();
     power_leaves_an_image();
-    rows_have_states();
     history_of_threads_is_legal();
     open_calls_are_the_faults();
     schedules_begin_in_order();

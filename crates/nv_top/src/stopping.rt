@@ -9,11 +9,13 @@ ghost use Rattle.nv_store.specs.Store.{IsQuietStore, Store};
 ghost use Rattle.nv_bench.specs.Holding.{IsQuietHolding};
 ghost use Rattle.nv_header.specs.FileNames.{AreFileNames};
 ghost use Rattle.nv_open.specs.Refusals.{IsRefusedFor};
-ghost use Rattle.nv_open.specs.Unopened.{HasHeader, StandsAsBefore, TellsOf};
+ghost use Rattle.nv_open.specs.Unopened.{HasHeader, StandsAsBefore, TellsOf, line_counts};
 ghost use Rattle.nv_recover.specs.Standing.{files_of};
+ghost use Rattle.nv_table.specs.state.Opened.{mount_of};
 ghost use Rattle.nv_table.specs.state.States.{IsOf};
 ghost use Rattle.nv_table.specs.state.Views.{first_view};
 ghost use Rattle.nv_mount.specs.RisenCounts.{failed_before};
+ghost use Rattle.nv_mount.specs.Telling.{mounted_lines};
 ghost use Rattle.nv_trace.specs.Said.{said_place};
 ghost use Rattle.nv_runner.specs.Faithful.{Basis};
 ghost use Rattle.nv_top.specs.Commands.{IsGivenBack};
@@ -39,7 +41,7 @@ use nv_header::{Names, a_header_has_one_answer};
 use nv_mount::Mount;
 use nv_open::{Opened, open, recover_region};
 use nv_plain::{Bytes, NoMemory};
-use nv_pmem::{Geometry, images_follow_calls, rows_have_states};
+use nv_pmem::{Geometry, images_follow_calls};
 use nv_recover::{Recovered, images_stand_for_files};
 use nv_runner::{
     Gate, Plan, SortedCalls, history_of_threads_is_legal, open_calls_are_the_faults, run_calls,
@@ -121,7 +123,7 @@ fn stop_region<R: Threads + Wait + Sync, T: Bench, G: Gate + Sync>(
     ensures never_falls { saturated ((T.state bench.old).faults
         + (sum_by T.Part.fault_count opened.region.parts.items + sum_by T.Store.fault_count opened.stores.items)) ≤ (T.state bench.new).faults }
     ensures life { (parts : List Part) (now : List Store) → AreNow (map T.Part.history opened.region.parts.items) parts → AreNow (map T.Store.history opened.stores.items) now
-        → IfSome (T.state bench.old).told (λ home. IsAway opened.region.names home → HasLived (basis_over opened.region options.pages (files_of now)) trace.now (length opened.region.parts.items) home.stores (T.state bench.new).told) }
+        → IfSome (T.state bench.old).told (λ home. IsAway opened.region.names home → HasLived (basis_over opened.region options.pages (files_of now)) trace.now (line_counts parts) home.stores (T.state bench.new).told) }
     ensures ran { IfOk result (λ text. (parts : List Part) (now : List Store)
         → AreNow (map T.Part.history opened.region.parts.items) parts → AreNow (map T.Store.history opened.stores.items) now
         → IfSome (T.state bench.old).told (λ home. IsAway opened.region.names home
@@ -185,7 +187,7 @@ fn stop_mount<R: Threads + Wait + Sync, T: Bench, G: Gate + Sync>(
     ensures no_less { saturated ((T.state bench.old).faults + failed_before pass) ≤ (T.state bench.new).settled }
     ensures never_falls { saturated ((T.state bench.old).faults + failed_before pass) ≤ (T.state bench.new).faults }
     ensures life { (basis : Basis) → BeginsMount basis trace.now mount pass → basis.names ≡ (T.state bench.old).lent
-        → IfSome (T.state bench.old).told (λ home. IsAway basis.names home → HasLived basis trace.now (1 + mount.board.opened.sizes.entries + length pass.spare) home.stores (T.state bench.new).told) }
+        → IfSome (T.state bench.old).told (λ home. IsAway basis.names home → HasLived basis trace.now (mounted_lines (mount_of mount.board.opened) pass.spare) home.stores (T.state bench.new).told) }
     ensures ran { IfOk result (λ text. (basis : Basis) → BeginsMount basis trace.now mount pass → basis.names ≡ (T.state bench.old).lent
         → IfSome (T.state bench.old).told (λ home. IsAway basis.names home
         → HasStoppedOn (Rose (saturated ((T.state bench.old).faults + failed_before pass)) (T.state bench.new).faults)
@@ -194,7 +196,6 @@ fn stop_mount<R: Threads + Wait + Sync, T: Bench, G: Gate + Sync>(
     images_stand_for_files();
     a_header_has_one_answer();
     power_leaves_an_image();
-    rows_have_states();
     history_of_threads_is_legal();
     open_calls_are_the_faults();
     runs_are_told();

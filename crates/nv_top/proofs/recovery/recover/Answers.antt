@@ -7,7 +7,7 @@ use Rattle.std.proofs.lemmas.Result.{IfOk-weaker}
 use Rattle.nv_plain.specs.Files.{Files}
 use Rattle.nv_plain.specs.Layouts.{mount_layout}
 use Rattle.nv_plain.specs.Recovered.{recovered}
-use Rattle.nv_pmem.specs.Rows.{row_words}
+use Rattle.nv_pmem.specs.Rows.{RowTells, row_words}
 use Rattle.nv_pmem.specs.RowStates.{AreNow, row_tells_at}
 use Rattle.nv_store.specs.Steps as stores
 use Rattle.nv_store.specs.Store.{Store}
@@ -22,10 +22,10 @@ use Rattle.nv_top.specs.Readings.{HavePlainNames}
 use Rattle.nv_top.specs.Reports.{recovery_text}
 use Rattle.nv_top.proofs.CommandLemmas.{if_told, leaves, leaves_by, told_at}
 use Rattle.nv_top.proofs.NameLemmas.{each_allowed, names_plain}
-use Rattle.nv_top.proofs.RowLemmas.{present}
+use Rattle.nv_top.proofs.RowLemmas.{made_many, present}
 use Rattle.std.proofs.lemmas.List.{length-map}
 use Rattle.nv_open.specs.Held.{HoldFiles, IsRecovered}
-use Rattle.nv_open.specs.Unopened.{HasHeader, IsGood, IsUntouched, StandsAsBefore, TellsOf}
+use Rattle.nv_open.specs.Unopened.{HasHeader, IsGood, IsUntouched, StandsAsBefore, TellsOf, line_counts}
 use Rattle.nv_open.proofs.LogLaws.{states_many}
 use Rattle.nv_top.proofs.CommandLemmas.{back_is}
 use Rattle.nv_top.proofs.HeadlineLemmas.{home_distinct}
@@ -75,7 +75,7 @@ returns-clause-recovered g c =
     let log = recovered (row_words holding.parts) base in
     let shown_names = named names (files_named holding.parts names holding.stores) in
     let leaving =
-    leaves old mid region.names holding made.lent c.requires.at_home.home told None history held (files_named holding.parts region.names holding.stores) parts_back stores_back _ (ap length same_parts ∙ told_at old.told _ holding told made.many) left c.give_back.ensures.told in
+    leaves old mid region.names holding made.lent c.requires.at_home.home told None history held (files_named holding.parts region.names holding.stores) parts_back stores_back _ (ap length same_parts ∙ made_many history region.parts.items _ now (told_at old.told _ holding told made.lines)) left c.give_back.ensures.told in
     let left_so =
     leaves_by holding.parts holding.stores region.geometry.page region.geometry.entries region.next recovery.names_are (leaving, refl, refl, refl) in
     record {
@@ -134,7 +134,7 @@ returns-clause-standing g c =
           recovered_stands c.images_stand_for_files.ensures.files was region.geometry.page region.geometry.entries region.next region.names c.in_ok-opened.found now.states files.held recovery
           (row_tells_at (map history back) (IsAtRest mount_layout region.geometry.page region.geometry.entries region.names region.next) now.states now_are c.into_parts-parts.ensures.region.tells) files.files_are files.quiet
           (home_distinct old was (g.met.T.Bench.named c.args.bench.now) told c.requires.at_home.home)
-          (states_many (map history region.parts.items) now.states now.are ∙ length-map region.parts.items history ∙ told_at old.told (λ holding. length region.parts.items ≡ length holding.parts) was told made.many)
+          (row_tells_at (map history region.parts.items) (λ now. line_counts now ≡ line_counts was.parts) now.states now.are (told_at old.told (λ holding. RowTells (map history region.parts.items) (λ now. line_counts now ≡ line_counts holding.parts)) was told made.lines))
           (sym (states_many (map held backing) files.held files.are ∙ length-map backing held ∙ made.one_each))
           c.into_parts-parts.ensures.region.names_are.distinct readable;
     })

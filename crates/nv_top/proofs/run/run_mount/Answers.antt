@@ -32,9 +32,9 @@ use Rattle.nv_top.proofs.RunLemmas.{has_run}
 use Rattle.nv_top.proofs.StoppingLemmas.{failed_same}
 use Rattle.nv_core.specs.content.Content.{Opens}
 use Rattle.nv_core.specs.log.LogContent.{OpensLog}
-use Rattle.nv_mount.specs.Telling.{HasLongParts, IsTelling}
+use Rattle.nv_mount.specs.Telling.{HasLongParts, IsTelling, mounted_lines}
 use Rattle.nv_top.specs.Lives.{AreLeftSo}
-use Rattle.nv_top.proofs.LifeLemmas.{left_same}
+use Rattle.nv_top.proofs.LifeLemmas.{left_same, lines_home}
 use Rattle.std.proofs.Common.{refl}
 use Rattle.nv_top.proofs.run.run_mount.Goals as goal
 use Rattle.nv_top.proofs.run.run_mount.Goals.{in-Ok, in-Err}
@@ -137,8 +137,10 @@ returns-clause-life g c basis begins =
     (subst (λ (o : Opened). IsMountOf basis trace o mount.fds) here begins.is_mount) (subst (λ (o : Opened). OpensRegion (mount_of o) basis.names) here begins.region) (c.requires.new ∙ ap first_view here) ran.2 by in
     let tell = by.telling basis.files (subst (λ (o : Opened). OpensLog (mount_of o) o.next) there begins.is_mount.log) (subst (λ (o : Opened). Opens (mount_of o) basis.files) there begins.is_mount.files)
     (subst (λ (values : List Value). All IsTelling values) (sym out.spare) begins.spare) in
-    let left : AreLeftSo history held basis trace came.parts.items came.stores.items = record { parts_tell = tell.0; stores_tell = tell.1; life = life } in
+    let counts = mounted_lines (mount_of mount.board.opened) pass.spare in
+    let counted = lines_home (map history came.parts.items) mount.board.opened ran.0.view.opened pass.spare ran.0.spare there out.spare by.lines in
+    let left : AreLeftSo history held basis trace counts came.parts.items came.stores.items = record { parts_tell = tell.0; stores_tell = tell.1; lines_are = counted; life = life } in
     elim c.match-ended.branch [
-      | in-Ok w ↦ left_same history held basis trace came.parts.items came.parts.items c.match-ended.stores.items came.stores.items refl (ap (λ stores. map held stores.items) w.stores-is ∙ w.show_run-report.ensures.histories) left
-      | in-Err w ↦ left_same history held basis trace came.parts.items came.parts.items c.match-ended.stores.items came.stores.items refl (ap (λ stores. map held stores.items) w.stores-is) left
+      | in-Ok w ↦ left_same history held basis trace counts came.parts.items came.parts.items c.match-ended.stores.items came.stores.items refl (ap (λ stores. map held stores.items) w.stores-is ∙ w.show_run-report.ensures.histories) left
+      | in-Err w ↦ left_same history held basis trace counts came.parts.items came.parts.items c.match-ended.stores.items came.stores.items refl (ap (λ stores. map held stores.items) w.stores-is) left
     ]

@@ -1,10 +1,14 @@
-use Rattle.std.proofs.Common.{◌≡◌, ◌∙◌, All, List, map, sym}
+use Rattle.std.proofs.Common.{◌≡◌, ◌∙◌, ℕ, All, List, map, sym}
 use Rattle.std.proofs.lemmas.Result.{IfOk-weaker}
 use Rattle.nv_pmem.specs.Part.{Part}
-use Rattle.nv_pmem.specs.RowStates.{AreNow}
+use Rattle.nv_pmem.specs.RowStates.{AreNow, row_tells_at}
 use Rattle.nv_store.specs.Store.{Store}
 use Rattle.nv_recover.specs.Standing.{files_of}
+use Rattle.nv_open.specs.Unopened.{line_counts}
+use Rattle.nv_table.specs.state.Opened.{mount_of}
+use Rattle.nv_mount.specs.Telling.{mounted_lines}
 use Rattle.nv_runner.specs.Faithful.{Basis}
+use Rattle.nv_top.specs.Lives.{AreLeftSo}
 use Rattle.nv_top.specs.Runs.{BeginsMount, HasRunOver, IsQuietSpare, basis_over}
 use Rattle.std.proofs.Common.{◌+◌, ap, refl, subst}
 use Rattle.std.specs.Prelude.{sum_by}
@@ -42,13 +46,19 @@ returns-in_default-clause-life g c parts now parts_are now_are =
     let region = c.args.region in
     let back = c.into_parts.result.items in
     let same : map history back ≡ map history region.parts.items = ap (λ parts. map history parts.items) c.into_parts.ensures.parts in
-    rest_lives history held (basis_over region c.args.options.pages (files_of now)) (trace_run c.args.show c.args.trace.now) back c.args.stores.items parts now region.geometry.page region.geometry.entries region.next
+    rest_lives history held (basis_over region c.args.options.pages (files_of now)) (trace_run c.args.show c.args.trace.now) back c.args.stores.items parts now region.next
     (subst (λ (row : List lines.PartHistory). AreNow row parts) (sym same) parts_are) now_are c.into_parts.ensures.region.tells (quiet_stores held c.args.stores.items now now_are c.requires.quiet) refl
 
 pub returns-in-Ok-mount_over-clause-life : goal.returns-in-Ok-mount_over-clause-life
 returns-in-Ok-mount_over-clause-life g c parts now parts_are now_are =
     let basis = basis_over c.args.region c.args.options.pages (files_of now) in
-    c.run_mount.ensures.life basis (begins_run c.args.show basis c.args.trace.now c.in-Ok-mount_over.mount c.in-Ok-mount_over.pass (c.in-Ok-mount_over.ensures.begins parts now parts_are now_are))
+    let history = g.L.Lines.history in
+    let held = g.B.Backing.history in
+    let mount = c.in-Ok-mount_over.mount in
+    let pass = c.in-Ok-mount_over.pass in
+    let Counted : List ℕ → Type 0 = λ counts. AreLeftSo history held basis (trace_run c.args.show c.args.trace.now) counts c.run_mount.result.parts.items c.run_mount.result.stores.items in
+    subst Counted (row_tells_at (map history c.args.region.parts.items) (λ told. mounted_lines (mount_of mount.board.opened) pass.spare ≡ line_counts told) parts parts_are c.in-Ok-mount_over.ensures.lines)
+    (c.run_mount.ensures.life basis (begins_run c.args.show basis c.args.trace.now c.in-Ok-mount_over.mount c.in-Ok-mount_over.pass (c.in-Ok-mount_over.ensures.begins parts now parts_are now_are)))
 
 pub returns-clause-life : goal.returns-clause-life
 returns-clause-life g c parts now parts_are now_are =
@@ -58,8 +68,8 @@ returns-clause-life g c parts now parts_are now_are =
     let stores = c.args.stores.items in
     let trace = trace_run c.args.show c.args.trace.now in
     let basis = basis_over region c.args.options.pages (files_of now) in
-    let rest = rest_lives history held basis trace region.parts.items stores parts now region.geometry.page region.geometry.entries region.next parts_are now_are region.is_region.tells (quiet_stores held stores now now_are c.requires.quiet) refl in
-    left_same history held basis trace c.in-Err.field-0.parts.items region.parts.items c.in-Err.field-0.stores.items stores c.in-Err.ensures.same_parts c.in-Err.ensures.same_stores rest
+    let rest = rest_lives history held basis trace region.parts.items stores parts now region.next parts_are now_are region.is_region.tells (quiet_stores held stores now now_are c.requires.quiet) refl in
+    left_same history held basis trace (line_counts parts) c.in-Err.field-0.parts.items region.parts.items c.in-Err.field-0.stores.items stores c.in-Err.ensures.same_parts c.in-Err.ensures.same_stores rest
 
 pub returns-clause-cause : goal.returns-clause-cause
 returns-clause-cause g c =

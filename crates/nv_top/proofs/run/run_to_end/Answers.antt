@@ -2,7 +2,7 @@ use Rattle.std.proofs.Common.{◌≡◌, ◌<◌, ◌∙◌, ℕ, List, All, Som
 use Rattle.std.specs.Prelude.{IfSome}
 use Rattle.std.proofs.lemmas.Result.{IfOk-weaker}
 use Rattle.nv_pmem.specs.Part.{Part}
-use Rattle.nv_pmem.specs.RowStates.{AreNow}
+use Rattle.nv_pmem.specs.RowStates.{AreNow, row_tells_at}
 use Rattle.nv_store.specs.Store.{Store}
 use Rattle.nv_recover.specs.Standing.{files_of}
 use Rattle.nv_top.specs.Commands.{HasRunOn}
@@ -13,7 +13,7 @@ use Rattle.nv_top.proofs.CommandLemmas.{if_told, leaves, told_at}
 use Rattle.nv_open.specs.Adding.{all_names}
 use Rattle.nv_trace.specs.Said.{said_place}
 use Rattle.nv_top.proofs.NameLemmas.{wanted_known}
-use Rattle.nv_top.proofs.RowLemmas.{present}
+use Rattle.nv_top.proofs.RowLemmas.{made_many, present}
 use Rattle.std.proofs.Common.{Err}
 use Rattle.nv_open.specs.declared.error.OpenError.TheVariants.{Refused}
 use Rattle.nv_top.specs.Stops.{stop_of_opening}
@@ -23,6 +23,7 @@ use Rattle.nv_top.proofs.StopLemmas.{err_has, opening_refused}
 use Rattle.std.proofs.Common.{inr}
 use Rattle.std.proofs.lemmas.List.{length-map}
 use Rattle.nv_open.specs.Lending.{without_stores}
+use Rattle.nv_open.specs.Unopened.{line_counts}
 use Rattle.nv_open.proofs.Homes.{back_again}
 use Rattle.nv_open.proofs.LogLaws.{states_many}
 use Rattle.nv_top.specs.Lives.{LeavesRun}
@@ -70,7 +71,7 @@ returns-clause-ran g c =
       faithful = over.faithful;
       plain = over.plain;
       text_is = over.text_is;
-      left = leaves old mid region.names holding made.lent c.requires.at_home.home told (Some _) history held _ ended.parts.items ended.stores.items after_it.told (c.run_region-parts.ensures.many ∙ told_at old.told _ holding told made.many) over.left c.give_back.ensures.told;
+      left = leaves old mid region.names holding made.lent c.requires.at_home.home told (Some _) history held _ ended.parts.items ended.stores.items after_it.told (c.run_region-parts.ensures.many ∙ made_many history region.parts.items _ parts (told_at old.told _ holding told made.lines)) over.left c.give_back.ensures.told;
       page_is = over.page_is;
       entries_is = over.entries_is;
       next_is = over.next_is;
@@ -115,8 +116,9 @@ returns-then-faults-before-clause-life g c =
       stands = λ stand. inr (record {
         basis = basis;
         begun = begun;
-        lived = lived_on basis trace (length region.parts.items) (length (opened_parts (Some begun.geometry) holding.parts)) holding.stores after_it.told (told_at old.told _ holding told made.many)
-            (lived_home basis trace history held ended.parts.items ended.stores.items (length region.parts.items) c.run_region-parts.ensures.many after_it.told (without_stores region.names holding.stores) (λ holding is. g.met.T.Bench.whole c.give_back.new.self holding is) left
+        lived = lived_on basis trace (line_counts parts.states) (line_counts (opened_parts (Some begun.geometry) holding.parts)) holding.stores after_it.told
+            (row_tells_at (map history region.parts.items) (λ now. line_counts now ≡ line_counts (opened_parts (Some begun.geometry) holding.parts)) parts.states parts.are (told_at old.told _ holding told made.lines))
+            (lived_home basis trace history held ended.parts.items ended.stores.items (line_counts parts.states) after_it.told (without_stores region.names holding.stores) (λ holding is. g.met.T.Bench.whole c.give_back.new.self holding is) left
             (λ disks are. back_again region.names holding.stores disks (home_distinct old holding (g.met.T.Bench.named c.args.bench.now) told c.requires.at_home.home)
             (sym (states_many (map held ended.stores.items) disks are ∙ length-map ended.stores.items held ∙ c.run_region-parts.ensures.count ∙ made.one_each)) region.is_region.names_are.distinct)
             (λ now disks now_are disks_are. c.give_back.ensures.told now disks now_are disks_are ∙ back_is old mid region.names holding made.lent c.requires.at_home.home told now disks));
@@ -146,8 +148,9 @@ returns-clause-life g c =
       stands = λ stand. inr (record {
         basis = basis;
         begun = begun;
-        lived = lived_on basis trace (length region.parts.items) (length (opened_parts (Some begun.geometry) holding.parts)) holding.stores after_it.told (told_at old.told _ holding told made.many)
-            (lived_home basis trace history held ended.parts.items ended.stores.items (length region.parts.items) c.run_region-parts.ensures.many after_it.told (without_stores region.names holding.stores) (λ holding is. g.met.T.Bench.whole c.give_back.new.self holding is) left
+        lived = lived_on basis trace (line_counts parts.states) (line_counts (opened_parts (Some begun.geometry) holding.parts)) holding.stores after_it.told
+            (row_tells_at (map history region.parts.items) (λ now. line_counts now ≡ line_counts (opened_parts (Some begun.geometry) holding.parts)) parts.states parts.are (told_at old.told _ holding told made.lines))
+            (lived_home basis trace history held ended.parts.items ended.stores.items (line_counts parts.states) after_it.told (without_stores region.names holding.stores) (λ holding is. g.met.T.Bench.whole c.give_back.new.self holding is) left
             (λ disks are. back_again region.names holding.stores disks (home_distinct old holding (g.met.T.Bench.named c.args.bench.now) told c.requires.at_home.home)
             (sym (states_many (map held ended.stores.items) disks are ∙ length-map ended.stores.items held ∙ c.run_region-parts.ensures.count ∙ made.one_each)) region.is_region.names_are.distinct)
             (λ now disks now_are disks_are. c.give_back.ensures.told now disks now_are disks_are ∙ back_is old mid region.names holding made.lent c.requires.at_home.home told now disks));

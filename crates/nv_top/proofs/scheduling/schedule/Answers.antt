@@ -3,13 +3,14 @@ use Rattle.std.specs.Prelude.{IfSome}
 use Rattle.std.proofs.lemmas.Result.{IfOk-weaker, on_ok_weaker}
 use Rattle.nv_plain.specs.Faults.{Rose, saturated}
 use Rattle.nv_pmem.specs.Part.{Part}
-use Rattle.nv_pmem.specs.RowStates.{AreNow}
+use Rattle.nv_pmem.specs.RowStates.{AreNow, row_tells_at}
 use Rattle.nv_pmem.specs.declared.picker.Pick.{Pick}
 use Rattle.nv_store.specs.Store.{Store}
 use Rattle.nv_bench.specs.Benches.{BenchState}
 use Rattle.nv_bench.specs.Holding.{Holding, IsQuietHolding, NamedStore}
 use Rattle.nv_open.specs.Adding.{all_names}
 use Rattle.nv_open.specs.Lending.{without_stores}
+use Rattle.nv_open.specs.Unopened.{line_counts}
 use Rattle.nv_open.specs.declared.error.OpenError.TheVariants.{Refused}
 use Rattle.nv_open.proofs.Homes.{all_away}
 use Rattle.nv_recover.specs.Standing.{files_of}
@@ -24,7 +25,7 @@ use Rattle.nv_top.proofs.CommandLemmas.{if_told, mid_told, told_at}
 use Rattle.nv_top.proofs.HeadlineLemmas.{home_distinct, quiet_left}
 use Rattle.nv_top.proofs.NameLemmas.{wanted_known}
 use Rattle.nv_top.proofs.ReportedLemmas.{opened_basis, refused_life, run_refused}
-use Rattle.nv_top.proofs.RowLemmas.{present}
+use Rattle.nv_top.proofs.RowLemmas.{made_many, present}
 use Rattle.nv_top.proofs.SchedulingLemmas.{all_from_lent, armed_none, from_lent, used_from_lent}
 use Rattle.nv_top.proofs.StopLemmas.{err_has, opening_refused}
 use Rattle.std.proofs.Common.{inr}
@@ -75,7 +76,7 @@ returns-clause-followed g c =
     let basis = basis_over region options.pages (files_of opened.files.held) in
     let left : Holding = record { parts = []; stores = without_stores region.names holding.stores } in
     let Over : ℕ → List Pick → ℕ → List NamedStore → Type 0 = λ count before many others. HasScheduledOn (Rose count new.faults) options before basis trace many others new text.items in
-    let parts_made = told_at old.told _ holding told made.many in
+    let parts_made = made_many history region.parts.items _ parts (told_at old.told _ holding told made.lines) in
     let same : lent ≡ old.faults = omega (arith, made.counts) in
     record {
       basis = basis;
@@ -184,8 +185,9 @@ returns-clause-life g c =
       stands = λ stand. inr (record {
         basis = basis;
         begun = begun;
-        lived = lived_on basis trace (length region.parts.items) (length (opened_parts (Some begun.geometry) holding.parts)) holding.stores new.told (told_at old.told _ holding told made.many)
-            (told_at mid.told (λ left. IsAway region.names left → HasLived basis trace (length region.parts.items) left.stores new.told) left (mid_told old mid region.names holding made.lent c.requires.ready.at_home.home told)
+        lived = lived_on basis trace (line_counts parts.states) (line_counts (opened_parts (Some begun.geometry) holding.parts)) holding.stores new.told
+            (row_tells_at (map history region.parts.items) (λ now. line_counts now ≡ line_counts (opened_parts (Some begun.geometry) holding.parts)) parts.states parts.are (told_at old.told _ holding told made.lines))
+            (told_at mid.told (λ left. IsAway region.names left → HasLived basis trace (line_counts parts.states) left.stores new.told) left (mid_told old mid region.names holding made.lent c.requires.ready.at_home.home told)
             (c.schedule_region.ensures.life parts.states opened.files.held parts.are opened.files.are)
             (all_away region.names holding.stores (home_distinct old holding (g.met.T.Bench.named c.args.bench.now) told c.requires.ready.at_home.home)));
       });
@@ -217,7 +219,7 @@ returns-clause-used g c is =
       begun = opened_basis options holding _ _ trace.names _ _ _ _ _ opened refl refl (c.in_ok-wanted.ensures ∙ c.names.ensures);
       used = used_from_lent (Rose old.faults new.faults) options basis trace _ left.stores old mid new
           (ap (λ (s : BenchState). s.arms) made.lent) (ap (λ (s : BenchState). s.armed) made.lent) (ap (λ (s : BenchState). s.picked) made.lent)
-          (subst (λ many. Over old.faults many left.stores mid) (told_at old.told _ holding told made.many) (subst (λ count. Over count (length region.parts.items) left.stores mid) same used));
+          (subst (λ many. Over old.faults many left.stores mid) (made_many g.T.Part.Lines.history region.parts.items _ parts (told_at old.told _ holding told made.lines)) (subst (λ count. Over count (length region.parts.items) left.stores mid) same used));
     })
 
 pub returns-in_err-opened-clause-life : goal.returns-in_err-opened-clause-life

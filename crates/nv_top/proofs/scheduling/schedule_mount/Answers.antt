@@ -9,6 +9,7 @@ use Rattle.nv_bench.specs.Powered.{powered}
 use Rattle.nv_header.specs.FileNames.{AreFileNames}
 use Rattle.nv_core.specs.steps.Opening.{IsMount}
 use Rattle.nv_table.specs.state.Opened.{Opened, mount_of}
+use Rattle.nv_mount.specs.Telling.{mounted_lines}
 use Rattle.nv_mount.specs.RisenCounts.{SawStop, failed_before}
 use Rattle.nv_runner.specs.Faithful.{Basis}
 use Rattle.nv_top.specs.Runs.{BeginsMount}
@@ -133,7 +134,7 @@ returns-clause-never g c why is basis begins named =
       closed = ran.3;
     } in
     never_refused basis trace mount pass zero _ _ parts held sums came.placed came.tail over c.power_leaves_an_image.ensures c.images_stand_for_files.ensures.good
-    c.a_header_has_one_answer.ensures.read c.rows_have_states.ensures.each (omega (arith, ran.2.many_parts, length-map came.parts.items g.T.Part.Lines.history)) many c.args.options.image left home.told off.told
+    c.a_header_has_one_answer.ensures.read many c.args.options.image left home.told off.told
     (λ now disks now_are disks_are. c.give_back.ensures.told now disks now_are disks_are
     ∙ ap (λ (s : BenchState). told_back now disks s) c.run_schedule-closed.ensures.armed
     ∙ ap (λ (told : _). option_map (λ (holding : Holding). home_with holding start.lent now disks) told) told_is
@@ -267,12 +268,11 @@ returns-then-has_failed-clause-life g c basis begins named =
     let came = c.run_schedule-closed.result.closed in
     let ran = c.run_schedule-closed.ensures.ran in
     let many = length-map came.stores.items g.T.Store.Backing.history ∙ ran.2.many_stores in
-    let made = 1 + c.args.mount.board.opened.sizes.entries + length c.args.pass.spare in
-    let as_many = parts_counted _ came.parts.items (1 + c.args.mount.board.opened.sizes.entries) c.args.pass.spare ran.2.many_parts (ran.2.same_spare ∙ ran.1.spare) in
+    let made = mounted_lines (mount_of c.args.mount.board.opened) c.args.pass.spare in
     let scheduled =
     of_trace c.args.mount trace c.args.options.batch c.args.pass ran.0 start armed outcome c.tokens.result.now c.calls.result.now c.tokens.ensures.tokens c.calls.ensures.calls ran.1 in
     scheduled_home g.T.Part.Lines.history g.T.Store.Backing.history trace c.args.mount c.args.pass ran.0 _ _ came.parts.items came.stores.items _ came.placed came.tail c.args.options.batch start armed outcome home.told c.schedules_leave_lives.ensures
-    c.requires.trace.well_formed c.requires.trace.lines c.requires.no_rounds c.requires.new scheduled ran.3 many made as_many c.requires.names c.run_schedule-closed.ensures.armed c.give_back.ensures.told (λ holding is. g.met.T.Bench.whole c.give_back.new.self holding is)
+    c.requires.trace.well_formed c.requires.trace.lines c.requires.no_rounds c.requires.new scheduled ran.3 many c.requires.names c.run_schedule-closed.ensures.armed c.give_back.ensures.told (λ holding is. g.met.T.Bench.whole c.give_back.new.self holding is)
     basis begins named
 
 pub returns-in_err-power-clause-life : goal.returns-in_err-power-clause-life
@@ -286,13 +286,12 @@ returns-in_err-power-clause-life g c basis begins named =
     let came = c.run_schedule-closed.result.closed in
     let ran = c.run_schedule-closed.ensures.ran in
     let many = length-map came.stores.items g.T.Store.Backing.history ∙ ran.2.many_stores in
-    let made = 1 + c.args.mount.board.opened.sizes.entries + length c.args.pass.spare in
-    let as_many = parts_counted _ came.parts.items (1 + c.args.mount.board.opened.sizes.entries) c.args.pass.spare ran.2.many_parts (ran.2.same_spare ∙ ran.1.spare) in
+    let made = mounted_lines (mount_of c.args.mount.board.opened) c.args.pass.spare in
     let scheduled =
     of_trace c.args.mount trace c.args.options.batch c.args.pass ran.0 start armed outcome c.tokens.result.now c.calls.result.now c.tokens.ensures.tokens c.calls.ensures.calls ran.1 in
     let lived =
     scheduled_home g.T.Part.Lines.history g.T.Store.Backing.history trace c.args.mount c.args.pass ran.0 _ _ came.parts.items came.stores.items _ came.placed came.tail c.args.options.batch start armed outcome home.told c.schedules_leave_lives.ensures
-    c.requires.trace.well_formed c.requires.trace.lines c.requires.no_rounds c.requires.new scheduled ran.3 many made as_many c.requires.names c.run_schedule-closed.ensures.armed c.give_back.ensures.told (λ holding is. g.met.T.Bench.whole c.give_back.new.self holding is)
+    c.requires.trace.well_formed c.requires.trace.lines c.requires.no_rounds c.requires.new scheduled ran.3 many c.requires.names c.run_schedule-closed.ensures.armed c.give_back.ensures.told (λ holding is. g.met.T.Bench.whole c.give_back.new.self holding is)
     basis begins named in
     subst (λ told. IfSome start.told (λ left. IsAway basis.names left → HasLived basis trace made left.stores told)) (sym (ap (λ (s : BenchState). s.told) c.in_err-power.ensures.memory)) lived
 
@@ -307,15 +306,14 @@ returns-clause-life g c basis begins named =
     let came = c.run_schedule-closed.result.closed in
     let ran = c.run_schedule-closed.ensures.ran in
     let many = length-map came.stores.items g.T.Store.Backing.history ∙ ran.2.many_stores in
-    let made = 1 + c.args.mount.board.opened.sizes.entries + length c.args.pass.spare in
-    let as_many = parts_counted _ came.parts.items (1 + c.args.mount.board.opened.sizes.entries) c.args.pass.spare ran.2.many_parts (ran.2.same_spare ∙ ran.1.spare) in
+    let made = mounted_lines (mount_of c.args.mount.board.opened) c.args.pass.spare in
     let scheduled =
     of_trace c.args.mount trace c.args.options.batch c.args.pass ran.0 start armed outcome c.tokens.result.now c.calls.result.now c.tokens.ensures.tokens c.calls.ensures.calls ran.1 in
     let off = state c.power.new.self in
     let last = state c.show_outcome.new.bench in
     let lived =
     scheduled_home g.T.Part.Lines.history g.T.Store.Backing.history trace c.args.mount c.args.pass ran.0 _ _ came.parts.items came.stores.items _ came.placed came.tail c.args.options.batch start armed outcome home.told c.schedules_leave_lives.ensures
-    c.requires.trace.well_formed c.requires.trace.lines c.requires.no_rounds c.requires.new scheduled ran.3 many made as_many c.requires.names c.run_schedule-closed.ensures.armed c.give_back.ensures.told (λ holding is. g.met.T.Bench.whole c.give_back.new.self holding is)
+    c.requires.trace.well_formed c.requires.trace.lines c.requires.no_rounds c.requires.new scheduled ran.3 many c.requires.names c.run_schedule-closed.ensures.armed c.give_back.ensures.told (λ holding is. g.met.T.Bench.whole c.give_back.new.self holding is)
     basis begins named in
     let Home : Holding → Type 0 = λ left. IsAway basis.names left → HasLived basis trace made left.stores home.told in
     if_some start.told (λ left. IsAway basis.names left → HasLived basis trace made left.stores last.told) (λ left told_is away.

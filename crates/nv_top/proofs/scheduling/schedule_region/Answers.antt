@@ -2,11 +2,14 @@ use Rattle.std.proofs.Common.{◌≡◌, ◌+◌, ℕ, List, IfSome, map, subst,
 use Rattle.std.proofs.lemmas.Result.{IfOk-weaker}
 use Rattle.nv_plain.specs.Faults.{Rose, saturated}
 use Rattle.nv_pmem.specs.Part.{Part}
-use Rattle.nv_pmem.specs.RowStates.{AreNow}
+use Rattle.nv_pmem.specs.RowStates.{AreNow, row_tells_at}
 use Rattle.nv_store.specs.Store.{Store}
 use Rattle.nv_bench.specs.Benches.{BenchState}
 use Rattle.nv_recover.specs.Standing.{files_of}
 use Rattle.nv_mount.specs.RisenCounts.{failed_before}
+use Rattle.nv_open.specs.Unopened.{line_counts}
+use Rattle.nv_table.specs.state.Opened.{mount_of}
+use Rattle.nv_mount.specs.Telling.{mounted_lines}
 use Rattle.nv_runner.specs.Faithful.{Basis}
 use Rattle.nv_top.specs.Runs.{BeginsMount, basis_over}
 use Rattle.nv_top.specs.Scheduling.{HasScheduledOn, HasUsedTurns}
@@ -72,7 +75,8 @@ returns-in-Ok-clause-life g c parts now parts_are now_are =
     let start = g.T.Bench.state c.args.bench.now in
     let last = g.T.Bench.state c.schedule_mount.new.bench in
     let basis = basis_over region c.args.options.pages (files_of now) in
-    subst (λ many. IfSome start.told (λ left. IsAway region.names left → HasLived basis c.args.trace.now many left.stores last.told)) c.in-Ok.ensures.parts
+    subst (λ counts. IfSome start.told (λ left. IsAway region.names left → HasLived basis c.args.trace.now counts left.stores last.told))
+    (row_tells_at (map g.T.Part.Lines.history region.parts.items) (λ told. mounted_lines (mount_of c.in-Ok.mount.board.opened) c.in-Ok.pass.spare ≡ line_counts told) parts parts_are c.in-Ok.ensures.lines)
     (c.schedule_mount.ensures.life basis (c.in-Ok.ensures.begins parts now parts_are now_are) (sym c.requires.lent))
 
 pub returns-in-Err-clause-life : goal.returns-in-Err-clause-life
@@ -85,10 +89,10 @@ returns-in-Err-clause-life g c parts now parts_are now_are =
     let start = g.T.Bench.state c.args.bench.now in
     let home = g.T.Bench.state c.give_back.new.self in
     let basis = basis_over region c.args.options.pages (files_of now) in
-    let rest = rest_lives history held basis trace region.parts.items stores parts now region.geometry.page region.geometry.entries region.next parts_are now_are region.is_region.tells (quiet_stores held stores now now_are c.requires.synced) refl in
-    let left_so : AreLeftSo history held basis trace c.in-Err.field-0.parts.items c.in-Err.field-0.stores.items = left_same history held basis trace c.in-Err.field-0.parts.items region.parts.items c.in-Err.field-0.stores.items stores c.in-Err.ensures.same_parts c.in-Err.ensures.same_stores rest in
-    if_some start.told (λ left. IsAway region.names left → HasLived basis trace (length region.parts.items) left.stores home.told) (λ left told_is away.
-    lived_home basis trace history held c.in-Err.field-0.parts.items c.in-Err.field-0.stores.items (length region.parts.items) c.in-Err.ensures.many home.told left.stores (λ holding is. g.met.T.Bench.whole c.give_back.new.self holding is) left_so
+    let rest = rest_lives history held basis trace region.parts.items stores parts now region.next parts_are now_are region.is_region.tells (quiet_stores held stores now now_are c.requires.synced) refl in
+    let left_so : AreLeftSo history held basis trace (line_counts parts) c.in-Err.field-0.parts.items c.in-Err.field-0.stores.items = left_same history held basis trace (line_counts parts) c.in-Err.field-0.parts.items region.parts.items c.in-Err.field-0.stores.items stores c.in-Err.ensures.same_parts c.in-Err.ensures.same_stores rest in
+    if_some start.told (λ left. IsAway region.names left → HasLived basis trace (line_counts parts) left.stores home.told) (λ left told_is away.
+    lived_home basis trace history held c.in-Err.field-0.parts.items c.in-Err.field-0.stores.items (line_counts parts) home.told left.stores (λ holding is. g.met.T.Bench.whole c.give_back.new.self holding is) left_so
     (λ disks are. all_behind region.names left.stores (named_stores region.names disks) away
     ∙ own_stores region.names disks (sym (length_now (map held c.in-Err.field-0.stores.items) disks are ∙ ap length (c.in-Err.ensures.same_stores) ∙ length-map stores held ∙ c.requires.stores)) region.is_region.names_are.distinct)
     (λ back disks back_are disks_are. c.give_back.ensures.told back disks back_are disks_are

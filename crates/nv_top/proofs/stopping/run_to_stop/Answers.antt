@@ -3,7 +3,7 @@ use Rattle.std.specs.Prelude.{IfSome, max}
 use Rattle.std.proofs.lemmas.Result.{IfOk-weaker}
 use Rattle.nv_plain.specs.Faults.{Rose, saturated}
 use Rattle.nv_pmem.specs.Part.{Part}
-use Rattle.nv_pmem.specs.RowStates.{AreNow}
+use Rattle.nv_pmem.specs.RowStates.{AreNow, row_tells_at}
 use Rattle.nv_pmem.specs.declared.picker.Pick.{Pick}
 use Rattle.nv_store.specs.Store.{Store}
 use Rattle.nv_bench.specs.Benches.{BenchState}
@@ -11,6 +11,7 @@ use Rattle.nv_bench.specs.Holding.{Holding, IsQuietHolding, NamedStore}
 use Rattle.nv_bench.specs.Naming.{AreDistinct, names_of}
 use Rattle.nv_open.specs.Adding.{all_names}
 use Rattle.nv_open.specs.Lending.{without_stores}
+use Rattle.nv_open.specs.Unopened.{line_counts}
 use Rattle.nv_open.specs.declared.error.OpenError.TheVariants.{Refused}
 use Rattle.nv_open.specs.declared.error.Refusal.{Refusal}
 use Rattle.nv_open.proofs.Homes.{all_away}
@@ -33,7 +34,7 @@ use Rattle.nv_bench.specs.Opening.{opened as opened_parts}
 use Rattle.nv_open.proofs.Layers.{good_begun}
 use Rattle.nv_top.proofs.LifeLemmas.{lived_on}
 use Rattle.nv_top.proofs.ReportedLemmas.{by_error, counted_not_turns, counted_settled, home_powered, home_unarmed, opened_basis, opening_counted, refused_life, region_of, run_refused, unopened_run}
-use Rattle.nv_top.proofs.RowLemmas.{present}
+use Rattle.nv_top.proofs.RowLemmas.{made_many, present}
 use Rattle.nv_top.proofs.StopLemmas.{opening_refused}
 use Rattle.nv_top.proofs.stopping.run_to_stop.Goals as goal
 
@@ -151,8 +152,9 @@ returns g c =
             stands = λ stand. inr (record {
               basis = basis;
               begun = begun;
-              lived = lived_on basis trace (length region.parts.items) (length (opened_parts (Some begun.geometry) holding.parts)) holding.stores new.told (told_at old.told _ holding told made.many)
-                  (told_at mid.told (λ left. IsAway region.names left → HasLived basis trace (length region.parts.items) left.stores new.told) left (mid_told old mid region.names holding made.lent at_home.home told)
+              lived = lived_on basis trace (line_counts parts.states) (line_counts (opened_parts (Some begun.geometry) holding.parts)) holding.stores new.told
+                  (row_tells_at (map history region.parts.items) (λ now. line_counts now ≡ line_counts (opened_parts (Some begun.geometry) holding.parts)) parts.states parts.are (told_at old.told _ holding told made.lines))
+                  (told_at mid.told (λ left. IsAway region.names left → HasLived basis trace (line_counts parts.states) left.stores new.told) left (mid_told old mid region.names holding made.lent at_home.home told)
                   (stopped.life parts.states opened.files.held parts.are opened.files.are) (all_away region.names holding.stores (distinct holding told)));
             });
           });
@@ -167,7 +169,7 @@ returns g c =
           let basis = basis_over region options.pages (files_of opened.files.held) in
           let left : Holding = record { parts = []; stores = without_stores region.names holding.stores } in
           let Over : ℕ → List Pick → ℕ → List NamedStore → Type 0 = λ count before many others. HasStoppedOn (Rose count new.faults) options.worker options.image before basis trace many others new text.items in
-          let parts_made = told_at old.told _ holding told made.many in
+          let parts_made = made_many history region.parts.items _ parts (told_at old.told _ holding told made.lines) in
           record {
             basis = basis;
             begun = opened_basis options holding _ _ trace.names _ _ _ _ _ opened refl refl (c.in_ok-wanted.ensures ∙ c.names.ensures);

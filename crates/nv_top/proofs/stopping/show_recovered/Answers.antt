@@ -15,12 +15,13 @@ use Rattle.nv_pmem.specs.RowStates.{row_tells_at}
 use Rattle.nv_header.specs.Regions.{IsAtRest}
 use Rattle.nv_bench.specs.Holding.{named_stores}
 use Rattle.nv_open.specs.Lending.{without_stores}
-use Rattle.nv_open.specs.Unopened.{HasHeader, StandsAsBefore, TellsOf}
+use Rattle.nv_open.specs.Unopened.{HasHeader, StandsAsBefore, TellsOf, line_counts}
 use Rattle.nv_open.proofs.LogLaws.{states_many}
 use Rattle.nv_top.proofs.CommandLemmas.{back_is}
 use Rattle.nv_top.proofs.HeadlineLemmas.{home_distinct}
 use Rattle.nv_top.proofs.LifeLemmas.{recovered_stands}
-use Rattle.nv_top.proofs.RowLemmas.{present}
+use Rattle.nv_pmem.specs.Rows.{RowTells}
+use Rattle.nv_top.proofs.RowLemmas.{made_many, present}
 use Rattle.nv_top.proofs.stopping.show_recovered.Goals as goal
 
 pub returns-clause-shown : goal.returns-clause-shown
@@ -46,7 +47,8 @@ returns-clause-shown g c =
     (λ holding told_is.
     let Told : List _ → Type 0 = λ parts. AllTell (map history parts) in
     shows old lent new_told holding sorted begun text.items found region.geometry.page region.geometry.entries region.next region.names c.names.result.now (map history parts_now) (map held backing)
-    told_is (length-map parts_now history ∙ ap length same_parts ∙ at_some old.told (λ holding. length region.parts.items ≡ length holding.parts) holding told_is opened.many) c.requires.at_home.home opened.lent (sym c.names.ensures) text_of
+    told_is (length-map parts_now history ∙ ap length same_parts ∙ made_many history region.parts.items holding.parts (present (map history region.parts.items) (at_some old.told (λ holding. AllTell (map history region.parts.items)) holding told_is opened.tell))
+    (at_some old.told (λ holding. RowTells (map history region.parts.items) (λ now. line_counts now ≡ line_counts holding.parts)) holding told_is opened.lines)) c.requires.at_home.home opened.lent (sym c.names.ensures) text_of
     (at_some old.told (λ holding. IsRecovered holding.parts region.geometry.page region.geometry.entries region.names region.next found) holding told_is opened.recovered)
     (at_some old.told (λ holding. HoldFiles (map held backing) (files_named holding.parts region.names holding.stores)) holding told_is opened.files)
     (subst Told (sym same_parts) (at_some old.told (λ holding. AllTell (map history region.parts.items)) holding told_is opened.tell))
@@ -83,7 +85,7 @@ returns-clause-standing g c =
           recovered_stands c.images_stand_for_files.ensures.files was region.geometry.page region.geometry.entries region.next region.names c.in_ok-opened.found now.states files.held recovery
           (row_tells_at (map history back) (IsAtRest mount_layout region.geometry.page region.geometry.entries region.names region.next) now.states now_are c.into_parts-parts.ensures.region.tells) files.files_are files.quiet
           (home_distinct old was (g.met.T.Bench.named c.args.bench.now) told c.requires.at_home.home)
-          (states_many (map history region.parts.items) now.states now.are ∙ length-map region.parts.items history ∙ at_some old.told (λ holding. length region.parts.items ≡ length holding.parts) was told made.many)
+          (row_tells_at (map history region.parts.items) (λ now. line_counts now ≡ line_counts was.parts) now.states now.are (at_some old.told (λ holding. RowTells (map history region.parts.items) (λ now. line_counts now ≡ line_counts holding.parts)) was told made.lines))
           (sym (states_many (map held backing) files.held files.are ∙ length-map backing held ∙ made.one_each))
           c.into_parts-parts.ensures.region.names_are.distinct readable;
     })

@@ -24,7 +24,7 @@ use Rattle.nv_core.specs.content.Content.{Opens}
 use Rattle.nv_core.specs.crash.CrashImages.{OpensRegion}
 use Rattle.nv_core.specs.log.LogContent.{OpensLog}
 use Rattle.nv_core.specs.state.Values.{Value}
-use Rattle.nv_mount.specs.Telling.{IsTelling}
+use Rattle.nv_mount.specs.Telling.{IsTelling, mounted_lines}
 use Rattle.nv_open.proofs.Homes.{all_behind, own_stores}
 use Rattle.nv_open.specs.Unopened.{HasHeader, StandsAsBefore, TellsOf}
 use Rattle.nv_runner.specs.FaithfulRuns.{IsMountOf}
@@ -32,7 +32,7 @@ use Rattle.nv_store.proofs.RowReads.{length_now}
 use Rattle.nv_table.specs.state.Opened.{Opened, mount_of}
 use Rattle.nv_table.specs.state.Views.{first_view}
 use Rattle.nv_top.specs.Lives.{AreLeftSo, HasLived}
-use Rattle.nv_top.proofs.LifeLemmas.{lived_home, lived_powered, lived_recovered}
+use Rattle.nv_top.proofs.LifeLemmas.{lines_home, lived_home, lived_powered, lived_recovered}
 use Rattle.nv_top.proofs.stopping.stop_mount.Goals as goal
 
 pub show_recovered-requires-clause-at_home : goal.show_recovered-requires-clause-at_home
@@ -147,7 +147,7 @@ returns-clause-never g c why is basis begins named =
       closed = by;
     } in
     never_refused basis trace mount pass zero _ _ parts held sums came.placed came.tail (closed_over basis trace mount pass zero c.args.plan sorted _ _ parts held sums came.placed came.tail run) c.power_leaves_an_image.ensures c.images_stand_for_files.ensures.good
-    c.a_header_has_one_answer.ensures.read c.rows_have_states.ensures.each (omega (arith, ran.2.many_parts, length-map came.parts.items g.T.Part.Lines.history)) many c.args.plan.image left home.told off.told
+    c.a_header_has_one_answer.ensures.read many c.args.plan.image left home.told off.told
     (λ now disks now_are disks_are. given_home c.args.k start (state c.arm.new.self) home.told left parts held c.give_back.ensures.told c.arm.ensures told_is now disks now_are disks_are
     ∙ ap (λ names. Some (home_with left names now disks)) (sym named))
     (ap (λ (s : BenchState). s.told) c.in_ok-power.ensures.off) (λ holding is. g.met.T.Bench.whole c.give_back.new.self holding is) why
@@ -170,7 +170,7 @@ returns-in_err-power-clause-life g c basis begins named =
     let parts = map history came.parts.items in
     let held = map keeps came.stores.items in
     let many : length held ≡ mount.board.opened.sizes.files = length-map came.stores.items keeps ∙ ran.2.many_stores in
-    let made = 1 + mount.board.opened.sizes.entries + length pass.spare in
+    let made = mounted_lines (mount_of mount.board.opened) pass.spare in
     if_some start.told (λ left. IsAway basis.names left → HasLived basis trace made left.stores (state c.power.new.self).told) (λ left told_is away.
     let here = sym c.requires.board.same_mount in
     let there : mount.board.opened ≡ ran.0.view.opened = here ∙ sym out.mount in
@@ -179,11 +179,11 @@ returns-in_err-power-clause-life g c basis begins named =
     (subst (λ (o : Opened). IsMountOf basis trace o mount.fds) here begins.is_mount) (subst (λ (o : Opened). OpensRegion (mount_of o) basis.names) here begins.region) (c.requires.new ∙ ap first_view here) ran.1 by in
     let tell = by.telling basis.files (subst (λ (o : Opened). OpensLog (mount_of o) o.next) there begins.is_mount.log) (subst (λ (o : Opened). Opens (mount_of o) basis.files) there begins.is_mount.files)
     (subst (λ (values : List Value). All IsTelling values) (sym out.spare) begins.spare) in
-    let stay : AreLeftSo history keeps basis trace came.parts.items came.stores.items = record { parts_tell = tell.0; stores_tell = tell.1; life = life } in
+    let counted = lines_home parts mount.board.opened ran.0.view.opened pass.spare ran.0.spare there out.spare by.lines in
+    let stay : AreLeftSo history keeps basis trace made came.parts.items came.stores.items = record { parts_tell = tell.0; stores_tell = tell.1; lines_are = counted; life = life } in
     let allowed : AreFileNames mount_layout basis.names = subst (λ names. AreFileNames mount_layout names) (sym named) c.requires.names in
     let whole : (holding : Holding) → home.told ≡ Some holding → AreWholeStores holding = λ holding is. g.met.T.Bench.whole c.give_back.new.self holding is in
-    let as_many = parts_counted _ came.parts.items (1 + mount.board.opened.sizes.entries) pass.spare ran.2.many_parts (ran.2.same_spare ∙ out.spare) in
-    let lived : HasLived basis trace made left.stores home.told = lived_home basis trace history keeps came.parts.items came.stores.items made as_many home.told left.stores whole stay
+    let lived : HasLived basis trace made left.stores home.told = lived_home basis trace history keeps came.parts.items came.stores.items made home.told left.stores whole stay
     (λ disks are. all_behind basis.names left.stores (named_stores basis.names disks) away ∙ own_stores basis.names disks (begins.is_mount.names ∙ sym many ∙ sym (length_now held disks are)) allowed.distinct)
     (λ now disks now_are disks_are. given_home c.args.k start (state c.arm.new.self) home.told left parts held c.give_back.ensures.told c.arm.ensures told_is now disks now_are disks_are
     ∙ ap (λ names. Some (home_with left names now disks)) (sym named)) in
@@ -206,7 +206,7 @@ returns-in_err-sorted-clause-life g c basis begins named =
     let parts = map history came.parts.items in
     let held = map keeps came.stores.items in
     let many : length held ≡ mount.board.opened.sizes.files = length-map came.stores.items keeps ∙ ran.2.many_stores in
-    let made = 1 + mount.board.opened.sizes.entries + length pass.spare in
+    let made = mounted_lines (mount_of mount.board.opened) pass.spare in
     if_some start.told (λ left. IsAway basis.names left → HasLived basis trace made left.stores (state c.power.new.self).told) (λ left told_is away.
     let here = sym c.requires.board.same_mount in
     let there : mount.board.opened ≡ ran.0.view.opened = here ∙ sym out.mount in
@@ -215,11 +215,11 @@ returns-in_err-sorted-clause-life g c basis begins named =
     (subst (λ (o : Opened). IsMountOf basis trace o mount.fds) here begins.is_mount) (subst (λ (o : Opened). OpensRegion (mount_of o) basis.names) here begins.region) (c.requires.new ∙ ap first_view here) ran.1 by in
     let tell = by.telling basis.files (subst (λ (o : Opened). OpensLog (mount_of o) o.next) there begins.is_mount.log) (subst (λ (o : Opened). Opens (mount_of o) basis.files) there begins.is_mount.files)
     (subst (λ (values : List Value). All IsTelling values) (sym out.spare) begins.spare) in
-    let stay : AreLeftSo history keeps basis trace came.parts.items came.stores.items = record { parts_tell = tell.0; stores_tell = tell.1; life = life } in
+    let counted = lines_home parts mount.board.opened ran.0.view.opened pass.spare ran.0.spare there out.spare by.lines in
+    let stay : AreLeftSo history keeps basis trace made came.parts.items came.stores.items = record { parts_tell = tell.0; stores_tell = tell.1; lines_are = counted; life = life } in
     let allowed : AreFileNames mount_layout basis.names = subst (λ names. AreFileNames mount_layout names) (sym named) c.requires.names in
     let whole : (holding : Holding) → home.told ≡ Some holding → AreWholeStores holding = λ holding is. g.met.T.Bench.whole c.give_back.new.self holding is in
-    let as_many = parts_counted _ came.parts.items (1 + mount.board.opened.sizes.entries) pass.spare ran.2.many_parts (ran.2.same_spare ∙ out.spare) in
-    let lived : HasLived basis trace made left.stores home.told = lived_home basis trace history keeps came.parts.items came.stores.items made as_many home.told left.stores whole stay
+    let lived : HasLived basis trace made left.stores home.told = lived_home basis trace history keeps came.parts.items came.stores.items made home.told left.stores whole stay
     (λ disks are. all_behind basis.names left.stores (named_stores basis.names disks) away ∙ own_stores basis.names disks (begins.is_mount.names ∙ sym many ∙ sym (length_now held disks are)) allowed.distinct)
     (λ now disks now_are disks_are. given_home c.args.k start (state c.arm.new.self) home.told left parts held c.give_back.ensures.told c.arm.ensures told_is now disks now_are disks_are
     ∙ ap (λ names. Some (home_with left names now disks)) (sym named)) in
@@ -246,7 +246,7 @@ returns-clause-life g c basis begins named =
     let parts = map history came.parts.items in
     let held = map keeps came.stores.items in
     let many : length held ≡ mount.board.opened.sizes.files = length-map came.stores.items keeps ∙ ran.2.many_stores in
-    let made = 1 + mount.board.opened.sizes.entries + length pass.spare in
+    let made = mounted_lines (mount_of mount.board.opened) pass.spare in
     if_some start.told (λ left. IsAway basis.names left → HasLived basis trace made left.stores (state c.show_recovered.new.bench).told) (λ left told_is away.
     let here = sym c.requires.board.same_mount in
     let there : mount.board.opened ≡ ran.0.view.opened = here ∙ sym out.mount in
@@ -255,11 +255,11 @@ returns-clause-life g c basis begins named =
     (subst (λ (o : Opened). IsMountOf basis trace o mount.fds) here begins.is_mount) (subst (λ (o : Opened). OpensRegion (mount_of o) basis.names) here begins.region) (c.requires.new ∙ ap first_view here) ran.1 by in
     let tell = by.telling basis.files (subst (λ (o : Opened). OpensLog (mount_of o) o.next) there begins.is_mount.log) (subst (λ (o : Opened). Opens (mount_of o) basis.files) there begins.is_mount.files)
     (subst (λ (values : List Value). All IsTelling values) (sym out.spare) begins.spare) in
-    let stay : AreLeftSo history keeps basis trace came.parts.items came.stores.items = record { parts_tell = tell.0; stores_tell = tell.1; life = life } in
+    let counted = lines_home parts mount.board.opened ran.0.view.opened pass.spare ran.0.spare there out.spare by.lines in
+    let stay : AreLeftSo history keeps basis trace made came.parts.items came.stores.items = record { parts_tell = tell.0; stores_tell = tell.1; lines_are = counted; life = life } in
     let allowed : AreFileNames mount_layout basis.names = subst (λ names. AreFileNames mount_layout names) (sym named) c.requires.names in
     let whole : (holding : Holding) → home.told ≡ Some holding → AreWholeStores holding = λ holding is. g.met.T.Bench.whole c.give_back.new.self holding is in
-    let as_many = parts_counted _ came.parts.items (1 + mount.board.opened.sizes.entries) pass.spare ran.2.many_parts (ran.2.same_spare ∙ out.spare) in
-    let lived : HasLived basis trace made left.stores home.told = lived_home basis trace history keeps came.parts.items came.stores.items made as_many home.told left.stores whole stay
+    let lived : HasLived basis trace made left.stores home.told = lived_home basis trace history keeps came.parts.items came.stores.items made home.told left.stores whole stay
     (λ disks are. all_behind basis.names left.stores (named_stores basis.names disks) away ∙ own_stores basis.names disks (begins.is_mount.names ∙ sym many ∙ sym (length_now held disks are)) allowed.distinct)
     (λ now disks now_are disks_are. given_home c.args.k start (state c.arm.new.self) home.told left parts held c.give_back.ensures.told c.arm.ensures told_is now disks now_are disks_are
     ∙ ap (λ names. Some (home_with left names now disks)) (sym named)) in
