@@ -17,6 +17,9 @@ use nv_pmem::Lines;
 use nv_store::Backing;
 use std::marker::Model;
 
+/// How many slots a pass owns at most where they turn one by one.
+const SHORT_ROW: usize = 8;
+
 /// What a thread steps with.
 pub struct Pass<L: Lines, B: Backing> {
     pub(crate) seat: Seat<Slot<L, B>, View>,
@@ -93,7 +96,32 @@ fn turn<S>(seat: &mut Seat<S, View>, count: usize)
     }
 }
 
-// The numbers of the slots that a pass owns turn likewise. Mostly it owns one, and nothing moves.
+// The first of a row goes behind the others.
+#[inline(always)]
+fn turn_once(row: &mut [usize])
+    requires { 0 < length row.old }
+    ensures { row.new ≡ drop 1 row.old ++ take 1 row.old }
+{
+    let first = row[0];
+    let last = row.len() - 1;
+    for i in 0..last {
+        row[i] = row[i + 1];
+    }
+    row[last] = first;
+}
+
+// A short row turns one by one: what a rotation of slices keeps in its frame is cleared at each call.
+#[inline(always)]
+fn turn_short(row: &mut [usize], count: usize)
+    requires { count ≤ length row.old }
+    ensures { row.new ≡ drop count row.old ++ take count row.old }
+{
+    for _ in 0..count {
+        turn_once(row);
+    }
+}
+
+// The numbers of the slots that a pass owns turn likewise. Mostly it owns few.
 #[inline(always)]
 pub(crate) fn turn_held(held: &mut Vec<usize>, count: usize)
     requires { count ≤ length held.old.items }
@@ -101,7 +129,11 @@ pub(crate) fn turn_held(held: &mut Vec<usize>, count: usize)
     ensures capacity { vec_capacity held.new ≡ vec_capacity held.old }
 {
     if count > 0 && count < held.len() {
-        held.rotate_left(count);
+        if held.len() <= SHORT_ROW {
+            turn_short(held, count);
+        } else {
+            held.rotate_left(count);
+        }
     }
 }
 

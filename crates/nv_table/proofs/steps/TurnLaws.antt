@@ -1,24 +1,53 @@
--- Slots that stand in another order are the same ones.
-use Rattle.std.proofs.Common.{arith, ◌≡◌, ◌≢◌, refl, sym, ap, ◌∙◌, subst, ℕ, zero, suc, ◌+◌, ◌<◌, ◌≤◌, ◌==◌, false, List, [], ◌∷◌, ◌++◌, length, take, drop, map, slice_index, if◌then◌else◌}
-use Rattle.std.proofs.lemmas.List.{append-nil, append_assoc, take-append-drop, drop-map, take-map, map-append}
+-- Slots that stand in another order are the same ones; and how a row turns, one by one.
+use Rattle.std.proofs.Common.{arith, ◌≡◌, ◌≢◌, refl, sym, ap, ◌∙◌, subst, ℕ, zero, suc, ◌+◌, ◌<◌, ◌≤◌, ◌==◌, false, List, [], ◌∷◌, ◌++◌, length, take, drop, map, slice_index, slice_index_or, slice_set, ◌-◌, if◌then◌else◌}
+use Rattle.std.proofs.lemmas.List.{append_assoc, take_more, drop_more, take-append-drop, drop-map, take-map, map-append}
 use Rattle.std.proofs.lemmas.Bool.{ne_eqb}
 use Rattle.std.specs.Prelude.{Some}
 use Rattle.atomic_table.specs.Table.{turned}
 use Rattle.nv_table.specs.steps.SeatSteps.{IsFirst}
 use Rattle.nv_table.specs.state.Views.{slot_times}
 
--- one more turn
-turned_from : {S : Type 0} (behind : List (ℕ × S)) (i : ℕ) (xs : List (ℕ × S)) → i < length xs
-    → turned (drop i xs ++ (behind ++ take i xs)) ≡ drop (suc i) xs ++ (behind ++ take (suc i) xs)
-turned_from behind zero (y ∷ ys) less = append_assoc ys (behind ++ []) (y ∷ []) ∙ ap (λ zs. ys ++ zs) (ap (λ zs. zs ++ y ∷ []) (append-nil behind))
-turned_from behind (suc i) (y ∷ ys) less =
-    ap (λ zs. turned (drop i ys ++ zs)) (sym (append_assoc behind (y ∷ []) (take i ys)))
-    ∙ turned_from (behind ++ y ∷ []) i ys (omega (arith, less))
-    ∙ ap (λ zs. drop (suc i) ys ++ zs) (append_assoc behind (y ∷ []) (take (suc i) ys))
-turned_from behind i [] less = absurd (omega (arith, less))
+-- all but the first of a row move down, one by one
+moved_from : {X : Type 0} (x : X) (ys : List X) (i : ℕ) (d : X) → i < length ys
+    → slice_set (take i ys ++ drop i (x ∷ ys)) i (slice_index_or (take i ys ++ drop i (x ∷ ys)) (suc i) d) ≡ take (suc i) ys ++ drop (suc i) (x ∷ ys)
+moved_from x (y ∷ zs) zero d less = refl
+moved_from x (y ∷ zs) (suc i) d less = ap (λ l. y ∷ l) (moved_from y zs i d (omega (arith, less)))
+moved_from x [] i d less = absurd (omega (arith, less))
 
+pub moved_down : {X : Type 0} (xs row : List X) (i : ℕ) (d : X) → i < length xs - 1 → row ≡ take i (drop 1 xs) ++ drop i xs
+    → slice_set row i (slice_index_or row (i + 1) d) ≡ take (i + 1) (drop 1 xs) ++ drop (i + 1) xs
+moved_down (x ∷ ys) row i d less so_far =
+    let same : suc i ≡ i + 1 = omega arith in
+    rw (so_far) (subst (λ n. slice_set (take i ys ++ drop i (x ∷ ys)) i (slice_index_or (take i ys ++ drop i (x ∷ ys)) n d) ≡ take n ys ++ drop n (x ∷ ys)) same
+    (moved_from x ys i d (omega (arith, less))))
+moved_down [] row i d less so_far = absurd (omega (arith, less))
+
+-- and the first one comes behind them
+comes_last : {X : Type 0} (x v : X) (ys : List X) → slice_set (take (length ys) ys ++ drop (length ys) (x ∷ ys)) (length ys) v ≡ ys ++ v ∷ []
+comes_last x v [] = refl
+comes_last x v (y ∷ zs) = ap (λ l. y ∷ l) (comes_last y v zs)
+
+pub all_moved : {X : Type 0} (xs row : List X) (i : ℕ) (d : X) → 0 < length xs → i ≡ length xs - 1 → row ≡ take i (drop 1 xs) ++ drop i xs
+    → slice_set row (length xs - 1) (slice_index_or xs 0 d) ≡ drop 1 xs ++ take 1 xs
+all_moved (x ∷ ys) row i d some over so_far =
+    let last : i ≡ length ys = omega (arith, over) in
+    let same : length (x ∷ ys) - 1 ≡ length ys = omega arith in
+    rw (so_far, last, same) (comes_last x x ys)
+all_moved [] row i d some over so_far = absurd (omega (arith, some))
+
+-- one more turn of a row
+pub once_more : {X : Type 0} (i : ℕ) (xs : List X) → i < length xs → drop 1 (drop i xs ++ take i xs) ++ take 1 (drop i xs ++ take i xs) ≡ drop (i + 1) xs ++ take (i + 1) xs
+once_more i (x ∷ xs) less =
+    rw (drop_more (x ∷ xs) i x less, take_more (x ∷ xs) i x less) (append_assoc (drop (i + 1) (x ∷ xs)) (take i (x ∷ xs)) (slice_index_or (x ∷ xs) i x ∷ []))
+once_more i [] less = absurd (omega (arith, less))
+
+turned_is : {S : Type 0} (xs : List (ℕ × S)) → turned xs ≡ drop 1 xs ++ take 1 xs
+turned_is [] = refl
+turned_is (x ∷ xs) = refl
+
+-- and of slots
 pub turned_more : {S : Type 0} (i : ℕ) (xs : List (ℕ × S)) → i < length xs → turned (drop i xs ++ take i xs) ≡ drop (i + 1) xs ++ take (i + 1) xs
-turned_more i xs less = let same : suc i ≡ i + 1 = omega arith in subst (λ n. turned (drop i xs ++ take i xs) ≡ drop n xs ++ take n xs) same (turned_from [] i xs less)
+turned_more i xs less = turned_is (drop i xs ++ take i xs) ∙ once_more i xs less
 
 -- how often a slot stands among them
 times_both : {S : Type 0} (slot : ℕ) (xs ys : List (ℕ × S)) → slot_times slot (xs ++ ys) ≡ slot_times slot xs + slot_times slot ys
