@@ -1,6 +1,7 @@
 -- Owned cells: the first of some that is a cell is the one that is taken out.
 use Rattle.std.proofs.Common.{◌≡◌, ◌≢◌, ℕ, zero, suc, ◌<◌, if◌then◌else◌, List, [], ◌∷◌, length, slice_index_or, refl, sym, ap, ◌∙◌, arith}
-use Rattle.std.specs.Prelude.{map}
+use Rattle.std.specs.Prelude.{◌+◌, ◌-◌, ◌++◌, map, take, drop, reverse}
+use Rattle.std.proofs.lemmas.List.{append_assoc, drop_more, length-drop, length-reverse, reverse-append, take-append-drop}
 use Rattle.std.specs.List.{remove}
 use Rattle.nv_core.specs.state.Words.{Word, HEADER, STORE, CLEANUP, ENTRY, same}
 use Rattle.nv_core.specs.state.Passes.{without}
@@ -42,3 +43,22 @@ without_none cell [] before = refl
 without_none cell (first ∷ rest) before =
     sym (ap (λ b. if b then map core_cell rest else core_cell first ∷ without (core_cell cell) (map core_cell rest)) (same_false (core_cell cell) (core_cell first) (cells_differ cell first (before 0 (omega arith))))
     ∙ ap (λ l. core_cell first ∷ l) (sym (without_none cell rest (λ j less. before (suc j) (omega (arith, less))))))
+
+-- ---- cells that lie the other way round
+
+removed_between : {X : Type 0} (front : List X) (x : X) (behind : List X) → remove (front ++ x ∷ behind) (length front) ≡ front ++ behind
+removed_between [] x behind = refl
+removed_between (y ∷ front) x behind = ap (λ l. y ∷ l) (removed_between front x behind)
+
+-- one of some, counted from behind
+pub remove_reversed : {X : Type 0} (items : List X) (k i : ℕ) (d : X) → k < length items → i ≡ length items - 1 - k → remove (reverse items) i ≡ reverse (remove items k)
+remove_reversed items k i d within from =
+    let front = take k items in
+    let x = slice_index_or items k d in
+    let behind = drop (k + 1) items in
+    let whole : items ≡ front ++ x ∷ behind = sym (take-append-drop k items) ∙ ap (λ l. front ++ l) (drop_more items k d within) in
+    let turned : reverse items ≡ reverse behind ++ x ∷ reverse front =
+    ap reverse whole ∙ reverse-append front (x ∷ behind) ∙ ap (λ l. l ++ reverse front) (reverse-append (x ∷ []) behind) ∙ append_assoc (reverse behind) (x ∷ []) (reverse front) in
+    let at : i ≡ length (reverse behind) = omega (arith, within, from, length-reverse behind, length-drop (k + 1) items) in
+    let same : k + 1 ≡ suc k = omega arith in
+    rw (turned, at) (removed_between (reverse behind) x (reverse front) ∙ sym (reverse-append front behind) ∙ ap (λ n. reverse (front ++ drop n items)) same)

@@ -1,5 +1,5 @@
-//! The cells that a cleaner owns, the last taken first.
-ghost use Rattle.std.specs.Prelude.{◌≡◌, ◌≢◌, ℕ, ◌<◌, ◌≤◌, [], ◌∷◌, length, slice_index_or};
+//! The cells that a cleaner owns, the last taken first. They lie in memory the other way round, so that none moves where one comes, or the last taken goes.
+ghost use Rattle.std.specs.Prelude.{◌≡◌, ◌≢◌, ℕ, ◌<◌, ◌≤◌, [], ◌∷◌, length, reverse, slice_index_or};
 ghost use Rattle.nv_core.specs.state.Passes.{without};
 ghost use Rattle.nv_core.specs.steps.Ops.{cleaner_move, moved};
 ghost use Rattle.nv_table.specs.state.Keys.{sizes_of};
@@ -70,23 +70,23 @@ pub struct OwnedCells {
 }
 
 impl Model for OwnedCells {
-    ghost use Rattle.std.specs.Prelude.{List, map};
+    ghost use Rattle.std.specs.Prelude.{List, map, reverse};
     ghost use Rattle.nv_core.specs.state.Words.{Word};
     ghost use Rattle.nv_clean.specs.OwnedCells.{core_cell};
 
     ghost Value = { List Word };
 
-    ghost view = { λ owned. map core_cell owned.cells.items };
+    ghost view = { λ owned. map core_cell (reverse owned.cells.items) };
 }
 
-// Where a cell first stands among some; behind the last where it doesn't.
+// How many of some stand behind the last one that is a cell; all where none is.
 fn place_of(cells: &[Cell], cell: Cell) -> usize
     ensures within { result ≤ length cells.now }
-    ensures found { result < length cells.now → slice_index_or cells.now result cell ≡ cell }
-    ensures before { (i : ℕ) → i < result → slice_index_or cells.now i cell ≢ cell }
+    ensures found { result < length cells.now → slice_index_or (reverse cells.now) result cell ≡ cell }
+    ensures before { (i : ℕ) → i < result → slice_index_or (reverse cells.now) i cell ≢ cell }
 {
     let mut i = 0;
-    while i < cells.len() && cells[i] != cell {
+    while i < cells.len() && cells[cells.len() - 1 - i] != cell {
         i += 1;
     }
     i
@@ -113,7 +113,7 @@ impl OwnedCells {
     pub fn last_taken(&self) -> Option<Cell>
         ensures { IsFirstCell result self.now }
     {
-        self.cells.first().copied()
+        self.cells.last().copied()
     }
 
     /// One more is taken.
@@ -121,7 +121,7 @@ impl OwnedCells {
         requires { length self.old < most_cells }
         ensures { self.new ≡ core_cell cell ∷ self.old }
     {
-        self.cells.insert(0, cell);
+        self.cells.push(cell);
     }
 
     /// One is given back.
@@ -129,8 +129,11 @@ impl OwnedCells {
         ensures { self.new ≡ without (core_cell cell) self.old }
     {
         let at = place_of(&self.cells, cell);
-        if at < self.cells.len() {
-            self.cells.remove(at);
+        let len = self.cells.len();
+        if at == 0 {
+            self.cells.pop();
+        } else if at < len {
+            self.cells.remove(len - 1 - at);
         }
     }
 
