@@ -110,36 +110,66 @@ module _ (old_trace : Traced) (old : LineReader) (trace : Traced) (reader : Line
     rest = rest_taken told left new reads.front all.0 reads.rest;
   }
 
+  -- Some of them end the round, whatever is behind it.
+  round_of : (front : List ℕ) (next : Traced) (new : LineReader) → old.pending.line.items ≡ [] → new.taken ≤ largest_input → HasTaken old_trace old.pending front trace reader.pending → reader.taken ≡ old.taken + length front
+      → (ended : HasTakenAhead trace reader next new true) (behind : List ℕ) → IsNextRound old_trace old ((front ++ ended.0) ++ behind) next new behind
+  round_of front next new bare fits taken count more_taken behind =
+      let bytes = more_taken.0 in
+      let ended = more_taken.2 in
+      let more = more_taken.3 in
+      let lines : (whole : Bool) (rest : List ℕ) → lines_end whole next new.pending rest ≡ lines_end whole old_trace old.pending ((front ++ bytes) ++ rest) =
+      λ whole rest. ended.lines whole rest ∙ taken.lines whole (bytes ++ rest) ∙ ap (lines_end whole old_trace old.pending) (sym (append_assoc front bytes rest)) in
+      let has : (bytes : List ℕ) → has_round (front ++ bytes) ≡ has_round_behind reader.pending.line.items bytes =
+      λ bytes. ap (λ line. has_round_behind line (front ++ bytes)) (sym bare) ∙ sym (taken.no_round bytes) in
+      record {
+        bytes = front ++ bytes;
+        round = record {
+          before = front ++ ended.before;
+          is = ap (λ bytes. front ++ bytes) ended.is ∙ sym (append_assoc front ended.before (10 ∷ []));
+          first = has ended.before ∙ ended.first;
+          ended = has bytes ∙ ended.ended;
+        };
+        rest = refl;
+        read = as_lines old_trace old.pending (front ++ bytes) bare ∙ ap (lines_end false old_trace old.pending) (sym (append-nil (front ++ bytes))) ∙ sym (lines false []) ∙ cut_off next new.pending.number new.pending.line.items;
+        goes_on = λ more_bytes. continued old_trace next old.pending new.pending old.taken new.taken (front ++ bytes) more_bytes fits (omega (arith, more, count, length-append front bytes)) lines;
+      }
+
   -- some of them end the round
   pub round_at : (told left : Option (List ℕ)) (next : Traced) (new : LineReader) → old.pending.line.items ≡ [] → new.taken ≤ largest_input → ReadsOn old_trace old told trace reader left → HasTakenAhead trace reader next new true
       → IfSome told (λ input. (rest : List ℕ) × (left ≡ Some rest) × IsNextRound old_trace old (ahead old ++ input) next new (ahead new ++ rest))
   round_at None left next new bare fits reads ended = tt
-  round_at (Some input) left next new bare fits reads more_taken =
+  round_at (Some input) left next new bare fits reads ended =
       let front = reads.front in
-      let bytes = more_taken.0 in
-      let is = more_taken.1 in
-      let ended = more_taken.2 in
-      let count = more_taken.3 in
+      let bytes = ended.0 in
       let rest = reads.rest.0 in
-      let lines : (whole : Bool) (rest : List ℕ) → lines_end whole next new.pending rest ≡ lines_end whole old_trace old.pending ((front ++ bytes) ++ rest) =
-      λ whole rest. ended.lines whole rest ∙ reads.taken.lines whole (bytes ++ rest) ∙ ap (lines_end whole old_trace old.pending) (sym (append_assoc front bytes rest)) in
-      let behind : (bytes : List ℕ) → has_round (front ++ bytes) ≡ has_round_behind reader.pending.line.items bytes =
-      λ bytes. ap (λ line. has_round_behind line (front ++ bytes)) (sym bare) ∙ sym (reads.taken.no_round bytes) in (
+      let all : ahead old ++ input ≡ (front ++ bytes) ++ (ahead new ++ rest) =
+      reads.rest.2 ∙ ap (λ ahead. front ++ (ahead ++ rest)) ended.1 ∙ ap (λ bytes. front ++ bytes) (append_assoc bytes (ahead new) rest) ∙ sym (append_assoc front bytes (ahead new ++ rest)) in (
         rest,
         reads.rest.1,
-        record {
-          bytes = front ++ bytes;
-          round = record {
-            before = front ++ ended.before;
-            is = ap (λ bytes. front ++ bytes) ended.is ∙ sym (append_assoc front ended.before (10 ∷ []));
-            first = behind ended.before ∙ ended.first;
-            ended = behind bytes ∙ ended.ended;
-          };
-          rest = reads.rest.2 ∙ ap (λ ahead. front ++ (ahead ++ rest)) is ∙ ap (λ bytes. front ++ bytes) (append_assoc bytes (ahead new) rest) ∙ sym (append_assoc front bytes (ahead new ++ rest));
-          read = as_lines old_trace old.pending (front ++ bytes) bare ∙ ap (lines_end false old_trace old.pending) (sym (append-nil (front ++ bytes))) ∙ sym (lines false []) ∙ cut_off next new.pending.number new.pending.line.items;
-          goes_on = λ more. continued old_trace next old.pending new.pending old.taken new.taken (front ++ bytes) more fits (omega (arith, count, reads.count, length-append front bytes)) lines;
-        },
+        subst (λ input. IsNextRound old_trace old input next new (ahead new ++ rest)) (sym all) (round_of front next new bare fits reads.taken reads.count ended (ahead new ++ rest)),
       )
+
+  -- the input ends behind what was taken of it, and so does the round
+  last_of : (front input : List ℕ) (next : Traced) (new : PendingLine) → old.pending.line.items ≡ [] → reader.taken ≤ largest_input → HasTaken old_trace old.pending front trace reader.pending → reader.taken ≡ old.taken + length front → input ≡ front
+      → lines_end true trace reader.pending [] ≡ lines_end true next new [] → new.line.items ≡ [] → IsLastRound old_trace old input next
+  last_of front input next new bare fits taken count all whole cleared =
+      let goes_on : ends_from trace reader.pending reader.taken [] ≡ ends_from old_trace old.pending old.taken (front ++ []) = continued old_trace trace old.pending reader.pending old.taken reader.taken front [] fits count taken.lines in
+      record {
+        no_round = ap has_round all ∙ no_round_behind bare taken;
+        whole = ap (input_ends old_trace old) (all ∙ sym (append-nil front)) ∙ sym goes_on ∙ at_end trace reader.pending reader.taken fits ∙ whole ∙ ap (λ line. ending_after true next new.number line []) cleared ∙ open_ended next new.number [];
+      }
+
+  -- whether the source tells or not, a round was read of some input
+  pub round_alone : (told left : Option (List ℕ)) (next : Traced) (new : LineReader) → old.pending.line.items ≡ [] → new.taken ≤ largest_input → ReadsOn old_trace old told trace reader left → HasTakenAhead trace reader next new true
+      → (input : List ℕ) × IsNextRound old_trace old input next new []
+  round_alone told left next new bare fits reads ended =
+      let bytes = reads.front ++ ended.0 in
+      (bytes ++ [], round_of reads.front next new bare fits reads.taken reads.count ended [])
+
+  -- so was the last one
+  pub last_alone : (told left : Option (List ℕ)) (next : Traced) (new : PendingLine) → old.pending.line.items ≡ [] → reader.taken ≤ largest_input → ReadsOn old_trace old told trace reader left
+      → lines_end true trace reader.pending [] ≡ lines_end true next new [] → new.line.items ≡ [] → (input : List ℕ) × IsLastRound old_trace old input next
+  last_alone told left next new bare fits reads whole cleared = (reads.front, last_of reads.front reads.front next new bare fits reads.taken reads.count refl whole cleared)
 
   -- a round has a byte
   pub further : (next : Traced) (new : LineReader) → old.taken ≤ reader.taken → HasTakenAhead trace reader next new true → old.taken < new.taken
@@ -151,16 +181,9 @@ module _ (old_trace : Traced) (old : LineReader) (trace : Traced) (reader : Line
       → IfSome told (λ input. (left ≡ Some []) × IsLastRound old_trace old (ahead old ++ input) next)
   last_at None left next new bare fits none reads ends whole cleared = tt
   last_at (Some input) left next new bare fits none reads ends whole cleared =
-      let front = reads.front in
       let ended : reads.rest.0 ≡ [] = subst (λ left. IfSome left (λ input. input ≡ [])) (sym ends ∙ reads.rest.1) refl in
-      let all : ahead old ++ input ≡ front = reads.rest.2 ∙ ap (λ bytes. front ++ (bytes ++ reads.rest.0)) (none_ahead reader none) ∙ ap (λ bytes. front ++ bytes) ended ∙ append-nil front in
-      let goes_on : ends_from trace reader.pending reader.taken [] ≡ ends_from old_trace old.pending old.taken (front ++ []) = continued old_trace trace old.pending reader.pending old.taken reader.taken front [] fits reads.count reads.taken.lines in (
-        reads.rest.1 ∙ ap Some ended,
-        record {
-          no_round = ap has_round all ∙ no_round_in bare reads;
-          whole = ap (input_ends old_trace old) (all ∙ sym (append-nil front)) ∙ sym goes_on ∙ at_end trace reader.pending reader.taken fits ∙ whole ∙ ap (λ line. ending_after true next new.number line []) cleared ∙ open_ended next new.number [];
-        },
-      )
+      let all : ahead old ++ input ≡ reads.front = reads.rest.2 ∙ ap (λ bytes. reads.front ++ (bytes ++ reads.rest.0)) (none_ahead reader none) ∙ ap (λ bytes. reads.front ++ bytes) ended ∙ append-nil reads.front in
+      (reads.rest.1 ∙ ap Some ended, last_of reads.front (ahead old ++ input) next new bare fits reads.taken reads.count all whole cleared)
 
   -- the last line is bad, which no line feed ends
   pub bad_last : (told left : Option (List ℕ)) (next : Traced) (error : LineError) → next ≡ trace → old.pending.line.items ≡ [] → reader.taken ≤ largest_input → reader.start ≡ reader.end → ReadsOn old_trace old told trace reader left

@@ -1,5 +1,5 @@
 -- What the lines of a round add to a trace: calls of that round.
-use Rattle.std.proofs.Common.{◌≡◌, ℕ, ◌+◌, ◌<◌, ◌≤◌, Bool, true, false, ◌||◌, cond, eqb, leb, ltb, not, List, [], ◌∷◌, ◌++◌, codes, length, Result, Ok, Err, refl, sym, ap, subst, ◌∙◌, arith}
+use Rattle.std.proofs.Common.{◌≡◌, ℕ, ◌+◌, ◌^◌, ◌<◌, ◌≤◌, Bool, true, false, ◌||◌, cond, eqb, leb, ltb, not, List, [], ◌∷◌, ◌++◌, codes, length, Result, Ok, Err, refl, sym, ap, subst, ◌∙◌, arith}
 use Rattle.std.specs.Prelude.{IfOk}
 use Rattle.std.specs.List.{list_all, list_any}
 use Rattle.std.specs.Cmp.Lexicographic.{same_text}
@@ -55,13 +55,15 @@ unfolding parts_between
 one_part [] word is = ap first_of is
 one_part (byte ∷ line) word is = part_by (eqb byte 32) byte line word is (one_part line)
 
-none_added : (number : ℕ) (trace next : Traced) → next.calls ≡ trace.calls → (0 < trace.rounds → (next.names ≡ trace.names) × (next.descriptors ≡ trace.descriptors)) → AddsCalls number trace next
-none_added number trace next same declared = record {
+none_added : (number : ℕ) (trace next : Traced) → next.calls ≡ trace.calls → (0 < trace.rounds → (next.names ≡ trace.names) × (next.descriptors ≡ trace.descriptors)) → (trace.rounds < 2 ^ 64 → trace.rounds ≤ next.rounds)
+    → AddsCalls number trace next
+none_added number trace next same declared rounds = record {
   calls = [];
   behind = same ∙ sym (append-nil trace.calls);
   round = All-nil (λ (call : TracedCall). call.round ≡ trace.rounds);
   lines = All-nil (λ (call : TracedCall). number ≤ call.line);
   declared = declared;
+  rounds = rounds;
 }
 
 -- what a line adds, and that only a `round` line ends a round
@@ -70,9 +72,9 @@ LineAdds number line trace next = AddsCalls number trace next × (ends_round lin
 
 module _ (trace : Traced) (number : ℕ) (line : List ℕ) where
   statement_adds : (statement : Statement) → FitsAs trace (fields_of line) statement → LineAdds number line trace (with_statement trace number statement)
-  statement_adds (File name) early = (none_added number trace (with_statement trace number (File name)) refl (λ some. absurd (false≢true (sym early ∙ has_round_begun trace some))), λ _. refl)
+  statement_adds (File name) early = (none_added number trace (with_statement trace number (File name)) refl (λ some. absurd (false≢true (sym early ∙ has_round_begun trace some))) (λ few. omega arith), λ _. refl)
   statement_adds (Opened descriptor) early =
-      (none_added number trace (with_statement trace number (Opened descriptor)) refl (λ some. absurd (false≢true (sym early ∙ has_round_begun trace some))), λ _. refl)
+      (none_added number trace (with_statement trace number (Opened descriptor)) refl (λ some. absurd (false≢true (sym early ∙ has_round_begun trace some))) (λ few. omega arith), λ _. refl)
   statement_adds (Call thread call) fits =
       let traced : TracedCall = record { line = number; round = trace.rounds; thread = thread; call = call } in (
         record {
@@ -81,12 +83,13 @@ module _ (trace : Traced) (number : ℕ) (line : List ℕ) where
           round = All-cons (λ (call : TracedCall). call.round ≡ trace.rounds) traced [] refl (All-nil (λ (call : TracedCall). call.round ≡ trace.rounds));
           lines = All-cons (λ (call : TracedCall). number ≤ call.line) traced [] (omega arith) (All-nil (λ (call : TracedCall). number ≤ call.line));
           declared = λ some. (refl, refl);
+          rounds = λ few. omega arith;
         },
         λ _. refl,
       )
   statement_adds Round fits =
       let this : ends_round line ≡ true = ap (λ line. says line (codes "round")) (one_part line fits.0 fits.1) ∙ fits.2 in
-      (none_added number trace (with_statement trace number Round) refl (λ some. (refl, refl)), λ other. absurd (false≢true (sym other ∙ this)))
+      (none_added number trace (with_statement trace number Round) refl (λ some. (refl, refl)) (λ few. grind arith), λ other. absurd (false≢true (sym other ∙ this)))
 
   read_adds : (read : Result Statement Why) → IfOk read (FitsAs trace (fields_of line)) → IfOk (and_then (λ statement. Ok (with_statement trace number statement)) read) (LineAdds number line trace)
   read_adds (Ok statement) fits = statement_adds statement fits
@@ -96,7 +99,7 @@ module _ (trace : Traced) (number : ℕ) (line : List ℕ) where
   unfolding after_fields
   fields_add = if_cond (is_schedule (fields_of line)) (after_steps trace (fields_of line)) (and_then (λ statement. Ok (with_statement trace number statement)) (said trace (fields_of line))) (LineAdds number line trace)
       (λ _. then_ok (λ tokens. Ok (with_tokens trace tokens)) (tokens_said trace (fields_of line)) (LineAdds number line trace)
-      (always (tokens_said trace (fields_of line)) (λ tokens. LineAdds number line trace (with_tokens trace tokens)) (λ tokens. (none_added number trace (with_tokens trace tokens) refl (λ some. (refl, refl)), λ _. refl))))
+      (always (tokens_said trace (fields_of line)) (λ tokens. LineAdds number line trace (with_tokens trace tokens)) (λ tokens. (none_added number trace (with_tokens trace tokens) refl (λ some. (refl, refl)) (λ few. omega arith), λ _. refl))))
       (λ _. read_adds (said trace (fields_of line)) (said_fits trace (fields_of line)))
 
   said_adds : IfOk (fields_said line) (λ fields. IfOk (after_fields trace number fields) (LineAdds number line trace))
@@ -108,7 +111,7 @@ module _ (trace : Traced) (number : ℕ) (line : List ℕ) where
 
   line_adds : IfOk (after_line trace number line) (LineAdds number line trace)
   unfolding after_line
-  line_adds = if_cond (is_skipped line) (Ok trace) (and_then (after_fields trace number) (fields_said line)) (LineAdds number line trace) (λ _. (none_added number trace trace refl (λ some. (refl, refl)), λ _. refl))
+  line_adds = if_cond (is_skipped line) (Ok trace) (and_then (after_fields trace number) (fields_said line)) (LineAdds number line trace) (λ _. (none_added number trace trace refl (λ some. (refl, refl)) (λ few. omega arith), λ _. refl))
       (λ _. then_ok (after_fields trace number) (fields_said line) (LineAdds number line trace) said_adds)
 
 -- ---- more lines
@@ -124,6 +127,11 @@ joined number trace middle next one same two = record {
       let first = one.declared some in
       let second = two.declared (omega (arith, same)) in
       (second.0 ∙ first.0, second.1 ∙ first.1);
+  rounds =
+      λ few.
+      let first = one.rounds few in
+      let second = two.rounds (omega (arith, few, same)) in
+      omega (arith, first, second);
 }
 
 abbrev EndAdds : ℕ → Traced → Ending → Type 0
@@ -173,7 +181,7 @@ last_adds number trace line (Err why) adds = tt
 -- lines that end no round, and at most one more
 lines_add : (lines tail : List (List ℕ)) → list_any ends_round lines ≡ false → length tail ≤ 1 → (trace : Traced) (number : ℕ) → EndAdds number trace (after_lines trace number (lines ++ tail))
 unfolding after_lines
-lines_add [] [] none few trace number = none_added number trace trace refl (λ some. (refl, refl))
+lines_add [] [] none few trace number = none_added number trace trace refl (λ some. (refl, refl)) (λ few. omega arith)
 lines_add [] (line ∷ []) none few trace number = last_adds number trace line (after_line trace number line) (line_adds trace number line)
 lines_add [] (line ∷ second ∷ more) none few trace number = absurd (omega arith)
 lines_add (line ∷ lines) tail none few trace number =

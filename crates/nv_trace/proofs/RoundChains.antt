@@ -1,9 +1,9 @@
 -- The rounds of an input, one behind the other, are all of it.
-use Rattle.std.proofs.Common.{◌≡◌, ℕ, List, [], ◌∷◌, ◌++◌, refl, sym, ap, ◌∙◌}
+use Rattle.std.proofs.Common.{◌≡◌, ℕ, true, List, [], ◌∷◌, ◌++◌, refl, sym, ap, ◌∙◌}
 use Rattle.std.proofs.lemmas.List.{append-nil, append_assoc}
 use Rattle.nv_trace.specs.Lines.{ended_lines}
-use Rattle.nv_trace.specs.NextRound.{IsLastRound, IsNextRound, IsRoundRefused, input_ends}
-use Rattle.nv_trace.specs.Pending.{ending_from}
+use Rattle.nv_trace.specs.NextRound.{IsAtLine, IsLastRound, IsNextRound, IsRoundRefused, input_ends}
+use Rattle.nv_trace.specs.Pending.{ending_after, ending_from}
 use Rattle.nv_trace.specs.ReadRounds.{AreReadFrom, ReadRound, behind_calls, calls_read, ends_behind, without_calls}
 use Rattle.nv_trace.specs.Reading.{Ending, Whole, Bad, Long, ending_of}
 use Rattle.nv_trace.specs.Refused.{IsRefusedAs}
@@ -13,7 +13,7 @@ use Rattle.nv_trace.specs.declared.read_error.ReadError.TheVariants as read_erro
 use Rattle.nv_trace.specs.declared.trace.Form.{Form}
 use Rattle.nv_trace.specs.declared.reader.LineReader.{LineReader}
 use Rattle.nv_trace.specs.declared.trace_call.TracedCall.{TracedCall}
-use Rattle.nv_trace.proofs.Endings.{ending_at_start}
+use Rattle.nv_trace.proofs.Endings.{at_end, ending_at_start, open_ended}
 use Rattle.nv_trace.proofs.Forgotten.{input_behind, round_ends}
 
 behind_twice : (first more : List TracedCall) (ending : Ending) → ends_behind first (ends_behind more ending) ≡ ends_behind (first ++ more) ending
@@ -44,6 +44,26 @@ chain (round ∷ rounds) trace reader input P ending read says =
     ∙ ap (ends_behind round.trace.calls) (chain rounds (without_calls round.trace) round.reader round.behind P ending read.1 says)
     ∙ behind_twice round.trace.calls (calls_read rounds) ending
 
+-- before a line nothing more is said
+nothing_more : (trace : Traced) (reader : LineReader) → IsAtLine reader → input_ends trace reader [] ≡ Whole trace
+nothing_more trace reader at_line =
+    at_end trace reader.pending reader.taken at_line.taken ∙ ap (λ line. ending_after true trace reader.pending.number line []) at_line.bare ∙ open_ended trace reader.pending.number []
+
+-- the rounds so far are a front of the input
+fronts : (rounds : List ReadRound) (trace : Traced) (reader : LineReader) (input : List ℕ) (last : Traced) → AreReadFrom trace reader input rounds (λ trace reader input. IsAtLine reader × (trace ≡ last))
+    → (front : List ℕ) × (rest : List ℕ) × (input ≡ front ++ rest) × (input_ends trace reader front ≡ ends_behind (calls_read rounds) (Whole last))
+fronts [] trace reader input last read = ([], input, refl, nothing_more trace reader read.0 ∙ ap Whole read.1 ∙ sym (behind_none (Whole last)))
+fronts (round ∷ rounds) trace reader input last read =
+    let first = read.0 in
+    let later = fronts rounds (without_calls round.trace) round.reader round.behind last read.1 in
+    let alone : IsNextRound trace reader (first.bytes ++ later.0) round.trace round.reader later.0 =
+    record { bytes = first.bytes; round = first.round; rest = refl; read = first.read; goes_on = first.goes_on } in (
+      first.bytes ++ later.0,
+      later.1,
+      first.rest ∙ ap (λ behind. first.bytes ++ behind) later.2 ∙ sym (append_assoc first.bytes later.0 later.1),
+      step trace reader (first.bytes ++ later.0) round.trace round.reader later.0 alone ∙ ap (ends_behind round.trace.calls) later.3 ∙ behind_twice round.trace.calls (calls_read rounds) (Whole last),
+    )
+
 from_start : (form : Form) (reader : LineReader) (input : List ℕ) → reader.pending.line.items ≡ [] → reader.pending.number ≡ 1 → reader.taken ≡ 0 → input_ends (empty_trace form) reader input ≡ ending_of form input
 from_start form reader input bare number taken =
     ap (λ line. ending_from (empty_trace form) reader.pending.number line reader.taken input) bare
@@ -56,6 +76,12 @@ module _ (form : Form) (reader : LineReader) (input : List ℕ) (bare : reader.p
   made_whole last read =
       sym (from_start form reader input bare number taken)
       ∙ chain rounds (empty_trace form) reader input (λ trace reader input. IsLastRound trace reader input last) (Whole last) read (λ trace reader input ends. ends.whole)
+
+  pub made_front : (last : Traced) → AreReadFrom (empty_trace form) reader input rounds (λ trace reader input. IsAtLine reader × (trace ≡ last))
+      → (front : List ℕ) × (rest : List ℕ) × (input ≡ front ++ rest) × (ending_of form front ≡ Whole (behind_calls (calls_read rounds) last))
+  made_front last read =
+      let front = fronts rounds (empty_trace form) reader input last read in
+      (front.0, front.1, front.2, sym (from_start form reader front.0 bare number taken) ∙ front.3)
 
   pub made_refused : (last : Traced) (error : ReadError) → AreReadFrom (empty_trace form) reader input rounds (λ trace reader input. IsRoundRefused trace reader input last error) → IsRefusedAs form error input
   made_refused last (read_errors.Bad bad) read =

@@ -13,7 +13,8 @@ ghost use Rattle.nv_trace.specs.declared.trace.Form.{Form as AnyForm};
 
 /// Where an input is read round by round, and the calls of each round are dropped before the next is read, the
 /// calls of the rounds, one behind the other, are those of the trace that the whole input is; and where a round
-/// is refused, the whole input is refused so, at the same line.
+/// is refused, the whole input is refused so, at the same line. The rounds that were read so far are a front of
+/// the input, and their calls those of the trace that this is.
 pub fn rounds_make_the_trace()
     ensures whole { (form : AnyForm) (reader : AnyReader) (input : List ℕ) (rounds : List ReadRound) (last : Traced)
         → IsAtLine reader → reader.pending.number ≡ 1 → reader.taken ≡ 0
@@ -23,6 +24,10 @@ pub fn rounds_make_the_trace()
         → IsAtLine reader → reader.pending.number ≡ 1 → reader.taken ≡ 0
         → AreReadFrom (empty_trace form) reader input rounds (λ trace reader input. IsRoundRefused trace reader input last error)
         → IsRefusedAs form error input }
+    ensures front { (form : AnyForm) (reader : AnyReader) (input : List ℕ) (rounds : List ReadRound) (last : Traced)
+        → IsAtLine reader → reader.pending.number ≡ 1 → reader.taken ≡ 0
+        → AreReadFrom (empty_trace form) reader input rounds (λ trace reader input. IsAtLine reader × (trace ≡ last))
+        → (front : List ℕ) × (rest : List ℕ) × (input ≡ front ++ rest) × (ending_of form front ≡ Whole (behind_calls (calls_read rounds) last)) }
 {}
 
 /// A round adds to a trace calls of its own number, from the reader's line on, and is counted; so does the last

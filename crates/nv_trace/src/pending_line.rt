@@ -44,6 +44,7 @@ impl PendingLine {
         ensures taken { IfOk result (HasTakenLines trace.old self.old bytes.now trace.new self.new) }
         ensures few { OnOk result (self.new.number + length self.new.line.items ≤ self.old.number + length self.old.line.items + length bytes.now) }
         ensures fewer { IfOk result (λ ended. IfSome ended (λ count. self.new.number ≤ self.old.number + length self.old.line.items + count)) }
+        ensures onward { OnOk result (self.old.number ≤ self.new.number) }
         ensures numbered { OnOk result (IsNumberedBelow self.old.number trace.old → IsNumberedBelow self.new.number trace.new) }
         ensures form { trace.new.form ≡ trace.old.form }
         ensures bad { IfErr result (IsStuckIn trace.old self.old bytes.now trace.new) }
@@ -98,6 +99,7 @@ impl PendingLine {
         ensures whole { OnOk result (lines_end true trace.old self.old [] ≡ lines_end true trace.new self.new []) }
         ensures few { OnOk result (self.new.number ≤ self.old.number + length self.old.line.items) }
         ensures none { OnOk result (self.new.line.items ≡ []) }
+        ensures onward { OnOk result (self.old.number ≤ self.new.number) }
         ensures numbered { OnOk result (IsNumberedBelow self.old.number trace.old → IsNumberedBelow self.new.number trace.new) }
         ensures form { trace.new.form ≡ trace.old.form }
         ensures unchanged { OnErr result (trace.new ≡ trace.old) }

@@ -6,7 +6,9 @@ ghost use Rattle.nv_trace.specs.Reading.{ending_of, largest_input, Whole};
 ghost use Rattle.nv_trace.specs.Shape.{IsNumberedBelow};
 ghost use Rattle.nv_trace.specs.Traced.{lines_in};
 ghost use Rattle.nv_trace.specs.Refused.{IsRefusedAs};
+ghost use Rattle.nv_trace.specs.RoundCalls.{AddsCalls};
 ghost use Rattle.nv_trace.specs.Rounds.{has_round};
+ghost use Rattle.nv_trace.specs.Streams.{counted};
 ghost use Rattle.nv_trace.specs.NextRound.{IsAtLine, IsLastRound, IsNextRound, IsRoundRefused, ahead, input_ends};
 ghost use Rattle.nv_trace.specs.Ahead.{HasFilled, HasTakenAhead, IsAheadRefused, IsWithinLines};
 ghost use Rattle.nv_trace.specs.declared.read_error.ReadError.TheVariants as read_errors;
@@ -95,7 +97,10 @@ impl LineReader {
         ensures last { result ≡ Ok false → IfSome (I.left src.old) (λ left. (I.left src.new ≡ Some []) × IsLastRound trace.old self.old (ahead self.old ++ left) trace.new) }
         ensures none { result ≡ Ok false → ahead self.new ≡ [] }
         ensures enough { has_round (ahead self.old) ≡ true → src.new ≡ src.old }
+        ensures onward { OnOk result (self.old.pending.number ≤ self.new.pending.number) }
         ensures numbered { OnOk result (IsNumberedBelow self.old.pending.number trace.old → IsNumberedBelow self.new.pending.number trace.new) }
+        ensures adds { OnOk result (AddsCalls self.old.pending.number trace.old trace.new) }
+        ensures counts { result ≡ Ok true → trace.new.rounds ≡ counted trace.old.rounds }
         ensures form { trace.new.form ≡ trace.old.form }
         ensures refused { IfErr result (λ error. IfSome (I.left src.old) (λ left. IsRoundRefused trace.old self.old (ahead self.old ++ left) trace.new error)) }
         ensures failed { result ≡ Err read_errors.Failed → Rose (I.fault_count src.old) (I.fault_count src.new) }
@@ -138,6 +143,7 @@ impl LineReader {
         requires { IsWithinLines self.old }
         ensures taken { IfOk result (HasTakenAhead trace.old self.old trace.new self.new) }
         ensures within { OnOk result (IsWithinLines self.new) }
+        ensures onward { OnOk result (self.old.pending.number ≤ self.new.pending.number) }
         ensures numbered { OnOk result (IsNumberedBelow self.old.pending.number trace.old → IsNumberedBelow self.new.pending.number trace.new) }
         ensures form { trace.new.form ≡ trace.old.form }
         ensures refused { IfErr result (IsAheadRefused trace.old self.old trace.new) }

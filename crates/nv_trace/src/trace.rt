@@ -4,6 +4,7 @@ ghost use Rattle.nv_trace.specs.Forms.{has_rounds, has_steps};
 ghost use Rattle.nv_trace.specs.Grammar.{last_thread};
 ghost use Rattle.nv_trace.specs.Shape.{IsTokenWithin, IsWellFormed, MayFollow};
 ghost use Rattle.nv_trace.specs.Traced.{empty_trace, has_begun, has_tokens, thread_count};
+ghost use Rattle.nv_trace.specs.ReadRounds.{without_calls};
 ghost use Rattle.nv_trace.specs.Reading.{with_statement, with_tokens};
 
 use crate::statement::Statement;
@@ -181,6 +182,13 @@ impl Trace {
             Statement::Round => self.rounds = self.rounds.saturating_add(1),
         }
         Ok(())
+    }
+
+    /// Drops its calls, and gives back the memory that they took. Takes none.
+    pub fn drop_calls(&mut self)
+        ensures { self.new ≡ without_calls self.old }
+    {
+        self.calls = Vec::new(self.alloc);
     }
 
     /// Takes more tokens. Without memory nothing changes.

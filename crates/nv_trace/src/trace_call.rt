@@ -1,6 +1,8 @@
 //! The calls of a trace.
+ghost use Rattle.std.specs.Prelude.{◌≡◌, IfOk};
 
-use nv_plain::Bytes;
+use nv_plain::{Bytes, NoMemory};
+use std::alloc::Global;
 
 /// A call as a trace has it, by its descriptor's number. Offsets and lengths are in bytes.
 #[derive(Debug, Drop)]
@@ -18,4 +20,40 @@ pub struct TracedCall {
     pub round: u64,
     pub thread: u64,
     pub call: TraceCall,
+}
+
+impl TraceCall {
+    /// The same call once more.
+    pub fn copy(&self, alloc: Global) -> Result<TraceCall, NoMemory>
+        ensures { IfOk result (λ copy. copy ≡ self.now) }
+    {
+        match self {
+            TraceCall::Pread { fd, at, len } => Ok(TraceCall::Pread {
+                fd: *fd,
+                at: *at,
+                len: *len,
+            }),
+            TraceCall::Pwrite { fd, at, bytes } => Ok(TraceCall::Pwrite {
+                fd: *fd,
+                at: *at,
+                bytes: Bytes::from_vec(Vec::from_slice(alloc, bytes.as_slice())?),
+            }),
+            TraceCall::Fsync { fd } => Ok(TraceCall::Fsync { fd: *fd }),
+        }
+    }
+}
+
+impl TracedCall {
+    /// The same call once more.
+    pub fn copy(&self, alloc: Global) -> Result<TracedCall, NoMemory>
+        ensures { IfOk result (λ copy. copy ≡ self.now) }
+    {
+        let call = self.call.copy(alloc)?;
+        Ok(TracedCall {
+            line: self.line,
+            round: self.round,
+            thread: self.thread,
+            call,
+        })
+    }
 }

@@ -55,6 +55,7 @@ loop-end-preserved c =
       used = inside;
       taken = subst (λ front. HasTaken c.args.trace.now c.args.self.now front c.end_line.new.trace c.end_line.new.self) (sym (feed_taken bytes used end within feed)) taken;
       few = grind arith;
+      onward = grind arith;
       form = grind arith;
       numbered = grind arith;
     }

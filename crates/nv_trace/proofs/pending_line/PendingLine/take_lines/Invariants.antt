@@ -8,6 +8,7 @@ invariant-loop-end l = record {
   used : l.used ≤ length l.bytes;
   taken : HasTaken l.fn.trace l.fn.self (take l.used l.bytes) l.trace l.self;
   few : l.self.number + length l.self.line.items ≤ l.fn.self.number + length l.fn.self.line.items + l.used;
+  onward : l.fn.self.number ≤ l.self.number;
   form : l.trace.form ≡ l.fn.trace.form;
   numbered : IsNumberedBelow l.fn.self.number l.fn.trace → IsNumberedBelow l.self.number l.trace;
 }

@@ -1,7 +1,8 @@
-use Rattle.std.proofs.Common.{◌≡◌, false, refl, subst, ◌∙◌, arith}
+use Rattle.std.proofs.Common.{◌≡◌, false, [], refl, subst, ◌∙◌, arith}
 use Rattle.std.proofs.lemmas.Result.{err_from_is_err_and}
 use Rattle.nv_trace.specs.Ahead.{HasTakenAhead}
-use Rattle.nv_trace.proofs.NextRounds.{at_start, bad_last, further, last_at, not_taken, on_ended, on_filled, on_taken, refused_at, round_at, some_ahead}
+use Rattle.nv_trace.proofs.NextRounds.{at_start, bad_last, further, last_alone, last_at, not_taken, on_ended, on_filled, on_taken, refused_at, round_alone, round_at, some_ahead}
+use Rattle.nv_trace.proofs.RoundCalls.{last_round_adds, round_adds}
 use Rattle.nv_trace.proofs.reader.LineReader.next_round.Goals as goal
 
 pub loop-self-init : goal.loop-self-init
@@ -10,6 +11,7 @@ loop-self-init g c = record {
   reads = at_start c.args.trace.now c.args.self.now (g.I.Source.left c.args.src.now);
   enough = λ has. (refl, refl);
   faults = grind arith;
+  onward = grind arith;
   form = grind arith;
   numbered = λ numbered. numbered;
 }
@@ -79,6 +81,7 @@ loop-self-preserved g c =
           let stays = c.fill.ensures.enough (some_ahead c.args.self.now c.loop-self.self at_first.1 has c.loop-self.invariant.within.start) in
           absurd (not_taken c.loop-self.trace c.take_ahead.new.trace c.args.self.now c.fill.new.self c.take_ahead.new.self.pending (stays.1 ∙ at_first.1) c.requires.bare taken.1 has);
       faults = grind arith;
+      onward = grind arith;
       form = grind arith;
       numbered = grind arith;
     }
@@ -107,3 +110,33 @@ pub returns-then-branch-clause-enough : goal.returns-then-branch-clause-enough
 returns-then-branch-clause-enough g c = λ has.
     let at_first = c.loop-self.invariant.enough has in
     (c.fill.ensures.enough (some_ahead c.args.self.now c.loop-self.self at_first.1 has c.loop-self.invariant.within.start)).0 ∙ at_first.0
+
+pub returns-then-branch-clause-adds : goal.returns-then-branch-clause-adds
+returns-then-branch-clause-adds g c =
+    let told = g.I.Source.left c.args.src.now in
+    let left = g.I.Source.left c.loop-self.src in
+    let next = g.I.Source.left c.fill.new.src in
+    let reads = on_filled c.args.trace.now c.args.self.now c.loop-self.trace c.loop-self.self told left next c.fill.new.self c.in_ok-fill.field-0 c.fill.ensures.same.0 c.fill.ensures.same.1 c.loop-self.invariant.reads c.in_ok-fill.ensures.filled in
+    let taken = subst (HasTakenAhead c.loop-self.trace c.fill.new.self c.take_ahead.new.trace c.take_ahead.new.self) c.if-branch.true c.in_ok-take_ahead.ensures.taken in
+    let round = round_alone c.args.trace.now c.args.self.now c.loop-self.trace c.fill.new.self told next c.take_ahead.new.trace c.take_ahead.new.self c.requires.bare c.in_ok-take_ahead.ensures.within.taken reads taken in
+    (round_adds c.args.trace.now c.args.self.now round.0 c.take_ahead.new.trace c.take_ahead.new.self [] round.1).0
+
+pub returns-then-branch-clause-counts : goal.returns-then-branch-clause-counts
+returns-then-branch-clause-counts g c =
+    let told = g.I.Source.left c.args.src.now in
+    let left = g.I.Source.left c.loop-self.src in
+    let next = g.I.Source.left c.fill.new.src in
+    let reads = on_filled c.args.trace.now c.args.self.now c.loop-self.trace c.loop-self.self told left next c.fill.new.self c.in_ok-fill.field-0 c.fill.ensures.same.0 c.fill.ensures.same.1 c.loop-self.invariant.reads c.in_ok-fill.ensures.filled in
+    let taken = subst (HasTakenAhead c.loop-self.trace c.fill.new.self c.take_ahead.new.trace c.take_ahead.new.self) c.if-branch.true c.in_ok-take_ahead.ensures.taken in
+    let round = round_alone c.args.trace.now c.args.self.now c.loop-self.trace c.fill.new.self told next c.take_ahead.new.trace c.take_ahead.new.self c.requires.bare c.in_ok-take_ahead.ensures.within.taken reads taken in
+    λ _. (round_adds c.args.trace.now c.args.self.now round.0 c.take_ahead.new.trace c.take_ahead.new.self [] round.1).1
+
+pub returns-then-not-branch-clause-adds : goal.returns-then-not-branch-clause-adds
+returns-then-not-branch-clause-adds g c =
+    let told = g.I.Source.left c.args.src.now in
+    let left = g.I.Source.left c.loop-self.src in
+    let next = g.I.Source.left c.fill.new.src in
+    let reads = on_filled c.args.trace.now c.args.self.now c.loop-self.trace c.loop-self.self told left next c.fill.new.self c.in_ok-fill.field-0 c.fill.ensures.same.0 c.fill.ensures.same.1 c.loop-self.invariant.reads c.in_ok-fill.ensures.filled in
+    let last = last_alone c.args.trace.now c.args.self.now c.loop-self.trace c.fill.new.self told next c.finish.new.trace c.finish.new.self c.requires.bare (omega (arith, c.fill.ensures.same.1, c.loop-self.invariant.within.taken)) reads
+    c.in_ok-finish.ensures.whole c.in_ok-finish.ensures.none in
+    last_round_adds c.args.trace.now c.args.self.now last.0 c.finish.new.trace c.requires last.1
