@@ -121,7 +121,7 @@ module _ (trace : Traced) where
   fields_stay number (Ok fields) some = either_stays (is_schedule fields) _ _ (tokens_stay (tokens_said trace fields) some) (statement_stays number (said trace fields) some)
   fields_stay number (Err why) some = tt
 
-  line_stays : (number : ℕ) (line : List ℕ) → 0 < trace.rounds → IfOk (after_line trace number line) (λ next. 0 < next.rounds)
+  pub line_stays : (number : ℕ) (line : List ℕ) → 0 < trace.rounds → IfOk (after_line trace number line) (λ next. 0 < next.rounds)
   unfolding after_line
   line_stays number line some = either_stays (is_skipped line) _ _ some (fields_stay number (fields_said line) some)
 

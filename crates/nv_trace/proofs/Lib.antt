@@ -1,5 +1,6 @@
 mod Endings
 mod Fields
+pub mod FirstRounds
 mod Fitting
 mod Forgotten
 mod Inputs

@@ -109,7 +109,7 @@ module _ (trace : Traced) (number : ℕ) (line : List ℕ) where
       let printed : Result (List (List ℕ)) Why = cond (not (list_all is_printable line)) (Err OddBytes) (Ok (fields_of line)) in
       if_cond (ltb longest_line (length line)) (Err LongLine) printed adds (λ _. tt) (λ _. if_cond (not (list_all is_printable line)) (Err OddBytes) (Ok (fields_of line)) adds (λ _. tt) (λ _. fields_add))
 
-  line_adds : IfOk (after_line trace number line) (LineAdds number line trace)
+  pub line_adds : IfOk (after_line trace number line) (LineAdds number line trace)
   unfolding after_line
   line_adds = if_cond (is_skipped line) (Ok trace) (and_then (after_fields trace number) (fields_said line)) (LineAdds number line trace) (λ _. (none_added number trace trace refl (λ some. (refl, refl)) (λ few. omega arith), λ _. refl))
       (λ _. then_ok (after_fields trace number) (fields_said line) (LineAdds number line trace) said_adds)

@@ -13,6 +13,7 @@ pub mod Pending
 pub mod NextRound
 pub mod Ahead
 pub mod ReadRounds
+pub mod FirstRounds
 pub mod RoundCalls
 pub mod Report
 pub mod MemStreams

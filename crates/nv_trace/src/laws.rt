@@ -1,5 +1,6 @@
 //! Laws of the definitions, each the contract of a function that does nothing.
 ghost use Rattle.std.specs.Prelude.{◌≡◌, ℕ, List, [], ◌++◌};
+ghost use Rattle.nv_trace.specs.FirstRounds.{FirstRoundsNameAll};
 ghost use Rattle.nv_trace.specs.NextRound.{IsAtLine, IsLastRound, IsNextRound, IsRoundRefused, input_ends};
 ghost use Rattle.nv_trace.specs.ReadRounds.{AreReadFrom, ReadRound, behind_calls, calls_read};
 ghost use Rattle.nv_trace.specs.Reading.{Ending, Whole, ending_of};
@@ -36,4 +37,10 @@ pub fn rounds_hold_their_calls()
     ensures round { (trace next : Traced) (old new : AnyReader) (input behind : List ℕ) → IsNextRound trace old input next new behind
         → AddsCalls old.pending.number trace next × (next.rounds ≡ counted trace.rounds) }
     ensures last { (trace next : Traced) (old : AnyReader) (input : List ℕ) → IsAtLine old → IsLastRound trace old input next → AddsCalls old.pending.number trace next }
+{}
+
+/// Behind the first round of an input no line declares a file: so the trace that some first rounds of it are
+/// names all files that the whole one does.
+pub fn first_rounds_name_all_files()
+    ensures { FirstRoundsNameAll }
 {}

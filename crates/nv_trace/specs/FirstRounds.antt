@@ -1,0 +1,20 @@
+-- The first rounds of an input: what is read of it before its end is known.
+use Rattle.std.specs.Prelude.{◌≡◌, ℕ, List, [], ◌∷◌, ◌++◌, codes}
+use Rattle.nv_trace.specs.Lines.{ended_lines}
+use Rattle.nv_trace.specs.Reading.{ending_of, Whole}
+use Rattle.nv_trace.specs.Traced.{Traced}
+use Rattle.nv_trace.specs.declared.trace.Form.{Form}
+
+-- These bytes are some first rounds of an input: its lines up to one of its `round` lines.
+pub record AreFirstRounds (input bytes : List ℕ) : Type 0 where
+  pub before : List ℕ
+  pub is : bytes ≡ before ++ 10 ∷ []
+  pub lines : List (List ℕ)
+  pub last : ended_lines bytes ≡ lines ++ codes "round" ∷ []
+  pub rest : List ℕ
+  pub first : input ≡ bytes ++ rest
+
+-- Some first rounds of an input that is a trace are a trace that names all its files.
+abbrev pub FirstRoundsNameAll : Type 0
+FirstRoundsNameAll =
+    (form : Form) (input bytes : List ℕ) (first whole : Traced) → AreFirstRounds input bytes → ending_of form bytes ≡ Whole first → ending_of form input ≡ Whole whole → whole.names ≡ first.names
