@@ -1,5 +1,5 @@
 -- What a command leaves of a region that was blank or good: it is so again, once power went off.
-use Rattle.std.proofs.Common.{◌≡◌, ◌⊎◌, ℕ, ◌≤◌, Bool, true, false, List, [], ◌∷◌, Option, Some, None, Ok, Err, length, map, inl, inr, refl, sym, ap, subst, ◌∙◌, ◌==◌, arith}
+use Rattle.std.proofs.Common.{◌≡◌, ◌⊎◌, ℕ, ◌≤◌, Bool, true, false, List, [], ◌∷◌, ◌++◌, Option, Some, None, Ok, Err, length, map, inl, inr, refl, sym, ap, subst, ◌∙◌, ◌==◌, arith}
 use Rattle.std.specs.Global.{Vec}
 use Rattle.std.specs.Prelude.{IfOk, IfSome, IsOk, is_ok, slice_index_or}
 use Rattle.std.proofs.lemmas.Bool.{eqb-true, true≢false}
@@ -43,15 +43,17 @@ use Rattle.nv_runner.specs.Faithful.{Basis}
 use Rattle.nv_runner.specs.Histories.{PlacedCall}
 use Rattle.nv_runner.specs.Lives.{RecoversBehind}
 use Rattle.nv_load.specs.Generated.{generated}
-use Rattle.nv_top.specs.Accepted.{IsAcceptedBehindPower, IsBlankOrGood, HasMadeRegion, MayHaveTrace, NextIsAccepted, WhatIsMadeIsGood}
+use Rattle.nv_top.specs.Accepted.{IsAcceptedBehindPower, IsBlankOrGood, HasMadeRegion, NextIsAccepted, WhatIsMadeIsGood}
 use Rattle.nv_top.specs.Commands.{IsBasis, IsLookedAt}
-use Rattle.nv_top.specs.Endings.{IsTrace, OfRead}
+use Rattle.nv_top.specs.Endings.{OfRead}
 use Rattle.nv_top.specs.Headline.{IsShown, IsShownOf, UsesTurns}
 use Rattle.nv_top.specs.Leaving.{Leaves}
-use Rattle.nv_top.specs.Lives.{LeavesRecovery, LeavesRun, LeavesTrace}
+use Rattle.nv_top.specs.Lives.{LeavesLife, LeavesRecovery, LeavesRun}
 use Rattle.nv_top.specs.Loads.{load_options}
 use Rattle.nv_top.specs.Ready.{IsReady}
 use Rattle.nv_top.specs.Reported.{HasReported}
+use Rattle.nv_top.specs.Reports.{history_lines}
+use Rattle.nv_top.specs.Rounds.{OfRounds}
 use Rattle.nv_top.specs.Said.{Outcome}
 use Rattle.nv_top.specs.Stopping.{RestsWith}
 use Rattle.nv_top.specs.declared.ending.Stop.TheVariants.{Turns}
@@ -61,6 +63,11 @@ use Rattle.nv_words.specs.declared.words.RunOptions.{RunOptions}
 use Rattle.nv_top.proofs.CommandLemmas.{told_at}
 use Rattle.nv_top.proofs.LifeLemmas.{all_whole, one_image}
 use Rattle.nv_top.proofs.PoweredHomes.{powered_lines}
+
+-- what is so of each trace that is read so
+of_read : (form : Form) (input : Option (List ℕ)) (P : Traced → Type 0) (Q : Type 0) → ((trace : Traced) → P trace → Q) → OfRead form input P → Q
+of_read form None P Q each read = each read.0 read.3
+of_read form (Some input) P Q each read = each read.0 read.2
 
 -- ---- what is read of parts
 
@@ -203,9 +210,9 @@ module _ (one_so : QuietPartHasOneImage) (power_so : PowerLeavesAnImage) (was : 
         same : {x y : Holding} → Some x ≡ Some y → x ≡ y
         same {x} {y} is = cc
 
-    run_left : (options : RunOptions) (trace : Traced) → LeavesRun options was trace told → Accepts here
-    run_left options trace run = elim (run.stands stands) [
-      | inl none ↦ elim none [
+    run_left : (options : RunOptions) (trace : Traced) (shown : List PlacedCall) → LeavesRun options was trace shown told → Accepts here
+    run_left options trace shown run = elim (run.stands stands) [
+      | inl none ↦ elim none.1 [
         | inl same ↦ same_told same
         | inr made ↦ told_so _ made.left (λ now is. opening_left made.geometry trace.names now is)
       ]
@@ -218,9 +225,12 @@ module _ (one_so : QuietPartHasOneImage) (power_so : PowerLeavesAnImage) (was : 
       | inl blank ↦ told_so (IsUntouched was) (leaves.untouched (λ good. true≢false (sym blank ∙ not_blank was.parts good))) (λ now is. same_left now (ap (λ (h : Holding). h.parts) is.now_is))
     ]
 
-    trace_left : (form : Form) (options : RunOptions) (input : Option (List ℕ)) → IfSome input (IsTrace form) → LeavesTrace form options input was told → Accepts here
-    trace_left form options None read leaves = elim leaves [ inl same ↦ same_told same | inr run ↦ run_left options run.0 run.3 ]
-    trace_left form options (Some input) read leaves = run_left options read.0 (leaves read.0 read.1)
+    trace_left : (options : RunOptions) (shown : List PlacedCall) (form : Form) (input : Option (List ℕ)) → OfRead form input (λ trace. LeavesRun options was trace shown told) → Accepts here
+    trace_left options shown form input run = of_read form input _ (Accepts here) (λ trace leaves. run_left options trace shown leaves) run
+
+    rounds_left : (options : RunOptions) (shown : List PlacedCall) (input : Option (List ℕ)) → OfRounds input (λ trace. LeavesRun options was trace shown told) → Accepts here
+    rounds_left options shown None run = trace_left options shown forms.Run None run
+    rounds_left options shown (Some input) run = trace_left options shown forms.Run (Some run.0) run.2
 
 some_parts : (one other : Holding) → Some one ≡ Some other → one.parts ≡ other.parts
 some_parts one other is = ap (λ (h : Holding). h.parts) (same is)
@@ -233,21 +243,30 @@ looked false old new was here is told_was told_here = some_parts here was (sym t
 looked true old new was here is told_was told_here = some_parts here _ (sym told_here ∙ is.1.1 ∙ ap (told_by (names_until is.1.0)) told_was)
 
 -- by the command
-module _ (one_so : QuietPartHasOneImage) (power_so : PowerLeavesAnImage) (given left : Option (List ℕ)) (before now : ℕ) (old new : BenchState) (result : Outcome) (was here : Holding)
+module _ (one_so : QuietPartHasOneImage) (power_so : PowerLeavesAnImage) (given left : Option (List ℕ)) (before now : ℕ) (old new : BenchState) (shown : List PlacedCall) (result : Outcome) (was here : Holding)
     (ready : IsReady old) (told_was : old.told ≡ Some was) (told_here : new.told ≡ Some here) (whole : AreWholeStores here) (sound : IsBlankOrGood was.parts) where
   still_was : IsQuietHolding was
   still_was = told_at old.told IsQuietHolding was told_was ready.at_home.quiet
 
-  by_command : (command : Command) → HasReported (Some command) given left before now old new result → MayHaveTrace command given → IsAcceptedBehindPower (is_blank was.parts ≡ true) here
-  by_command (Run options) came read = trace_left one_so power_so was sound still_was here new.told told_here forms.Run options given read (told_at old.told _ was told_was (came.life (Run options) refl)) whole
-  by_command (Sched options) came read = trace_left one_so power_so was sound still_was here new.told told_here forms.Sched options given read (told_at old.told _ was told_was (came.life (Sched options) refl)) whole
-  by_command Recover came read = recovered_left one_so power_so was sound still_was here new.told told_here (told_at old.told _ was told_was (came.life Recover refl)) whole
-  by_command (Look files) came read = same_left one_so power_so was sound still_was here (looked files old new was here (came.back (Look files) refl) told_was told_here) whole
-  by_command (Gen load) came read = run_left one_so power_so was sound still_was here new.told told_here load_options (generated load) (told_at old.told _ was told_was (came.life (Gen load) refl)) whole
+  by_command : (command : Command) → HasReported (Some command) given left before now old new shown result → IsAcceptedBehindPower (is_blank was.parts ≡ true) here
+  by_command (Run options) came = elim (told_at old.told (λ was. LeavesLife (Run options) given was shown new.told) was told_was (came.life (Run options) refl)) [
+    | inl same ↦ same_told one_so power_so was sound still_was here new.told told_here same.1 whole
+    | inr run ↦ elim run [
+      | inl all ↦ trace_left one_so power_so was sound still_was here new.told told_here options shown forms.Run given all whole
+      | inr rounds ↦ rounds_left one_so power_so was sound still_was here new.told told_here options shown given rounds whole
+    ]
+  ]
+  by_command (Sched options) came = elim (told_at old.told (λ was. LeavesLife (Sched options) given was shown new.told) was told_was (came.life (Sched options) refl)) [
+    | inl same ↦ same_told one_so power_so was sound still_was here new.told told_here same whole
+    | inr run ↦ trace_left one_so power_so was sound still_was here new.told told_here options [] forms.Sched given run whole
+  ]
+  by_command Recover came = recovered_left one_so power_so was sound still_was here new.told told_here (told_at old.told _ was told_was (came.life Recover refl)) whole
+  by_command (Look files) came = same_left one_so power_so was sound still_was here (looked files old new was here (came.back (Look files) refl) told_was told_here) whole
+  by_command (Gen load) came = run_left one_so power_so was sound still_was here new.told told_here load_options (generated load) [] (told_at old.told _ was told_was (came.life (Gen load) refl)) whole
 
 pub next_is_accepted : QuietPartHasOneImage → PowerLeavesAnImage → NextIsAccepted
-next_is_accepted one_so power_so command given left before now old new result was here came ready told_was told_here whole read sound =
-    by_command one_so power_so given left before now old new result was here ready told_was told_here whole sound command came read
+next_is_accepted one_so power_so command given left before now old new shown result was here came ready told_was told_here whole sound =
+    by_command one_so power_so given left before now old new shown result was here ready told_was told_here whole sound command came
 
 -- ---- what is made is good
 
@@ -282,29 +301,25 @@ module _ (here : Holding) (told : Option Holding) (told_is : told ≡ Some here)
   rests_good : {page entries next many : ℕ} {names : List (List ℕ)} {files : Files} {others : List NamedStore} → RestsWith page entries names next files many others told → IsGood here.parts
   rests_good {page} {entries} {next} {many} {names} {files} {others} rests = same_parts rests.now here told rests.told_is told_is (rest_good page entries next names rests.now.parts rests.rests.rest rests.long)
 
-of_read : (form : Form) (input : Option (List ℕ)) (P : Traced → Type 0) (Q : Type 0) → ((trace : Traced) → P trace → Q) → OfRead form input P → Q
-of_read form None P Q each read = each read.0 read.3
-of_read form (Some input) P Q each read = each read.0 read.2
-
-module _ (given left : Option (List ℕ)) (before now : ℕ) (old new : BenchState) (result : Outcome) (was here : Holding) (told_was : old.told ≡ Some was) (told_here : new.told ≡ Some here) where
+module _ (given left : Option (List ℕ)) (before now : ℕ) (old new : BenchState) (shown : List PlacedCall) (result : Outcome) (was here : Holding) (told_was : old.told ≡ Some was) (told_here : new.told ≡ Some here) where
   abbrev Came : Command → Type 0
-  Came command = HasReported (Some command) given left before now old new result
+  Came command = HasReported (Some command) given left before now old new shown result
 
   shown_run : (options : RunOptions) (stop : Option ℕ) (trace : Traced) (text : List ℕ) → IsShownOf stop options old new was trace text → IsGood here.parts
   shown_run options None trace text shown = leaves_good here new.told told_here shown.left
   shown_run options (Some k) trace text shown = rests_good here new.told told_here shown.stopped.left.lost.rests
 
   shown_good : (command : Command) (text : List ℕ) → HasMadeRegion command result → IsShown command given old new was text → IsGood here.parts
-  shown_good (Run options) text made shown = of_read forms.Run given _ (IsGood here.parts) (λ trace run. shown_run options options.stop trace text run) shown
-  shown_good (Sched options) text made shown = of_read forms.Sched given _ (IsGood here.parts) (λ trace run. rests_good here new.told told_here run.scheduled.left.lost.rests) shown
-  shown_good Recover text made shown = leaves_good here new.told told_here shown.left
-  shown_good (Look files) text made shown = absurd made
-  shown_good (Gen load) text made shown = leaves_good here new.told told_here shown.ran.left
+  shown_good (Run options) text made shows = of_read forms.Run given _ (IsGood here.parts) (λ trace run. shown_run options options.stop trace text run) shows
+  shown_good (Sched options) text made shows = of_read forms.Sched given _ (IsGood here.parts) (λ trace run. rests_good here new.told told_here run.scheduled.left.lost.rests) shows
+  shown_good Recover text made shows = leaves_good here new.told told_here shows.left
+  shown_good (Look files) text made shows = absurd made
+  shown_good (Gen load) text made shows = leaves_good here new.told told_here shows.ran.left
 
   shown_ok : (command : Command) → Came command → HasMadeRegion command result → (text : Vec ℕ) → result ≡ Ok text → IsGood here.parts
   shown_ok command came made text is =
-      let Shows : Outcome → Type 0 = λ outcome. IfOk outcome (λ text. (command_too : Command) → Some command ≡ Some command_too → IfSome old.told (λ holding. IsShown command_too given old new holding text.items)) in
-      shown_good command text.items made (told_at old.told (λ holding. IsShown command given old new holding text.items) was told_was (subst Shows is came.report command refl))
+      let Shows : Outcome → Type 0 = λ outcome. IfOk outcome (λ text. (command_too : Command) → Some command ≡ Some command_too → IfSome old.told (λ holding. IsShown command_too given old new holding (history_lines 0 shown ++ text.items))) in
+      shown_good command (history_lines 0 shown ++ text.items) made (told_at old.told (λ holding. IsShown command given old new holding (history_lines 0 shown ++ text.items)) was told_was (subst Shows is came.report command refl))
 
   turns_good : (command : Command) → Came command → result ≡ Err Turns → IsGood here.parts
   turns_good command came is =
@@ -328,4 +343,4 @@ module _ (given left : Option (List ℕ)) (before now : ℕ) (old new : BenchSta
   made_good (Gen load) came made = ok_or_turns (Gen load) came made made
 
 pub what_is_made_is_good : WhatIsMadeIsGood
-what_is_made_is_good command given left before now old new result was here came told_was told_here made = made_good given left before now old new result was here told_was told_here command came made
+what_is_made_is_good command given left before now old new shown result was here came told_was told_here made = made_good given left before now old new shown result was here told_was told_here command came made

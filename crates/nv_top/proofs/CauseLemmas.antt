@@ -9,13 +9,14 @@ use Rattle.nv_runner.specs.declared.run_error.RunError.{RunError}
 use Rattle.nv_runner.specs.declared.run_error.RunError.TheVariants.{Fault, NoMemory as RunNoMemory}
 use Rattle.nv_top.specs.Stops.{CountHasCause, MayEndRun, RunHasCause, StopHasCause, stop_of_run}
 use Rattle.nv_top.specs.declared.ending.Stop.{Stop}
-use Rattle.nv_top.specs.declared.ending.Stop.TheVariants.{Usage, BadLine, InputLong, Read, Device, Region, NoMemory, Turns}
+use Rattle.nv_top.specs.declared.ending.Stop.TheVariants.{Usage, BadLine, InputLong, Read, Write, Device, Region, NoMemory, Turns}
 
 stop_with : (before now first last : ℕ) (stop : Stop) → (now ≡ before → last ≡ first) → (Rose before now → Rose first last) → StopHasCause before now stop → StopHasCause first last stop
 stop_with before now first last Usage same rose cause = cause
 stop_with before now first last (BadLine bad) same rose cause = cause
 stop_with before now first last InputLong same rose cause = cause
 stop_with before now first last Read same rose cause = cause
+stop_with before now first last Write same rose cause = cause
 stop_with before now first last Device same rose cause = rose cause
 stop_with before now first last (Region refusal) same rose cause = same cause
 stop_with before now first last NoMemory same rose cause = same cause
@@ -53,6 +54,7 @@ may_end first parts mid last Usage grew never cause = cause
 may_end first parts mid last (BadLine bad) grew never cause = cause
 may_end first parts mid last InputLong grew never cause = cause
 may_end first parts mid last Read grew never cause = cause
+may_end first parts mid last Write grew never cause = cause
 may_end first parts mid last Device grew never cause = record { never_falls = omega (arith, grew, cause.never_falls); more = omega (arith, grew, cause.never_falls, cause.more) }
 may_end first parts mid last (Region refusal) grew never cause = never refusal refl
 may_end first parts mid last NoMemory grew never cause = omega (arith, grew, cause)
@@ -64,6 +66,7 @@ stop_ends before now Usage never cause = cause
 stop_ends before now (BadLine bad) never cause = cause
 stop_ends before now InputLong never cause = cause
 stop_ends before now Read never cause = cause
+stop_ends before now Write never cause = cause
 stop_ends before now Device never cause = cause
 stop_ends before now (Region refusal) never cause = never refusal refl
 stop_ends before now NoMemory never cause = omega (arith, cause)

@@ -1,29 +1,46 @@
 -- Commands that nothing stands in the way of: they are followed to their end.
-use Rattle.std.proofs.Common.{◌≡◌, ℕ, Bool, true, false, List, Option, Some, None, Result, Ok, Err, inl, inr, refl, ap}
+use Rattle.std.proofs.Common.{◌≡◌, ℕ, Bool, true, false, List, Option, Some, None, Result, Ok, Err, inl, inr, refl, sym, ap, subst, ◌∙◌}
 use Rattle.std.specs.Prelude.{IfErr, IfSome, OnOk}
 use Rattle.nv_plain.specs.Faults.{Rose}
 use Rattle.nv_bench.specs.Benches.{BenchState}
 use Rattle.nv_bench.specs.Holding.{Holding}
 use Rattle.nv_open.specs.declared.error.Refusal.{Refusal}
-use Rattle.nv_top.specs.Commands.{IsLookedAt}
-use Rattle.nv_top.specs.Headline.{HasRefusal, IsCommandRefused, IsUnhindered}
+use Rattle.nv_trace.specs.Reading.{Whole, ending_of}
+use Rattle.nv_trace.specs.declared.trace.Form.TheVariants as forms
+use Rattle.nv_trace.proofs.FirstRounds.{first_rounds_name_all}
+use Rattle.nv_top.specs.Commands.{IsLookedAt, IsNotRun}
+use Rattle.nv_top.specs.Headline.{HasInput, HasRefusal, IsCommandRefused, IsUnhindered}
 use Rattle.nv_top.specs.Stops.{IsOwnStop}
 use Rattle.nv_top.specs.Stopping.{IsSettledStop}
 use Rattle.nv_top.specs.declared.ending.Stop.{Stop}
-use Rattle.nv_top.specs.declared.ending.Stop.TheVariants.{Usage, BadLine as BadLineStop, InputLong, Read, Device, Region, NoMemory, Turns}
+use Rattle.nv_top.specs.declared.ending.Stop.TheVariants.{Usage, BadLine as BadLineStop, InputLong, Read, Write, Device, Region, NoMemory, Turns}
 use Rattle.nv_words.specs.declared.words.Command.{Command}
+use Rattle.nv_words.specs.declared.words.RunOptions.{RunOptions}
 use Rattle.nv_words.specs.declared.words.Command.TheVariants.{Run, Sched, Recover, Look, Gen}
 use Rattle.nv_top.proofs.CommandLemmas.{if_told, told_at}
 
+same_input : (one other : List ℕ) → Some one ≡ Some other → one ≡ other
+same_input one other is = cc
+
+-- a run that some first rounds of its input were refused for is one that the whole input is
+run_refusal : (options : RunOptions) (input : List ℕ) (old new : BenchState) (holding : Holding) (why : Refusal) → HasInput (Run options) (Some input) → IsCommandRefused (Run options) (Some input) old new holding why → HasRefusal (Run options) (Some input) holding why
+run_refusal options input old new holding why has (inl whole) = (whole.0, whole.1, whole.2.not_run)
+run_refusal options input old new holding why has (inr rounds) =
+    let trace = has.2.0 in
+    let ends : ending_of forms.Run input ≡ Whole trace = ap (ending_of forms.Run) (same_input input has.0 has.1) ∙ has.2.1 in
+    let first = rounds.2 in
+    let names = first_rounds_name_all forms.Run input rounds.0 first.0 trace rounds.1 first.1 ends in
+    (trace, ends, subst (λ names. IsNotRun options holding names why) (sym names) first.2.not_run)
+
 -- what a refusal of a command is
-refusal_of : (command : Command) (left : Option (List ℕ)) (old new : BenchState) (holding : Holding) (why : Refusal) → IsCommandRefused command left old new holding why → HasRefusal command left holding why
-refusal_of (Run options) None old new holding why is = tt
-refusal_of (Run options) (Some input) old new holding why is = (is.0, is.1, is.2.not_run)
-refusal_of (Sched options) None old new holding why is = tt
-refusal_of (Sched options) (Some input) old new holding why (is, unpowered) = (is.0, is.1, is.2.not_run)
-refusal_of Recover left old new holding why is = is.0
-refusal_of (Look files) left old new holding why is = is
-refusal_of (Gen load) left old new holding why is = is.not_run
+refusal_of : (command : Command) (left : Option (List ℕ)) (old new : BenchState) (holding : Holding) (why : Refusal) → HasInput command left → IsCommandRefused command left old new holding why → HasRefusal command left holding why
+refusal_of (Run options) None old new holding why has is = tt
+refusal_of (Run options) (Some input) old new holding why has is = run_refusal options input old new holding why has is
+refusal_of (Sched options) None old new holding why has is = tt
+refusal_of (Sched options) (Some input) old new holding why has (is, unpowered) = (is.0, is.1, is.2.not_run)
+refusal_of Recover left old new holding why has is = is.0
+refusal_of (Look files) left old new holding why has is = is
+refusal_of (Gen load) left old new holding why has is = is.not_run
 
 -- a run, or a schedule
 pub settled_done : {T : Type 0} (command : Command) (left : Option (List ℕ)) (old new : BenchState) (read_failed : Type 0) (settled now : ℕ) (result : Result T Stop) → IsSettledStop settled now result
@@ -39,11 +56,12 @@ settled_done {T} command left old new read_failed settled now result cause regio
     by (Err (BadLineStop bad)) cause region holding told free = absurd cause
     by (Err InputLong) cause region holding told free = absurd cause
     by (Err Read) cause region holding told free = absurd cause
+    by (Err Write) cause region holding told free = absurd cause
     by (Err Device) cause region holding told free = absurd (free.devices cause)
     by (Err (Region why)) cause region holding told free =
-        absurd (free.not_refused why (refusal_of command left old new holding why (told_at old.told (λ holding. IsCommandRefused command left old new holding why) holding told (region why refl))))
+        absurd (free.not_refused why (refusal_of command left old new holding why free.has_input (told_at old.told (λ holding. IsCommandRefused command left old new holding why) holding told (region why refl))))
     by (Err NoMemory) cause region holding told free = inl refl
-    by (Err Turns) cause region holding told free = inr refl
+    by (Err Turns) cause region holding told free = inr (inl refl)
 
 -- ---- counts
 

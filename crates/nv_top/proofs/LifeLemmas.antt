@@ -1,5 +1,5 @@
 -- Lives: what a bench tells to which the devices of a run come back, and what power and a recovery make of that.
-use Rattle.std.proofs.Common.{◌≡◌, ◌≢◌, ℕ, ◌<◌, Bool, true, false, cond, All, List, [], ◌∷◌, ◌++◌, length, map, slice_index_or, inl, inr, refl, sym, ap, subst, ◌∙◌, arith, Option, Some, None}
+use Rattle.std.proofs.Common.{◌≡◌, ◌≢◌, ℕ, ◌<◌, Bool, true, false, cond, All, List, [], ◌∷◌, ◌++◌, length, map, slice_index_or, inl, inr, refl, sym, ap, subst, ◌∙◌, arith, Option, Some}
 use Rattle.std.specs.Prelude.{Contains, IfSome, option_map}
 use Rattle.std.proofs.lemmas.List.Elements.{All-nil, All-cons, All-head, All-tail}
 use Rattle.nv_plain.specs.Files.{Files}
@@ -37,7 +37,6 @@ use Rattle.nv_open.proofs.Openings.{store_of_others}
 use Rattle.nv_open.proofs.Returns.{named_quiet}
 use Rattle.nv_open.proofs.Stands.{durable_images, names_read, own_images}
 use Rattle.nv_trace.specs.Reading.{ending_of, Whole}
-use Rattle.nv_trace.specs.declared.trace.Form.{Form}
 use Rattle.nv_trace.specs.declared.trace.Form.TheVariants as forms
 use Rattle.nv_trace.specs.Traced.{Traced}
 use Rattle.nv_words.specs.declared.words.Command.{Command}
@@ -51,10 +50,11 @@ use Rattle.nv_runner.specs.Histories.{PlacedCall}
 use Rattle.nv_runner.specs.Lives.{LeaveLife, RecoversBehind}
 use Rattle.nv_load.specs.Generated.{generated}
 use Rattle.nv_top.specs.Loads.{load_options}
-use Rattle.nv_top.specs.Lives.{AreLeftSo, HasLived, LeavesLife, LeavesRun, LeavesTrace}
+use Rattle.nv_top.specs.Lives.{AreLeftSo, HasLived, LeavesLife, LeavesRun}
 use Rattle.nv_top.specs.Ready.{IsRunnable}
 use Rattle.nv_words.specs.declared.words.RunOptions.{RunOptions}
 use Rattle.nv_top.proofs.CommandLemmas.{if_told, told_at}
+use Rattle.nv_top.proofs.HeadlineLemmas.{of_read}
 use Rattle.nv_top.proofs.HomeLemmas.{any_images}
 use Rattle.nv_top.proofs.PoweredHomes.{found_powered, powered_lines}
 use Rattle.nv_top.proofs.RowLemmas.{all_tell, present}
@@ -106,7 +106,7 @@ module _ (basis : Basis) (trace : Traced) where
       (parts : List X) (backing : List Y) (counts : List ℕ) (told : Option Holding) (home : List NamedStore) (whole : (holding : Holding) → told ≡ Some holding → AreWholeStores holding) → AreLeftSo history held basis trace counts parts backing
       → ((disks : List Store) → AreNow (map held backing) disks → stores_named basis.names (home ++ named_stores basis.names disks) ≡ disks)
       → ((now : List Part) (disks : List Store) → AreNow (map history parts) now → AreNow (map held backing) disks → told ≡ Some (record { parts = now; stores = home ++ named_stores basis.names disks }))
-      → HasLived basis trace counts home told
+      → HasLived basis trace [] counts home told
   lived_home history held parts backing counts told home whole left same gives =
       let now = present (map history parts) left.parts_tell in
       let disks = present (map held backing) left.stores_tell in
@@ -115,6 +115,7 @@ module _ (basis : Basis) (trace : Traced) where
       let here = same disks.states disks.are in
       record {
         history = left.life.history;
+        begins = (left.life.history, refl);
         is = left.life.is;
         images = record {
           now = record { parts = now.states; stores = all };
@@ -132,14 +133,15 @@ module _ (basis : Basis) (trace : Traced) where
 
   -- ---- power
 
-  pub lived_powered : QuietPartHasOneImage → PowerLeavesAnImage → (pick : Pick) (counts : List ℕ) (stores : List NamedStore) → All (λ (named : NamedStore). IsQuietStore named.store) stores → (home off : Option Holding) → ((holding : Holding) → home ≡ Some holding → AreWholeStores holding) → off ≡ option_map (powered pick) home
-      → HasLived basis trace counts stores home → HasLived basis trace counts stores off
-  lived_powered one power pick counts stores still home off whole powers lived =
+  pub lived_powered : {shown : List PlacedCall} → QuietPartHasOneImage → PowerLeavesAnImage → (pick : Pick) (counts : List ℕ) (stores : List NamedStore) → All (λ (named : NamedStore). IsQuietStore named.store) stores → (home off : Option Holding) → ((holding : Holding) → home ≡ Some holding → AreWholeStores holding) → off ≡ option_map (powered pick) home
+      → HasLived basis trace shown counts stores home → HasLived basis trace shown counts stores off
+  lived_powered {shown} one power pick counts stores still home off whole powers lived =
       let before = lived.images.now in
       let after = powered pick before in
       let both = power pick before (whole before lived.images.told_is) in
       record {
         history = lived.history;
+        begins = lived.begins;
         is = lived.is;
         images = record {
           now = after;
@@ -163,9 +165,9 @@ module _ (basis : Basis) (trace : Traced) where
 
   -- ---- a recovery
 
-  pub lived_recovered : QuietPartHasOneImage → (was : Option Holding) (told : Option Holding) → IfSome was IsQuietHolding → (counts : List ℕ) (stores : List NamedStore) (lived : HasLived basis trace counts stores was) → (HasHeader lived.images.now.parts → TellsOf (StandsAsBefore lived.images.now) told)
-      → HasLived basis trace counts stores told
-  lived_recovered one was told quiet counts stores lived stands =
+  pub lived_recovered : {shown : List PlacedCall} → QuietPartHasOneImage → (was : Option Holding) (told : Option Holding) → IfSome was IsQuietHolding → (counts : List ℕ) (stores : List NamedStore) (lived : HasLived basis trace shown counts stores was) → (HasHeader lived.images.now.parts → TellsOf (StandsAsBefore lived.images.now) told)
+      → HasLived basis trace shown counts stores told
+  lived_recovered {shown} one was told quiet counts stores lived stands =
       let before = lived.images.now in
       let still : IsQuietHolding before = subst (λ (one : Option Holding). IfSome one IsQuietHolding) lived.images.told_is quiet in
       let first = row_words before.parts in
@@ -178,6 +180,7 @@ module _ (basis : Basis) (trace : Traced) where
       let after = stands here.readable in
       record {
         history = lived.history;
+        begins = lived.begins;
         is = lived.is;
         images = record {
           now = after.now;
@@ -208,9 +211,10 @@ module _ (basis : Basis) (trace : Traced) where
 
   -- ---- by what the bench held before the stores were lent
 
-  pub lived_on : (counts made : List ℕ) (stores : List NamedStore) (told : Option Holding) → counts ≡ made → HasLived basis trace counts (without_stores basis.names stores) told → HasLived basis trace made stores told
-  lived_on counts made stores told same lived = record {
+  pub lived_on : {shown : List PlacedCall} → (counts made : List ℕ) (stores : List NamedStore) (told : Option Holding) → counts ≡ made → HasLived basis trace shown counts (without_stores basis.names stores) told → HasLived basis trace shown made stores told
+  lived_on {shown} counts made stores told same lived = record {
     history = lived.history;
+    begins = lived.begins;
     is = lived.is;
     images = record {
       now = lived.images.now;
@@ -330,51 +334,30 @@ lines_home parts begun ended was spare same alike keeps =
     (subst (λ (values : List Value). RowTells parts (λ now. line_counts now ≡ mounted_lines (mount_of ended) values)) alike keeps)
 
 -- a run of a bench of which nothing was lent
-pub still_run : (old new : BenchState) (options : RunOptions) (trace : Traced) → QuietPartHasOneImage → new ≡ with_faults new.faults old → IfSome old.told IsQuietHolding → IfSome old.told (λ was. LeavesRun options was trace new.told)
+pub still_run : (old new : BenchState) (options : RunOptions) (trace : Traced) → QuietPartHasOneImage → new ≡ with_faults new.faults old → IfSome old.told IsQuietHolding → IfSome old.told (λ was. LeavesRun options was trace [] new.told)
 still_run old new options trace one is quiet =
-    if_told old.told (λ was. LeavesRun options was trace new.told) (λ was told. record {
-      stands = λ stand. inl (inl (ap (λ (bench : BenchState). bench.told) is ∙ told));
-      untouched = λ kept bad. still_untouched old new was is told;
+    if_told old.told (λ was. LeavesRun options was trace [] new.told) (λ was told. record {
+      stands = λ stand. inl (refl, inl (ap (λ (bench : BenchState). bench.told) is ∙ told));
+      untouched = λ kept bad. (refl, still_untouched old new was is told);
     })
 
 -- ---- by the input
 
-same_trace : (one other : Traced) → Whole one ≡ Whole other → one ≡ other
-same_trace one other is = cc
+-- a run, or a schedule, of the trace that the whole input is
+pub life_from : (options : RunOptions) (left : Option (List ℕ)) (old told : Option Holding) (trace : Traced) → trace.form ≡ forms.Run → IsRunnable trace → IfSome left (λ input. ending_of forms.Run input ≡ Whole trace) → IfSome old (λ was. LeavesRun options was trace [] told)
+    → IfSome old (λ was. LeavesLife (Run options) left was [] told)
+life_from options left old told trace is_form runnable whole leaves =
+    if_told old (λ was. LeavesLife (Run options) left was [] told) (λ was is. inr (inl (of_read forms.Run left trace (λ trace. LeavesRun options was trace [] told) is_form runnable whole (told_at old (λ was. LeavesRun options was trace [] told) was is leaves))))
 
-trace_from : (form : Form) (options : RunOptions) (left : Option (List ℕ)) (old told : Option Holding) (trace : Traced) → trace.form ≡ form → IsRunnable trace → IfSome left (λ input. ending_of form input ≡ Whole trace) → IfSome old (λ was. LeavesRun options was trace told)
-    → IfSome old (λ was. LeavesTrace form options left was told)
-trace_from form options None old told trace is_form runnable whole leaves =
-    if_told old (λ was. LeavesTrace form options None was told) (λ was is. inr (trace, is_form, runnable, told_at old (λ was. LeavesRun options was trace told) was is leaves))
-trace_from form options (Some input) old told trace is_form runnable whole leaves =
-    if_told old (λ was. LeavesTrace form options (Some input) was told) (λ was is other ends.
-    subst (λ trace. LeavesRun options was trace told) (same_trace trace other (sym whole ∙ ends)) (told_at old (λ was. LeavesRun options was trace told) was is leaves))
+pub schedule_from : (options : RunOptions) (left : Option (List ℕ)) (old told : Option Holding) (trace : Traced) → trace.form ≡ forms.Sched → IsRunnable trace → IfSome left (λ input. ending_of forms.Sched input ≡ Whole trace) → IfSome old (λ was. LeavesRun options was trace [] told)
+    → IfSome old (λ was. LeavesLife (Sched options) left was [] told)
+schedule_from options left old told trace is_form runnable whole leaves =
+    if_told old (λ was. LeavesLife (Sched options) left was [] told) (λ was is. inr (of_read forms.Sched left trace (λ trace. LeavesRun options was trace [] told) is_form runnable whole (told_at old (λ was. LeavesRun options was trace [] told) was is leaves)))
 
-pub life_from : (options : RunOptions) (left : Option (List ℕ)) (old told : Option Holding) (trace : Traced) → trace.form ≡ forms.Run → IsRunnable trace → IfSome left (λ input. ending_of forms.Run input ≡ Whole trace) → IfSome old (λ was. LeavesRun options was trace told)
-    → IfSome old (λ was. LeavesLife (Run options) left was told)
-life_from options left old told trace is_form runnable whole leaves = trace_from forms.Run options left old told trace is_form runnable whole leaves
-
-pub schedule_from : (options : RunOptions) (left : Option (List ℕ)) (old told : Option Holding) (trace : Traced) → trace.form ≡ forms.Sched → IsRunnable trace → IfSome left (λ input. ending_of forms.Sched input ≡ Whole trace) → IfSome old (λ was. LeavesRun options was trace told)
-    → IfSome old (λ was. LeavesLife (Sched options) left was told)
-schedule_from options left old told trace is_form runnable whole leaves = trace_from forms.Sched options left old told trace is_form runnable whole leaves
-
-trace_unopened : (form : Form) (options : RunOptions) (left : Option (List ℕ)) (old new : BenchState) → QuietPartHasOneImage → new ≡ with_faults new.faults old → IfSome old.told IsQuietHolding
-    → IfSome old.told (λ was. LeavesTrace form options left was new.told)
-trace_unopened form options None old new one is quiet = if_told old.told (λ was. LeavesTrace form options None was new.told) (λ was told. inl (ap (λ (bench : BenchState). bench.told) is ∙ told))
-trace_unopened form options (Some input) old new one is quiet =
-    if_told old.told (λ was. LeavesTrace form options (Some input) was new.told) (λ was told trace ends.
-    told_at old.told (λ was. LeavesRun options was trace new.told) was told (still_run old new options trace one is quiet))
-
-pub life_unopened : (options : RunOptions) (left : Option (List ℕ)) (old new : BenchState) → QuietPartHasOneImage → new ≡ with_faults new.faults old → IfSome old.told IsQuietHolding → IfSome old.told (λ was. LeavesLife (Run options) left was new.told)
-life_unopened options left old new one is quiet = trace_unopened forms.Run options left old new one is quiet
-
-pub schedule_unopened : (options : RunOptions) (left : Option (List ℕ)) (old new : BenchState) → QuietPartHasOneImage → new ≡ with_faults new.faults old → IfSome old.told IsQuietHolding
-    → IfSome old.told (λ was. LeavesLife (Sched options) left was new.told)
-schedule_unopened options left old new one is quiet = trace_unopened forms.Sched options left old new one is quiet
-
-pub life_unread : (command : Command) (left : Option (List ℕ)) (old new : BenchState) → QuietPartHasOneImage → new ≡ with_faults new.faults old → IfSome old.told IsQuietHolding → IfSome old.told (λ was. LeavesLife command left was new.told)
-life_unread (Run options) left old new one is quiet = life_unopened options left old new one is quiet
-life_unread (Sched options) left old new one is quiet = schedule_unopened options left old new one is quiet
-life_unread Recover left old new one is quiet = if_told old.told (λ was. LeavesLife Recover left was new.told) (λ was told. record { stands = λ readable. still_stands old new was is told quiet readable; untouched = λ bad. still_untouched old new was is told })
-life_unread (Look files) left old new one is quiet = if_told old.told (λ was. LeavesLife (Look files) left was new.told) (λ was told. tt)
+-- a command whose bench wasn't opened
+pub life_unread : (command : Command) (left : Option (List ℕ)) (old new : BenchState) → QuietPartHasOneImage → new ≡ with_faults new.faults old → IfSome old.told IsQuietHolding → IfSome old.told (λ was. LeavesLife command left was [] new.told)
+life_unread (Run options) left old new one is quiet = if_told old.told (λ was. LeavesLife (Run options) left was [] new.told) (λ was told. inl (refl, ap (λ (bench : BenchState). bench.told) is ∙ told))
+life_unread (Sched options) left old new one is quiet = if_told old.told (λ was. LeavesLife (Sched options) left was [] new.told) (λ was told. inl (ap (λ (bench : BenchState). bench.told) is ∙ told))
+life_unread Recover left old new one is quiet = if_told old.told (λ was. LeavesLife Recover left was [] new.told) (λ was told. record { stands = λ readable. still_stands old new was is told quiet readable; untouched = λ bad. still_untouched old new was is told })
+life_unread (Look files) left old new one is quiet = if_told old.told (λ was. LeavesLife (Look files) left was [] new.told) (λ was told. tt)
 life_unread (Gen load) left old new one is quiet = still_run old new load_options (generated load) one is quiet

@@ -22,6 +22,7 @@ use Rattle.nv_open.specs.declared.error.OpenError.{OpenError}
 use Rattle.nv_open.specs.declared.error.OpenError.TheVariants as open_errors
 use Rattle.nv_open.specs.declared.error.Refusal.{Refusal}
 use Rattle.nv_open.specs.declared.error.Refusal.TheVariants as refusals
+use Rattle.nv_runner.specs.Histories.{PlacedCall}
 use Rattle.nv_trace.specs.Reading.{Bad, Long, Whole, ending_of}
 use Rattle.nv_trace.specs.Refused.{IsRefusedAs}
 use Rattle.nv_trace.specs.Traced.{Traced}
@@ -38,7 +39,7 @@ use Rattle.nv_top.specs.Reported.{HasReported, HasRunTrace}
 use Rattle.nv_top.specs.Stopping.{IsAllBack, IsBackUnarmed, IsPoweredBack, IsSettledStop}
 use Rattle.nv_top.specs.Stops.{CountHasCause, IsCauseOf, IsFollowed, IsOwnStop, StopHasCause, stop_of_opening, stop_of_read, stop_of_words}
 use Rattle.nv_top.specs.declared.ending.Stop.{Stop}
-use Rattle.nv_top.specs.declared.ending.Stop.TheVariants.{Usage, BadLine, InputLong, Read, Device, Region, NoMemory, Turns}
+use Rattle.nv_top.specs.declared.ending.Stop.TheVariants.{Usage, BadLine, InputLong, Read, Write, Device, Region, NoMemory, Turns}
 use Rattle.nv_top.specs.declared.show.Show.TheVariants.{Report}
 use Rattle.nv_words.specs.declared.words.Command.{Command}
 use Rattle.nv_words.specs.declared.words.Command.TheVariants.{Run, Sched, Recover, Look, Gen}
@@ -77,6 +78,7 @@ settled_sound settled now (Err Usage) cause other = absurd cause
 settled_sound settled now (Err (BadLine bad)) cause other = absurd cause
 settled_sound settled now (Err InputLong) cause other = absurd cause
 settled_sound settled now (Err Read) cause other = absurd cause
+settled_sound settled now (Err Write) cause other = absurd cause
 settled_sound settled now (Err Device) cause other = absurd (other refl)
 settled_sound settled now (Err (Region refusal)) cause other = cause
 settled_sound settled now (Err NoMemory) cause other = cause
@@ -89,6 +91,7 @@ settled_cause form given settled now (Err Usage) cause = absurd cause
 settled_cause form given settled now (Err (BadLine bad)) cause = absurd cause
 settled_cause form given settled now (Err InputLong) cause = absurd cause
 settled_cause form given settled now (Err Read) cause = absurd cause
+settled_cause form given settled now (Err Write) cause = absurd cause
 settled_cause form given settled now (Err Device) cause = if_some given (IsCauseOf form Device) (λ input is. tt)
 settled_cause form given settled now (Err (Region refusal)) cause = if_some given (IsCauseOf form (Region refusal)) (λ input is. tt)
 settled_cause form given settled now (Err NoMemory) cause = if_some given (IsCauseOf form NoMemory) (λ input is. tt)
@@ -101,6 +104,7 @@ counted_settled before now settled (Err Usage) low cause = absurd cause
 counted_settled before now settled (Err (BadLine bad)) low cause = absurd cause
 counted_settled before now settled (Err InputLong) low cause = absurd cause
 counted_settled before now settled (Err Read) low cause = absurd cause
+counted_settled before now settled (Err Write) low cause = absurd cause
 counted_settled before now settled (Err Device) low cause = record { never_falls = omega (arith, low, cause.never_falls); more = omega (arith, low, cause.more) }
 counted_settled before now settled (Err (Region refusal)) low cause = omega (arith, low, cause)
 counted_settled before now settled (Err NoMemory) low cause = omega (arith, low, cause)
@@ -166,6 +170,13 @@ unmoved (Gen load) bench home = refl
 
 -- ---- a command whose bench was opened, or may be
 
+-- no call was shown
+abbrev no_calls : List PlacedCall
+no_calls = []
+
+abbrev NothingShown : Type 0
+NothingShown = no_calls ≡ []
+
 -- All follows from how the bench is left, what its faults say of the stop, and what is shown, or refused.
 module _ (command : Command) (given left : Option (List ℕ)) (faults : ℕ) (old new : BenchState) (result : Result (Vec ℕ) Stop) where
   for_it : (P : Command → Type 0) → P command → (other : Command) → Some command ≡ Some other → P other
@@ -175,13 +186,15 @@ module _ (command : Command) (given left : Option (List ℕ)) (faults : ℕ) (ol
       → Takes command given left result → Arms command given old new result → (result ≡ Err Turns → EndsInTurns command given old new)
       → ((why : Refusal) → result ≡ Err (Region why) → IfSome old.told (λ holding. IsCommandRefused command given old new holding why))
       → ((why : Refusal) → result ≡ Err (Region why) → IfSome old.told (λ holding. new.arms ≡ old.arms))
-      → IfSome old.told (λ was. LeavesLife command given was new.told)
+      → IfSome old.told (λ was. LeavesLife command given was [] new.told)
       → IfOk result (λ text. IfSome old.told (λ holding. IsShown command given old new holding text.items))
-      → HasReported (Some command) given left faults faults old new result
+      → HasReported (Some command) given left faults faults old new [] result
   settled_reported back cause grows takes arms turns refused unarmed life shown =
       let settled = expected_faults old new in
       let Settled : Result (Vec ℕ) Stop → Type 0 = λ result. IsSettledStop settled new.faults result in
       record {
+        early = inl refl;
+        write = λ is. absurd (subst Settled is cause);
         back = for_it (λ command. IsLeftBy command old new) back;
         cuts = λ options is. (for_it (λ command. Arms command given old new result) arms (Sched options) is).0;
         all_cuts = λ options is. (for_it (λ command. Arms command given old new result) arms (Sched options) is).1;
@@ -194,19 +207,19 @@ module _ (command : Command) (given left : Option (List ℕ)) (faults : ℕ) (ol
         unread_look = λ files is. for_it (λ command. Takes command given left result) takes (Look files) is;
         unread_load = λ load is. for_it (λ command. Takes command given left result) takes (Gen load) is;
         read_fault = λ is. absurd (subst Settled is cause);
-        read_sound = λ other. refl;
+        read_sound = λ other. inl refl;
         device_fault = λ is. subst Settled is cause;
-        device_sound = settled_sound settled new.faults result cause;
+        device_sound = λ other sound. settled_sound settled new.faults result cause other;
         turns = λ is. of_schedule command given old new (turns is);
         turns_used = λ is options same. (for_it (λ command. EndsInTurns command given old new) (turns is) (Sched options) same).1;
         region = λ why is. for_it (λ command. IfSome old.told (λ holding. IsCommandRefused command given old new holding why)) (refused why is);
-        unarmed = unarmed;
+        unarmed = λ why is. if_told old.told (λ holding. (new.arms ≡ old.arms) × NothingShown) (λ holding told. (told_at old.told (λ holding. new.arms ≡ old.arms) holding told (unarmed why is), refl));
         complete = for_it (λ command. IfSome old.told (λ holding. IsUnhindered command given holding (Rose faults faults) (Rose settled new.faults) → IfErr result IsOwnStop))
             (settled_done command given old new (Rose faults faults) settled new.faults result cause refused);
         counts = settled_counts settled new.faults result cause;
         never_falls = grows;
-        life = for_it (λ command. IfSome old.told (λ was. LeavesLife command given was new.told)) life;
-        unopened = settled_opened settled new.faults result (new ≡ old) cause;
+        life = for_it (λ command. IfSome old.told (λ was. LeavesLife command given was [] new.told)) life;
+        stopped = settled_opened settled new.faults result _ cause;
         report = shown_for result shown;
       }
     where
@@ -223,6 +236,7 @@ IsEarly Usage = Unit {0}
 IsEarly (BadLine bad) = Unit {0}
 IsEarly InputLong = Unit {0}
 IsEarly Read = Unit {0}
+IsEarly Write = ⊥
 IsEarly Device = ⊥
 IsEarly (Region refusal) = ⊥
 IsEarly NoMemory = Unit {0}
@@ -234,9 +248,11 @@ module _ (over : Option Command) (given left : Option (List ℕ)) (before now : 
       → (stop ≡ Read → Rose before now) → (stop ≢ Read → now ≡ before)
       → ((command : Command) → over ≡ Some command → Takes command given left (Err stop))
       → ((command : Command) → over ≡ Some command → (holding : Holding) → IsUnhindered command given holding (Rose before now) (Rose (expected_faults bench bench) bench.faults) → IsOwnStop stop)
-      → ((command : Command) → over ≡ Some command → IfSome bench.told (λ was. LeavesLife command given was bench.told))
-      → HasReported over given left before now bench bench (Err stop)
+      → ((command : Command) → over ≡ Some command → IfSome bench.told (λ was. LeavesLife command given was [] bench.told))
+      → HasReported over given left before now bench bench [] (Err stop)
   early_reported home early usage none cause fault sound takes own life = record {
+    early = inl refl;
+    write = λ is. absurd (subst IsEarly (same_stop stop Write is) early);
     back = λ command is. unmoved command bench home;
     cuts = λ options is. inl refl;
     all_cuts = λ options is. tt;
@@ -249,9 +265,9 @@ module _ (over : Option Command) (given left : Option (List ℕ)) (before now : 
     unread_look = λ files is. takes (Look files) is;
     unread_load = λ load is. takes (Gen load) is;
     read_fault = λ is. fault (same_stop stop Read is);
-    read_sound = λ other. sound (λ is. other (ap Err is));
+    read_sound = λ other. inl (sound (λ is. other (ap Err is)));
     device_fault = λ is. absurd (subst IsEarly (same_stop stop Device is) early);
-    device_sound = λ other. omega arith;
+    device_sound = λ other well. omega arith;
     turns = λ is. absurd (subst IsEarly (same_stop stop Turns is) early);
     turns_used = λ is options same. absurd (subst IsEarly (same_stop stop Turns is) early);
     region = λ why is. absurd (subst IsEarly (same_stop stop (Region why) is) early);
@@ -260,14 +276,14 @@ module _ (over : Option Command) (given left : Option (List ℕ)) (before now : 
     counts = tt;
     never_falls = omega arith;
     life = life;
-    unopened = λ first. refl;
+    stopped = λ first. inl (refl, refl);
     report = tt;
   }
 
 -- the words are none, or memory is wanting for them
 pub words_reported : (over : Option Command) (given : Option (List ℕ)) (faults : ℕ) (bench : BenchState) (error : WordsError) → IsAtHome bench → (error ≡ words_errors.Usage → over ≡ None)
-    → ((command : Command) → over ≡ Some command → IfSome bench.told (λ was. LeavesLife command given was bench.told))
-    → HasReported over given given faults faults bench bench (Err (stop_of_words error))
+    → ((command : Command) → over ≡ Some command → IfSome bench.told (λ was. LeavesLife command given was [] bench.told))
+    → HasReported over given given faults faults bench bench [] (Err (stop_of_words error))
 words_reported over given faults bench words_errors.Usage home usage life =
     let none = usage refl in
     early_reported over given given faults faults bench Usage home tt (λ same. none) (λ same. (inl refl, refl)) (if_some given (IsCauseOf (form_by over) Usage) (λ input some. tt)) (λ is. cc) (λ other. refl)
@@ -296,15 +312,15 @@ module _ (command : Command) (given left : Option (List ℕ)) (before now : ℕ)
   pub read_reported : IsAtHome bench → (HasInput command given → (bytes : List ℕ) × (given ≡ Some bytes) × IsTrace (form_of command) bytes)
       → Takes command given left (Err (stop_of_read error))
       → IfSome given (IsRefusedAs (form_of command) error) → (error ≡ read_errors.Failed → Rose before now) → (error ≢ read_errors.Failed → now ≡ before)
-      → IfSome bench.told (λ was. LeavesLife command given was bench.told)
-      → HasReported (Some command) given left before now bench bench (Err (stop_of_read error))
+      → IfSome bench.told (λ was. LeavesLife command given was [] bench.told)
+      → HasReported (Some command) given left before now bench bench [] (Err (stop_of_read error))
   read_reported home reads takes refused failed kept life =
       early_reported (Some command) given left before now bench (stop_of_read error) home (early error) (λ is. absurd (not_usage error is)) (λ none. absurd (not_none command none)) (cause error refused)
       (λ is. failed (is_failed error is)) (λ other. kept (λ is. other (ap stop_of_read is)))
       (λ other is. subst (λ command. Takes command given left (Err (stop_of_read error))) (same_some is) takes)
       (λ other is. subst (λ command. (holding : Holding) → IsUnhindered command given holding (Rose before now) (Rose (expected_faults bench bench) bench.faults) → IsOwnStop (stop_of_read error)) (same_some is)
       (λ holding free. own error refused failed free.read (reads free.has_input)))
-      (λ other is. subst (λ command. IfSome bench.told (λ was. LeavesLife command given was bench.told)) (same_some is) life)
+      (λ other is. subst (λ command. IfSome bench.told (λ was. LeavesLife command given was [] bench.told)) (same_some is) life)
     where
       early : (error : ReadError) → IsEarly (stop_of_read error)
       early (read_errors.Bad bad) = tt
@@ -369,9 +385,9 @@ module _ (command : Command) (given left : Option (List ℕ)) (faults : ℕ) (ol
   pub counted_reported : IsReady old → IsLeftBy command old new → new.settled ≡ old.settled → new.arms ≡ old.arms → CountHasCause old.faults new.faults result
       → Takes command given left result → Arms command given old new result
       → ((why : Refusal) → result ≡ Err (Region why) → IfSome old.told (λ holding. IsCommandRefused command given old new holding why))
-      → IfSome old.told (λ was. LeavesLife command given was new.told)
+      → IfSome old.told (λ was. LeavesLife command given was [] new.told)
       → IfOk result (λ text. IfSome old.told (λ holding. IsShown command given old new holding text.items))
-      → HasReported (Some command) given left faults faults old new result
+      → HasReported (Some command) given left faults faults old new [] result
   counted_reported ready back settled arms cause takes cuts refused life shown =
       let before = ready.settled in
       let low : new.settled ≤ old.faults = omega (arith, settled, before) in
@@ -402,7 +418,7 @@ unopened_run stop options trace bench runnable one home = record {
 
 -- a run that isn't stopped
 pub unstopped_run : (options : RunOptions) (trace : Traced) (old new : BenchState) (result : Result (Vec ℕ) Stop) → IsRunnable trace → IsReady old → IsGivenBack old new → CountHasCause old.faults new.faults result
-    → IfSome old.told (λ was. LeavesRun options was trace new.told) → IfOk result (λ text. IfSome old.told (λ holding. HasRunOn Report options holding new.told trace text.items))
+    → IfSome old.told (λ was. LeavesRun options was trace [] new.told) → IfOk result (λ text. IfSome old.told (λ holding. HasRunOn Report options holding new.told trace text.items))
     → ((why : Refusal) → result ≡ Err (Region why) → IfSome old.told (λ holding. IsRunRefused options holding trace.names old new why))
     → HasRunTrace None options trace old new result
 unstopped_run options trace old new result runnable ready back cause life ran refused =
@@ -466,17 +482,20 @@ module _ (options : RunOptions) (wanted names : List (List ℕ)) (old new : Benc
   -- and the files stand as before
   pub refused_life : (trace : Traced) → names ≡ trace.names → (sizes : Geometry) → sizes.page ≡ options.page → sizes.entries ≡ options.entries
       → IfSome old.told (λ was. StandForFiles was.parts → TellsOf (StandsUnopened was sizes wanted) new.told)
-      → IfSome old.told (λ was. is_blank was.parts ≡ false → ¬ (IsGood was.parts) → TellsOf (IsUntouched was) new.told) → IfSome old.told (λ was. LeavesRun options was trace new.told)
+      → IfSome old.told (λ was. is_blank was.parts ≡ false → ¬ (IsGood was.parts) → TellsOf (IsUntouched was) new.told) → IfSome old.told (λ was. LeavesRun options was trace [] new.told)
   refused_life trace are sizes page_is entries_are standing untouched =
-      if_told old.told (λ was. LeavesRun options was trace new.told) (λ was told. record {
-        untouched = told_at old.told (λ was. is_blank was.parts ≡ false → ¬ (IsGood was.parts) → TellsOf (IsUntouched was) new.told) was told untouched;
+      if_told old.told (λ was. LeavesRun options was trace [] new.told) (λ was told. record {
+        untouched = λ kept bad. (refl, told_at old.told (λ was. is_blank was.parts ≡ false → ¬ (IsGood was.parts) → TellsOf (IsUntouched was) new.told) was told untouched kept bad);
         stands = λ stand.
             let left = told_at old.told (λ was. StandForFiles was.parts → TellsOf (StandsUnopened was sizes wanted) new.told) was told standing stand in
             let Unrun : List (List ℕ) → Type 0 = λ names. HasMadeNoCall options was names new.told in
-            inl (subst Unrun (same ∙ are) (elim left.is_so.either [
-              | inl own ↦ inl (left.told_is ∙ ap (λ (now : Holding). Some now) own)
-              | inr made ↦ inr (record { geometry = sizes; page_is = page_is; entries_are = entries_are; left = record { now = left.now; told_is = left.told_is; is_so = made } })
-            ]));
+            inl (
+              refl,
+              subst Unrun (same ∙ are) (elim left.is_so.either [
+                | inl own ↦ inl (left.told_is ∙ ap (λ (now : Holding). Some now) own)
+                | inr made ↦ inr (record { geometry = sizes; page_is = page_is; entries_are = entries_are; left = record { now = left.now; told_is = left.told_is; is_so = made } })
+              ]),
+            );
       })
 
 -- what a bench came home to from which all was lent

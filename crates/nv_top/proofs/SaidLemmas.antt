@@ -1,5 +1,5 @@
 -- What is said of what a command came to.
-use Rattle.std.proofs.Common.{◌≡◌, ◌≢◌, ◌⊎◌, ◌≤◌, ℕ, List, Option, Ok, Err, inl, inr, refl, sym, ◌∙◌, arith}
+use Rattle.std.proofs.Common.{◌≡◌, ◌≢◌, ◌⊎◌, ◌≤◌, ℕ, List, [], Option, Ok, Err, inl, inr, refl, sym, ◌∙◌, arith}
 use Rattle.std.proofs.lemmas.Bool.{cases_eq}
 use Rattle.std.specs.Prelude.{IsOk}
 use Rattle.nv_plain.specs.Faults.{Rose}
@@ -8,16 +8,16 @@ use Rattle.nv_trace.specs.declared.bad_line.BadLine.{BadLine as Bad}
 use Rattle.nv_open.specs.declared.error.Refusal.{Refusal}
 use Rattle.nv_top.specs.Endings.{AppendsFront}
 use Rattle.nv_top.specs.Said.{Outcome, IsSaid, GoWith, StatusesTellWhatCame, said_status}
-use Rattle.nv_top.specs.declared.ending.Stop.TheVariants.{Usage, BadLine, InputLong, Read, Device, Region, NoMemory, Turns}
+use Rattle.nv_top.specs.declared.ending.Stop.TheVariants.{Usage, BadLine, InputLong, Read, Write, Device, Region, NoMemory, Turns}
 use Rattle.nv_top.specs.declared.ending.TheConstants.{DONE, USAGE, BAD_INPUT, READ_FAULT, WRITE_FAULT, DEVICE_FAULT, NO_MEMORY, BAD_REGION, TURNS_USED}
 
--- as the sink's write tells it
-pub said_by : (came : Outcome) (old new : Option (List ℕ)) (before now result status : ℕ) (text : List ℕ) → GoWith came status text
+-- as the sink's write tells it, of a command that has shown nothing before its end
+pub said_by : (came : Outcome) (old new : Option (List ℕ)) (before now result status : ℕ) (text : List ℕ) → came ≢ Err Write → GoWith came status text
     → (result ≡ WRITE_FAULT → AppendsFront old new text) → (result ≢ WRITE_FAULT → (result ≡ status) × Appends old new text)
-    → (result ≡ WRITE_FAULT → Rose before now) → (result ≢ WRITE_FAULT → now ≡ before) → IsSaid came old new before now result
-said_by came old new before now result status text go front said fault sound = elim (cases_eq result WRITE_FAULT) [
-  | inl failed ↦ record { status = status; text = text; go = go; ends = inr (failed, front failed, fault failed) }
-  | inr well ↦ record { status = status; text = text; go = go; ends = inl ((said well).0, (said well).1, sound well) }
+    → (result ≡ WRITE_FAULT → Rose before now) → (result ≢ WRITE_FAULT → now ≡ before) → IsSaid came [] old new before now result
+said_by came old new before now result status text other go front said fault sound = elim (cases_eq result WRITE_FAULT) [
+  | inl failed ↦ record { status = status; text = text; go = go; ends = inr (failed, inr (front failed), fault failed) }
+  | inr well ↦ record { status = status; text = text; go = go; ends = inl (other, (said well).0, (said well).1, sound well) }
 ]
 
 -- ---- which outcome a status is of
@@ -25,10 +25,10 @@ said_by came old new before now result status text go front said fault sound = e
 AsSaid : Outcome → ℕ → Type 0
 AsSaid came result = (result ≡ said_status came) ⊎ ((result ≡ WRITE_FAULT) ⊎ (result ≡ NO_MEMORY))
 
-as_said : (came : Outcome) (old new : Option (List ℕ)) (before now result : ℕ) → IsSaid came old new before now result → AsSaid came result
+as_said : (came : Outcome) (shown : List ℕ) (old new : Option (List ℕ)) (before now result : ℕ) → IsSaid came shown old new before now result → AsSaid came result
 unfolding AsSaid
-as_said came old new before now result said = elim said.ends [
-  | inl well ↦ elim said.go [ inl own ↦ inl (well.0 ∙ own.0) | inr memory ↦ inr (inr (well.0 ∙ memory.1)) ]
+as_said came shown old new before now result said = elim said.ends [
+  | inl well ↦ elim said.go [ inl own ↦ inl (well.1 ∙ own.0) | inr memory ↦ inr (inr (well.1 ∙ memory.1)) ]
   | inr failed ↦ inr (inl failed.0)
 ]
 
@@ -45,6 +45,7 @@ least (Err Usage) = omega arith
 least (Err (BadLine bad)) = omega arith
 least (Err InputLong) = omega arith
 least (Err Read) = omega arith
+least (Err Write) = omega arith
 least (Err Device) = omega arith
 least (Err (Region why)) = omega arith
 least (Err NoMemory) = omega arith
@@ -65,6 +66,7 @@ of_done (Err Usage) is = absurd (omega (arith, is))
 of_done (Err (BadLine bad)) is = absurd (omega (arith, is))
 of_done (Err InputLong) is = absurd (omega (arith, is))
 of_done (Err Read) is = absurd (omega (arith, is))
+of_done (Err Write) is = absurd (omega (arith, is))
 of_done (Err Device) is = absurd (omega (arith, is))
 of_done (Err (Region why)) is = absurd (omega (arith, is))
 of_done (Err NoMemory) is = absurd (omega (arith, is))
@@ -76,6 +78,7 @@ of_usage (Err Usage) is = refl
 of_usage (Err (BadLine bad)) is = absurd (omega (arith, is))
 of_usage (Err InputLong) is = absurd (omega (arith, is))
 of_usage (Err Read) is = absurd (omega (arith, is))
+of_usage (Err Write) is = absurd (omega (arith, is))
 of_usage (Err Device) is = absurd (omega (arith, is))
 of_usage (Err (Region why)) is = absurd (omega (arith, is))
 of_usage (Err NoMemory) is = absurd (omega (arith, is))
@@ -87,6 +90,7 @@ of_bad_input (Err Usage) is = absurd (omega (arith, is))
 of_bad_input (Err (BadLine bad)) is = inl (bad, refl)
 of_bad_input (Err InputLong) is = inr refl
 of_bad_input (Err Read) is = absurd (omega (arith, is))
+of_bad_input (Err Write) is = absurd (omega (arith, is))
 of_bad_input (Err Device) is = absurd (omega (arith, is))
 of_bad_input (Err (Region why)) is = absurd (omega (arith, is))
 of_bad_input (Err NoMemory) is = absurd (omega (arith, is))
@@ -98,6 +102,7 @@ of_read (Err Usage) is = absurd (omega (arith, is))
 of_read (Err (BadLine bad)) is = absurd (omega (arith, is))
 of_read (Err InputLong) is = absurd (omega (arith, is))
 of_read (Err Read) is = refl
+of_read (Err Write) is = absurd (omega (arith, is))
 of_read (Err Device) is = absurd (omega (arith, is))
 of_read (Err (Region why)) is = absurd (omega (arith, is))
 of_read (Err NoMemory) is = absurd (omega (arith, is))
@@ -109,6 +114,7 @@ of_device (Err Usage) is = absurd (omega (arith, is))
 of_device (Err (BadLine bad)) is = absurd (omega (arith, is))
 of_device (Err InputLong) is = absurd (omega (arith, is))
 of_device (Err Read) is = absurd (omega (arith, is))
+of_device (Err Write) is = absurd (omega (arith, is))
 of_device (Err Device) is = refl
 of_device (Err (Region why)) is = absurd (omega (arith, is))
 of_device (Err NoMemory) is = absurd (omega (arith, is))
@@ -120,6 +126,7 @@ of_region (Err Usage) is = absurd (omega (arith, is))
 of_region (Err (BadLine bad)) is = absurd (omega (arith, is))
 of_region (Err InputLong) is = absurd (omega (arith, is))
 of_region (Err Read) is = absurd (omega (arith, is))
+of_region (Err Write) is = absurd (omega (arith, is))
 of_region (Err Device) is = absurd (omega (arith, is))
 of_region (Err (Region why)) is = (why, refl)
 of_region (Err NoMemory) is = absurd (omega (arith, is))
@@ -131,14 +138,15 @@ of_turns (Err Usage) is = absurd (omega (arith, is))
 of_turns (Err (BadLine bad)) is = absurd (omega (arith, is))
 of_turns (Err InputLong) is = absurd (omega (arith, is))
 of_turns (Err Read) is = absurd (omega (arith, is))
+of_turns (Err Write) is = absurd (omega (arith, is))
 of_turns (Err Device) is = absurd (omega (arith, is))
 of_turns (Err (Region why)) is = absurd (omega (arith, is))
 of_turns (Err NoMemory) is = absurd (omega (arith, is))
 of_turns (Err Turns) is = refl
 
 pub statuses_tell : StatusesTellWhatCame
-statuses_tell came old new before now result said =
-    let one = as_said came old new before now result said in
+statuses_tell came shown old new before now result said =
+    let one = as_said came shown old new before now result said in
     record {
       one_of_nine = one_of_nine came result one;
       done = λ is. of_done came (own came result DONE one is (omega arith) (omega arith));
@@ -148,4 +156,5 @@ statuses_tell came old new before now result said =
       device = λ is. of_device came (own came result DEVICE_FAULT one is (omega arith) (omega arith));
       region = λ is. of_region came (own came result BAD_REGION one is (omega arith) (omega arith));
       turns = λ is. of_turns came (own came result TURNS_USED one is (omega arith) (omega arith));
+      write = λ is. elim said.ends [ inl well ↦ absurd (well.0 is) | inr failed ↦ failed.0 ];
     }

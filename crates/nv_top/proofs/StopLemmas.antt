@@ -7,10 +7,10 @@ use Rattle.nv_open.specs.declared.error.OpenError.TheVariants as open_errors
 use Rattle.nv_open.specs.declared.error.Refusal.{Refusal}
 use Rattle.nv_recover.specs.declared.error.RecoverError.{RecoverError}
 use Rattle.nv_recover.specs.declared.error.RecoverError.TheVariants as recover_errors
-use Rattle.nv_top.specs.Stops.{ComesBeforeOpening, stop_of_opening, stop_of_recovery}
+use Rattle.nv_top.specs.Stops.{ComesFromInput, stop_of_opening, stop_of_recovery}
 use Rattle.nv_top.specs.Stopping.{IsSettledStop}
 use Rattle.nv_top.specs.declared.ending.Stop.{Stop}
-use Rattle.nv_top.specs.declared.ending.Stop.TheVariants.{Usage, BadLine, InputLong, Read, Device, Region, NoMemory, Turns}
+use Rattle.nv_top.specs.declared.ending.Stop.TheVariants.{Usage, BadLine, InputLong, Read, Write, Device, Region, NoMemory, Turns}
 
 pub opening_refused : (error : OpenError) (why : Refusal) → stop_of_opening error ≡ Region why → error ≡ open_errors.Refused why
 opening_refused (open_errors.Refused refusal) why is = cc
@@ -31,13 +31,14 @@ err_has result P error is has =
     let Of : Result _ _ → Type 0 = λ result. IsErrAnd result P in
     subst Of is has
 
--- a stop that a bench gives comes after its opening
-pub settled_opened : {T : Type 0} (settled now : ℕ) (result : Result T Stop) (P : Type 0) → IsSettledStop settled now result → IfErr result (λ stop. ComesBeforeOpening stop → P)
+-- a stop that a bench gives doesn't come of the input
+pub settled_opened : {T : Type 0} (settled now : ℕ) (result : Result T Stop) (P : Type 0) → IsSettledStop settled now result → IfErr result (λ stop. ComesFromInput stop → P)
 settled_opened settled now (Ok value) P cause = tt
 settled_opened settled now (Err Usage) P cause = absurd cause
 settled_opened settled now (Err (BadLine bad)) P cause = absurd cause
 settled_opened settled now (Err InputLong) P cause = absurd cause
 settled_opened settled now (Err Read) P cause = absurd cause
+settled_opened settled now (Err Write) P cause = absurd cause
 settled_opened settled now (Err Device) P cause = λ none. absurd none
 settled_opened settled now (Err (Region refusal)) P cause = λ none. absurd none
 settled_opened settled now (Err NoMemory) P cause = λ none. absurd none

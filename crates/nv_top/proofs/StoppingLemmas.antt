@@ -80,7 +80,7 @@ use Rattle.nv_top.specs.Stopped.{HasStoppedOn, HaveFates, IsRunOfReport, left_wr
 use Rattle.nv_top.specs.Stopping.{HasLostPower, IsAway, RestsWith, ShowsOpen, ShowsRecovered, next_in}
 use Rattle.nv_top.specs.Stops.{CountHasCause, StopHasCause}
 use Rattle.nv_top.specs.declared.ending.Stop.{Stop}
-use Rattle.nv_top.specs.declared.ending.Stop.TheVariants.{Usage, BadLine, InputLong, Read, Device, Region, NoMemory, Turns}
+use Rattle.nv_top.specs.declared.ending.Stop.TheVariants.{Usage, BadLine, InputLong, Read, Write, Device, Region, NoMemory, Turns}
 use Rattle.nv_top.proofs.FateLemmas.{after_fates, numbers_low, open_write, open_writes_are}
 use Rattle.nv_top.proofs.StoppedLemmas.{left_fates, left_low, left_writes, nothing_flies}
 use Rattle.nv_top.proofs.HomeLemmas.{images_again}
@@ -527,6 +527,7 @@ stop_grows before now Usage cause = absurd cause
 stop_grows before now (BadLine bad) cause = absurd cause
 stop_grows before now InputLong cause = absurd cause
 stop_grows before now Read cause = absurd cause
+stop_grows before now Write cause = absurd cause
 stop_grows before now Device cause = cause.never_falls
 stop_grows before now (Region refusal) cause = omega (arith, cause)
 stop_grows before now NoMemory cause = omega (arith, cause)

@@ -20,10 +20,12 @@ use Rattle.nv_trace.specs.declared.trace.Form.TheVariants as forms
 use Rattle.nv_trace.specs.Traced.{Traced}
 use Rattle.nv_top.specs.Commands.{HasLooked, HasRecovered, HasRunOn, IsBasis, IsGivenBack, IsLookedAt, IsNotRun, IsNotShown, RestsNotRun}
 use Rattle.nv_runner.specs.Faithful.{Basis}
+use Rattle.nv_runner.specs.Histories.{PlacedCall}
 use Rattle.nv_load.specs.Generated.{generated}
 use Rattle.nv_top.specs.Loads.{HasGenerated, load_options}
 use Rattle.nv_top.specs.declared.show.Show.TheVariants.{Report}
 use Rattle.nv_top.specs.Endings.{IsTrace, OfRead}
+use Rattle.nv_top.specs.Rounds.{OfReadSoFar, OfRounds}
 use Rattle.nv_top.specs.Scheduling.{HasScheduledOn, HasUsedTurns, IsArmedAt, IsArmedAtSome}
 use Rattle.nv_top.specs.Stopped.{HasStoppedOn}
 use Rattle.nv_top.specs.Stopping.{IsAllBack, IsPickedOnce, IsPoweredBack}
@@ -90,6 +92,10 @@ IsLeftBy (Gen load) old new = IsGivenBack old new
 abbrev pub expected_faults : (old new : BenchState) → ℕ
 expected_faults old new = max old.faults new.settled
 
+-- the command is a run
+abbrev pub IsRun : Option Command → Type 0
+IsRun over = (options : RunOptions) × (over ≡ Some (Run options))
+
 -- The text is that of a faithful report of a run of the trace that was stopped, on a bench that held this, and had lost power with those picks, and is that now. It has as many parts as it had when it was opened, and the stores of other
 -- names as they were.
 pub record HasStopped (failed : Type 0) (options : RunOptions) (before : List Pick) (holding : Holding) (bench : BenchState) (trace : Traced) (text : List ℕ) : Type 0 where
@@ -101,6 +107,16 @@ pub record HasStopped (failed : Type 0) (options : RunOptions) (before : List Pi
 abbrev pub IsShownOf : (stop : Option ℕ) → RunOptions → (old new : BenchState) → Holding → Traced → (text : List ℕ) → Type 0
 IsShownOf None options old new holding trace text = HasRunOn Report options holding new.told trace text
 IsShownOf (Some k) options old new holding trace text = HasStopped (Rose old.faults new.faults) options old.picked holding new trace text
+
+-- the calls that have their place in that report
+abbrev pub history_of_shown : (stop : Option ℕ) (options : RunOptions) (old new : BenchState) (holding : Holding) (trace : Traced) (text : List ℕ) → IsShownOf stop options old new holding trace text → List PlacedCall
+history_of_shown None options old new holding trace text run = run.report.history
+history_of_shown (Some k) options old new holding trace text run = run.stopped.report.history
+
+-- A run was one of some first rounds of its input, whose placed calls were shown: the bench is left as by one that would have shown the rest of the report too.
+abbrev pub HasRunRounds : RunOptions → (input : Option (List ℕ)) → (shown : List PlacedCall) → (old new : BenchState) → Holding → Type 0
+HasRunRounds options input shown old new holding =
+    OfRounds input (λ trace. (text : List ℕ) × (run : IsShownOf options.stop options old new holding trace text) × (history_of_shown options.stop options old new holding trace text run ≡ shown))
 
 -- The text is that of a report of a trace whose schedule was followed on a bench that held this, and had lost power with those picks, and is that now. Its parts and its other stores are as behind a stop.
 pub record HasFollowed (failed : Type 0) (options : RunOptions) (before : List Pick) (holding : Holding) (bench : BenchState) (trace : Traced) (text : List ℕ) : Type 0 where
@@ -180,14 +196,10 @@ pub record IsRunRefused (options : RunOptions) (was : Holding) (wanted : List (L
   pub unwritten : IsRegionUnwritten old new why
   pub rests : why ≡ refusals.TooManyFiles → RestsNotRun options was wanted new.told
 
--- why the calls of a trace that is read for this aren't made on a bench that held that, and what is left of its region
-abbrev pub IsTraceRefused : Form → RunOptions → (input : Option (List ℕ)) → (old new : BenchState) → Holding → Refusal → Type 0
-IsTraceRefused form options input old new holding why = OfRead form input (λ trace. IsRunRefused options holding trace.names old new why)
-
 -- why a command is refused by the region of a bench that held this, and what it leaves of it; a schedule is refused before power goes off
 abbrev pub IsCommandRefused : Command → (input : Option (List ℕ)) → (old new : BenchState) → Holding → Refusal → Type 0
-IsCommandRefused (Run options) input old new holding why = IsTraceRefused forms.Run options input old new holding why
-IsCommandRefused (Sched options) input old new holding why = IsTraceRefused forms.Sched options input old new holding why × (new.picked ≡ old.picked)
+IsCommandRefused (Run options) input old new holding why = OfReadSoFar input (λ trace. IsRunRefused options holding trace.names old new why)
+IsCommandRefused (Sched options) input old new holding why = OfRead forms.Sched input (λ trace. IsRunRefused options holding trace.names old new why) × (new.picked ≡ old.picked)
 IsCommandRefused Recover input old new holding why = IsRefusedFor holding.parts why × IsRegionUnwritten old new why
 IsCommandRefused (Look files) input old new holding why = IsNotShown files holding why
 IsCommandRefused (Gen load) input old new holding why = IsRunRefused load_options holding (generated load).names old new why

@@ -1,6 +1,7 @@
 pub mod Ready
 pub mod RegionTexts
 pub mod Endings
+pub mod Rounds
 pub mod Reports
 pub mod Readings
 pub mod Shows

@@ -25,7 +25,7 @@ use Rattle.nv_top.specs.Outcomes.{shown_report}
 use Rattle.nv_runner.specs.Reports.{OpenCall}
 use Rattle.nv_top.specs.Reports.{report_text}
 use Rattle.nv_top.specs.declared.ending.Stop.{Stop}
-use Rattle.nv_top.specs.declared.ending.Stop.TheVariants.{Usage, BadLine, InputLong, Read, Device, Region, NoMemory, Turns}
+use Rattle.nv_top.specs.declared.ending.Stop.TheVariants.{Usage, BadLine, InputLong, Read, Write, Device, Region, NoMemory, Turns}
 use Rattle.nv_runner.specs.declared.sorted.SortedCalls.{SortedCalls}
 
 -- a bench to which all that was lent came back
@@ -54,6 +54,7 @@ StopSettles settled now Usage = ⊥
 StopSettles settled now (BadLine bad) = ⊥
 StopSettles settled now InputLong = ⊥
 StopSettles settled now Read = ⊥
+StopSettles settled now Write = ⊥
 StopSettles settled now Device = Rose settled now
 StopSettles settled now (Region refusal) = now ≤ settled
 StopSettles settled now NoMemory = now ≤ settled

@@ -1,5 +1,5 @@
 -- Stops: the status and the line of each.
-use Rattle.std.specs.Prelude.{◌≡◌, ◌⊎◌, ◌≤◌, ℕ, List, Result, Ok, Err}
+use Rattle.std.specs.Prelude.{◌≡◌, ◌⊎◌, ◌≤◌, ℕ, List, [], Result, Ok, Err}
 use Rattle.nv_plain.specs.Faults.{Rose}
 use Rattle.nv_mount.specs.declared.refusals.OpenError.{OpenError as MountError}
 use Rattle.nv_mount.specs.declared.refusals.OpenError.TheVariants as mount_errors
@@ -17,8 +17,8 @@ use Rattle.nv_trace.specs.declared.read_error.ReadError.TheVariants as read_erro
 use Rattle.nv_words.specs.declared.words.WordsError.{WordsError}
 use Rattle.nv_words.specs.declared.words.WordsError.TheVariants as words_errors
 use Rattle.nv_top.specs.declared.ending.Stop.{Stop}
-use Rattle.nv_top.specs.declared.ending.Stop.TheVariants.{Usage, BadLine, InputLong, Read, Device, Region, NoMemory, Turns}
-use Rattle.nv_top.specs.declared.ending.TheConstants.{USAGE, BAD_INPUT, READ_FAULT, DEVICE_FAULT, NO_MEMORY, BAD_REGION, TURNS_USED}
+use Rattle.nv_top.specs.declared.ending.Stop.TheVariants.{Usage, BadLine, InputLong, Read, Write, Device, Region, NoMemory, Turns}
+use Rattle.nv_top.specs.declared.ending.TheConstants.{USAGE, BAD_INPUT, READ_FAULT, WRITE_FAULT, DEVICE_FAULT, NO_MEMORY, BAD_REGION, TURNS_USED}
 use Rattle.nv_top.specs.Endings.{usage_line, bad_line, long_line, read_line, device_line, memory_line, region_line, turns_line}
 
 abbrev pub stop_status : Stop → ℕ
@@ -26,6 +26,7 @@ stop_status Usage = USAGE
 stop_status (BadLine bad) = BAD_INPUT
 stop_status InputLong = BAD_INPUT
 stop_status Read = READ_FAULT
+stop_status Write = WRITE_FAULT
 stop_status Device = DEVICE_FAULT
 stop_status (Region refusal) = BAD_REGION
 stop_status NoMemory = NO_MEMORY
@@ -36,6 +37,7 @@ stop_line Usage = usage_line
 stop_line (BadLine bad) = bad_line bad
 stop_line InputLong = long_line
 stop_line Read = read_line
+stop_line Write = []
 stop_line Device = device_line
 stop_line (Region refusal) = region_line refusal
 stop_line NoMemory = memory_line
@@ -83,6 +85,7 @@ StopHasCause before now Usage = ⊥
 StopHasCause before now (BadLine bad) = ⊥
 StopHasCause before now InputLong = ⊥
 StopHasCause before now Read = ⊥
+StopHasCause before now Write = ⊥
 StopHasCause before now Device = Rose before now
 StopHasCause before now (Region refusal) = now ≡ before
 StopHasCause before now NoMemory = now ≡ before
@@ -98,6 +101,7 @@ MayEndRun before now Usage = ⊥
 MayEndRun before now (BadLine bad) = ⊥
 MayEndRun before now InputLong = ⊥
 MayEndRun before now Read = ⊥
+MayEndRun before now Write = ⊥
 MayEndRun before now Device = Rose before now
 MayEndRun before now (Region refusal) = ⊥
 MayEndRun before now NoMemory = before ≤ now
@@ -113,30 +117,32 @@ IsCauseOf form (BadLine bad) input = ending_of form input ≡ Bad bad
 IsCauseOf form InputLong input = ending_of form input ≡ Long
 IsCauseOf form Usage input = Unit {0}
 IsCauseOf form Read input = Unit {0}
+IsCauseOf form Write input = Unit {0}
 IsCauseOf form Device input = Unit {0}
 IsCauseOf form (Region refusal) input = Unit {0}
 IsCauseOf form NoMemory input = Unit {0}
 IsCauseOf form Turns input = Unit {0}
 
--- A stop that neither the words, the input, the region nor a device is the cause of: memory was wanting, or a token of a schedule has used its advances up.
+-- A stop that neither the words, the input, the region nor a device is the cause of: memory was wanting, a token of a schedule has used its advances up, or the sink failed before the end of a run.
 abbrev pub IsOwnStop : Stop → Type 0
-IsOwnStop stop = (stop ≡ NoMemory) ⊎ (stop ≡ Turns)
+IsOwnStop stop = (stop ≡ NoMemory) ⊎ ((stop ≡ Turns) ⊎ (stop ≡ Write))
 
 -- a schedule was followed, to its end or up to a token that has used its advances up
 abbrev pub IsFollowed : {T : Type 0} → Result T Stop → Type 0
 IsFollowed (Ok _) = Unit {0}
 IsFollowed (Err stop) = stop ≡ Turns
 
--- the stop comes before anything is opened
-abbrev pub ComesBeforeOpening : Stop → Type 0
-ComesBeforeOpening Usage = Unit {0}
-ComesBeforeOpening (BadLine bad) = Unit {0}
-ComesBeforeOpening InputLong = Unit {0}
-ComesBeforeOpening Read = Unit {0}
-ComesBeforeOpening Device = ⊥
-ComesBeforeOpening (Region refusal) = ⊥
-ComesBeforeOpening NoMemory = ⊥
-ComesBeforeOpening Turns = ⊥
+-- the words or the input stop it: before anything is opened, or of a run behind some rounds
+abbrev pub ComesFromInput : Stop → Type 0
+ComesFromInput Usage = Unit {0}
+ComesFromInput (BadLine bad) = Unit {0}
+ComesFromInput InputLong = Unit {0}
+ComesFromInput Read = Unit {0}
+ComesFromInput Write = ⊥
+ComesFromInput Device = ⊥
+ComesFromInput (Region refusal) = ⊥
+ComesFromInput NoMemory = ⊥
+ComesFromInput Turns = ⊥
 
 -- the line of the stop takes memory
 abbrev pub TakesMemory : Stop → Type 0
@@ -144,6 +150,7 @@ TakesMemory (BadLine bad) = Unit {0}
 TakesMemory Usage = ⊥
 TakesMemory InputLong = ⊥
 TakesMemory Read = ⊥
+TakesMemory Write = ⊥
 TakesMemory Device = ⊥
 TakesMemory (Region refusal) = Unit {0}
 TakesMemory NoMemory = ⊥

@@ -1,10 +1,12 @@
 //! The command: what a program does, whole.
-ghost use Rattle.std.specs.Prelude.{◌≡◌, ◌≤◌, ◌<◌, ◌^◌, [], map, string_bytes, false, true, None, Some, IfSome, IfOk, Err};
+ghost use Rattle.std.specs.Prelude.{◌≡◌, ◌≤◌, ◌<◌, ◌^◌, [], List, map, string_bytes, false, true, None, Some, IfSome, IfOk, Err};
 ghost use Rattle.nv_bench.specs.Holding.{IsQuietHolding};
 ghost use Rattle.nv_open.specs.declared.error.Refusal.{Refusal};
 ghost use Rattle.nv_top.specs.Headline.{HasInput, HasRefusal, command_over, possible};
+ghost use Rattle.nv_runner.specs.Histories.{PlacedCall};
 ghost use Rattle.nv_top.specs.Ready.{IsReady, IsRunnable};
 ghost use Rattle.nv_top.specs.Reported.{HasReported, HasRunTrace};
+ghost use Rattle.nv_top.specs.Reports.{history_lines};
 ghost use Rattle.nv_top.specs.Said.{IsSaid, Outcome};
 ghost use Rattle.nv_words.specs.Words.{AreInLimits};
 ghost use Rattle.nv_words.specs.declared.words.Command.{Command};
@@ -47,12 +49,12 @@ pub fn nv_main<R: Threads + Wait + Sync, I: Source, O: Sink, B: Bench, G: Gate +
     requires arms { (B.state bench.old).arms < 2 ^ 63 }
     requires settled { (B.state bench.old).settled ≤ (B.state bench.old).faults }
 
-    // What the command comes to: its report or why there is none, each with its cause, and what it makes of its source and its bench.
-    // Its status and its text are said, or a front of the text and the sink's fault.
-    ensures came { (came : Outcome)
+    // What the command comes to, behind the placed calls that it has shown: its report or why there is none, each with its cause, and what it makes of its source and its bench.
+    // The lines of those calls, its status and its text are said, or a front of them and the sink's fault.
+    ensures came { (came : Outcome) × (shown : List PlacedCall)
         × HasReported (command_over B.can_lose_power (map string_bytes words.now)) (I.left src.old) (I.left src.new) (I.fault_count src.old) (I.fault_count src.new)
-        (B.state bench.old) (B.state bench.new) came
-        × IsSaid came (O.written out.old) (O.written out.new) (O.fault_count out.old) (O.fault_count out.new) result }
+        (B.state bench.old) (B.state bench.new) shown came
+        × IsSaid came (history_lines 0 shown) (O.written out.old) (O.written out.new) (O.fault_count out.old) (O.fault_count out.new) result }
 
     // With status 0 the region wasn't refused, where the input tells. So a command that nothing else stands in the way of ends with 7 exactly where it is, unless memory is wanting.
     ensures unrefused { result ≡ DONE → (command : Command) → command_over B.can_lose_power (map string_bytes words.now) ≡ Some command → HasInput command (I.left src.old)
@@ -76,7 +78,7 @@ fn report<R: Threads + Wait + Sync, I: Source, B: Bench, G: Gate + Sync>(
 ) -> Result<Vec<u8>, Stop>
     requires ready { IsReady (B.state bench.old) }
     ensures { HasReported (command_over B.can_lose_power (map string_bytes words.now)) (I.left src.old) (I.left src.new) (I.fault_count src.old) (I.fault_count src.new)
-        (B.state bench.old) (B.state bench.new) result }
+        (B.state bench.old) (B.state bench.new) [] result }
 {
     images_follow_calls();
     let command = command_over::<B>(alloc, words)?;
@@ -122,7 +124,7 @@ fn run_input<R: Threads + Wait + Sync, I: Source, B: Bench, G: Gate + Sync>(
     requires limits { AreInLimits options }
     requires stop { IfSome options.stop (λ k. (1 ≤ k) × (B.can_lose_power ≡ true)) }
     ensures { HasReported (Some (commands.Run options)) (I.left src.old) (I.left src.new) (I.fault_count src.old) (I.fault_count src.new)
-        (B.state bench.old) (B.state bench.new) result }
+        (B.state bench.old) (B.state bench.new) [] result }
 {
     images_follow_calls();
     let trace = read_trace(alloc, Form::Run, src)?;
@@ -140,7 +142,7 @@ fn schedule_input<I: Source, B: Bench>(
     requires limits { AreInLimits options }
     requires images { B.can_lose_power ≡ true }
     ensures { HasReported (Some (commands.Sched options)) (I.left src.old) (I.left src.new) (I.fault_count src.old) (I.fault_count src.new)
-        (B.state bench.old) (B.state bench.new) result }
+        (B.state bench.old) (B.state bench.new) [] result }
 {
     images_follow_calls();
     let trace = read_trace(alloc, Form::Sched, src)?;

@@ -1,5 +1,5 @@
 //! A program's statuses, and the ways to each.
-ghost use Rattle.std.specs.Prelude.{◌≡◌, ◌≢◌, ℕ, List, Err};
+ghost use Rattle.std.specs.Prelude.{◌≡◌, ◌≢◌, [], Err};
 ghost use Rattle.nv_plain.specs.Faults.{Rose};
 ghost use Rattle.nv_trace.specs.Streams.{Appends};
 ghost use Rattle.nv_top.specs.declared.ending.Stop.TheVariants as stops;
@@ -52,6 +52,7 @@ pub(crate) enum Stop {
     BadLine(BadLine),
     InputLong,
     Read,
+    Write,
     Device,
     Region(Refusal),
     NoMemory,
@@ -174,15 +175,17 @@ pub fn say<O: Sink>(out: &mut O, status: u8, text: &[u8]) -> u8
     }
 }
 
-// Writes the line that says why there is no report. Only a line with a number in it, and that of a region, take memory.
+// Writes the line that says why there is no report, and none where the sink has failed before. Only a line with a number in it, and that of a region, take memory.
 pub(crate) fn say_stop<O: Sink>(alloc: Global, out: &mut O, stop: &Stop) -> u8
-    ensures { IsSaid (Err stop.now) (O.written out.old) (O.written out.new) (O.fault_count out.old) (O.fault_count out.new) result }
+    ensures said { stop.now ≢ stops.Write → IsSaid (Err stop.now) [] (O.written out.old) (O.written out.new) (O.fault_count out.old) (O.fault_count out.new) result }
+    ensures write { stop.now ≡ stops.Write → (result ≡ WRITE_FAULT) × (out.new ≡ out.old) }
 {
     match stop {
         Stop::Usage => say(out, USAGE, b"error usage\n"),
         Stop::BadLine(bad) => say_bad_line(alloc, out, *bad),
         Stop::InputLong => say(out, BAD_INPUT, b"error input long\n"),
         Stop::Read => say(out, READ_FAULT, b"error read\n"),
+        Stop::Write => WRITE_FAULT,
         Stop::Device => say(out, DEVICE_FAULT, b"error device\n"),
         Stop::Region(refusal) => say_refusal(alloc, out, refusal),
         Stop::NoMemory => say(out, NO_MEMORY, b"error no memory\n"),
@@ -191,7 +194,7 @@ pub(crate) fn say_stop<O: Sink>(alloc: Global, out: &mut O, stop: &Stop) -> u8
 }
 
 fn say_bad_line<O: Sink>(alloc: Global, out: &mut O, bad: BadLine) -> u8
-    ensures { IsSaid (Err (stops.BadLine bad)) (O.written out.old) (O.written out.new) (O.fault_count out.old) (O.fault_count out.new) result }
+    ensures { IsSaid (Err (stops.BadLine bad)) [] (O.written out.old) (O.written out.new) (O.fault_count out.old) (O.fault_count out.new) result }
 {
     let BadLine { number, why } = bad;
     let why = why_text(why);
@@ -221,7 +224,7 @@ fn why_text(why: Why) -> &'static str
 }
 
 fn say_refusal<O: Sink>(alloc: Global, out: &mut O, refusal: &Refusal) -> u8
-    ensures { IsSaid (Err (stops.Region refusal.now)) (O.written out.old) (O.written out.new) (O.fault_count out.old) (O.fault_count out.new) result }
+    ensures { IsSaid (Err (stops.Region refusal.now)) [] (O.written out.old) (O.written out.new) (O.fault_count out.old) (O.fault_count out.new) result }
 {
     match region_line_of(alloc, refusal) {
         Ok(line) => say(out, BAD_REGION, line.as_bytes()),

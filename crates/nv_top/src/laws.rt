@@ -92,8 +92,7 @@ pub fn fates_are_tied()
 
 /// What a command leaves of a region that was blank or good is so again, whatever the command came to, and whatever a power failure makes of it: it is
 /// good, or blank still as it was (`next`). A good one isn't refused by its bytes, nor for lines that are wanting, which is a law of its own
-/// ([`a_refused_region_shows_nothing`]): a next recovery or look is refused only where it is blank still, and a run only for too many files. It says nothing where the
-/// source tells an input that is no trace.
+/// ([`a_refused_region_shows_nothing`]): a next recovery or look is refused only where it is blank still, and a run only for too many files.
 ///
 /// A region that a run, a schedule, a recovery or a load has shown, or that a schedule has left whose turns are used up, is good, and has its lines
 /// (`made`): it is refused for nothing but too many files.

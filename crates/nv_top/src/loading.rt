@@ -35,7 +35,7 @@ pub(crate) fn run_load<R: Threads + Wait + Sync, T: Bench, G: Gate + Sync>(
     ensures ran { IfOk result (λ text. IfSome (T.state bench.old).told (λ holding. HasGenerated load holding (T.state bench.new).told text.items)) }
     ensures refused { (why : _) → result ≡ Err (stops.Region why)
         → IfSome (T.state bench.old).told (λ holding. IsRunRefused load_options holding (generated load).names (T.state bench.old) (T.state bench.new) why) }
-    ensures life { IfSome (T.state bench.old).told (λ was. LeavesRun load_options was (generated load) (T.state bench.new).told) }
+    ensures life { IfSome (T.state bench.old).told (λ was. LeavesRun load_options was (generated load) [] (T.state bench.new).told) }
     ensures cause { CountHasCause (T.state bench.old).faults (T.state bench.new).faults result }
 {
     images_follow_calls();

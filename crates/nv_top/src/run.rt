@@ -78,7 +78,7 @@ pub(crate) fn run_to_end<R: Threads + Wait + Sync, T: Bench, G: Gate + Sync>(
         HasRunOn show options holding (T.state bench.new).told (trace_run show trace.now) text.items)) }
     ensures refused { (why : _) → result ≡ Err (stops.Region why)
         → IfSome (T.state bench.old).told (λ holding. IsRunRefused options holding trace.now.names (T.state bench.old) (T.state bench.new) why) }
-    ensures life { IfSome (T.state bench.old).told (λ was. LeavesRun options was (trace_run show trace.now) (T.state bench.new).told) }
+    ensures life { IfSome (T.state bench.old).told (λ was. LeavesRun options was (trace_run show trace.now) [] (T.state bench.new).told) }
     ensures cause { CountHasCause (T.state bench.old).faults (T.state bench.new).faults result }
 {
     images_follow_calls();

@@ -74,7 +74,7 @@ pub(crate) fn schedule<T: Bench>(
     ensures turns { result ≡ Err stops.Turns → (T.state bench.new).picked ≡ options.image ∷ (T.state bench.old).picked }
     ensures used { result ≡ Err stops.Turns → IfSome (T.state bench.old).told (λ holding. HasUsedTurnsOn options (T.state bench.old) (T.state bench.new) holding trace.now) }
     ensures never_falls { (T.state bench.old).faults ≤ (T.state bench.new).faults }
-    ensures life { IfSome (T.state bench.old).told (λ was. LeavesRun options was trace.now (T.state bench.new).told) }
+    ensures life { IfSome (T.state bench.old).told (λ was. LeavesRun options was trace.now [] (T.state bench.new).told) }
     ensures followed { IfOk result (λ text. IfSome (T.state bench.old).told (λ holding.
         HasFollowed (Rose (T.state bench.old).faults (T.state bench.new).faults) options (T.state bench.old).picked holding (T.state bench.new) trace.now text.items)) }
     ensures refused { (why : _) → result ≡ Err (stops.Region why) → IfSome (T.state bench.old).told (λ holding. IsRunRefused options holding trace.now.names (T.state bench.old) (T.state bench.new) why
@@ -126,7 +126,7 @@ fn schedule_region<T: Bench>(
         → (T.state bench.old).told ≡ None }
     ensures turns { result ≡ Err stops.Turns → (T.state bench.new).picked ≡ options.image ∷ (T.state bench.old).picked }
     ensures life { (parts : List Part) (now : List Store) → AreNow (map T.Part.history opened.region.parts.items) parts → AreNow (map T.Store.history opened.stores.items) now
-        → IfSome (T.state bench.old).told (λ home. IsAway opened.region.names home → HasLived (basis_over opened.region options.pages (files_of now)) trace.now (line_counts parts) home.stores (T.state bench.new).told) }
+        → IfSome (T.state bench.old).told (λ home. IsAway opened.region.names home → HasLived (basis_over opened.region options.pages (files_of now)) trace.now [] (line_counts parts) home.stores (T.state bench.new).told) }
     ensures used { result ≡ Err stops.Turns → (parts : List Part) (now : List Store)
         → AreNow (map T.Part.history opened.region.parts.items) parts → AreNow (map T.Store.history opened.stores.items) now
         → IfSome (T.state bench.old).told (λ home. IsAway opened.region.names home
@@ -191,7 +191,7 @@ fn schedule_mount<T: Bench>(
         → basis.names ≡ (T.state bench.old).lent → (T.state bench.old).told ≡ None }
     ensures turns { result ≡ Err stops.Turns → (T.state bench.new).picked ≡ options.image ∷ (T.state bench.old).picked }
     ensures life { (basis : Basis) → BeginsMount basis trace.now mount pass → basis.names ≡ (T.state bench.old).lent
-        → IfSome (T.state bench.old).told (λ home. IsAway basis.names home → HasLived basis trace.now (mounted_lines (mount_of mount.board.opened) pass.spare) home.stores (T.state bench.new).told) }
+        → IfSome (T.state bench.old).told (λ home. IsAway basis.names home → HasLived basis trace.now [] (mounted_lines (mount_of mount.board.opened) pass.spare) home.stores (T.state bench.new).told) }
     ensures used { result ≡ Err stops.Turns → (basis : Basis) → BeginsMount basis trace.now mount pass → basis.names ≡ (T.state bench.old).lent
         → IfSome (T.state bench.old).told (λ home. IsAway basis.names home
         → HasUsedTurns (Rose (saturated ((T.state bench.old).faults + failed_before pass)) (T.state bench.new).faults)

@@ -1,4 +1,4 @@
-use Rattle.std.proofs.Common.{Ok, Err, inl, refl}
+use Rattle.std.proofs.Common.{[], Ok, Err, inl, refl, ap}
 use Rattle.nv_open.specs.declared.error.Refusal.{Refusal}
 use Rattle.nv_top.specs.declared.ending.TheConstants.{DONE}
 use Rattle.nv_top.specs.Headline.{HasRefusal, IsShown}
@@ -19,9 +19,10 @@ returns-in-Ok-clause-unrefused g c is command over has =
 pub returns-in-Ok-clause-came : goal.returns-in-Ok-clause-came
 returns-in-Ok-clause-came g c = (
   Ok c.in-Ok.text,
+  [],
   c.in-Ok.ensures,
-  said_by (Ok c.in-Ok.text) _ _ _ _ c.say.result DONE c.deref.result.now (inl (refl, c.deref.ensures.value)) c.say.ensures.front c.say.ensures.said c.say.ensures.fault c.say.ensures.sound,
+  said_by (Ok c.in-Ok.text) _ _ _ _ c.say.result DONE c.deref.result.now (λ is. cc) (inl (refl, c.deref.ensures.value)) c.say.ensures.front c.say.ensures.said c.say.ensures.fault c.say.ensures.sound,
 )
 
 pub returns-in-Err-clause-came : goal.returns-in-Err-clause-came
-returns-in-Err-clause-came g c = (Err c.in-Err.stop, c.in-Err.ensures, c.say_stop.ensures)
+returns-in-Err-clause-came g c = (Err c.in-Err.stop, [], c.in-Err.ensures, c.say_stop.ensures.said (λ is. (c.in-Err.ensures.write (ap Err is)).1 refl))

@@ -1,4 +1,4 @@
-use Rattle.std.proofs.Common.{◌∙◌, Err, Option, Some, map, refl, sym, subst, ap}
+use Rattle.std.proofs.Common.{◌∙◌, [], Err, Option, Some, map, refl, sym, subst, ap}
 use Rattle.std.specs.Prelude.{string_bytes}
 use Rattle.nv_bench.specs.Benches.{BenchState}
 use Rattle.nv_top.specs.Headline.{command_over}
@@ -42,7 +42,7 @@ returns-in_err-command g c =
     let faults = g.I.Source.fault_count c.args.src.now in
     let error = c.in_err-command.field-0.0 in
     let over = command_over g.B.Bench.can_lose_power (map string_bytes c.args.words.now) in
-    by_error c.from_residual.result (stop_of_words error) (λ result. HasReported over given given faults faults old old result) c.from_residual.ensures.1
+    by_error c.from_residual.result (stop_of_words error) (λ result. HasReported over given given faults faults old old [] result) c.from_residual.ensures.1
     (words_reported over given faults old error c.requires.ready.at_home (λ is. c.in_err-command.ensures.usage (ap Err is))
     (λ command is. life_unread command given old old c.images_follow_calls.ensures.quiet refl c.requires.ready.at_home.quiet))
 
@@ -51,7 +51,7 @@ returns-in-Run g c =
     let src = c.args.src.now in
     let new = c.run_input.new in
     let Reported : Option Command → Type 0 = λ over.
-    HasReported over (g.I.Source.left src) (g.I.Source.left new.src) (g.I.Source.fault_count src) (g.I.Source.fault_count new.src) (g.B.Bench.state c.args.bench.now) (g.B.Bench.state new.bench) c.run_input.result in
+    HasReported over (g.I.Source.left src) (g.I.Source.left new.src) (g.I.Source.fault_count src) (g.I.Source.fault_count new.src) (g.B.Bench.state c.args.bench.now) (g.B.Bench.state new.bench) [] c.run_input.result in
     subst Reported (sym (c.in_ok-command.ensures.command ∙ ap Some c.in-Run.is)) c.run_input.ensures
 
 pub returns-in-Sched : goal.returns-in-Sched
@@ -59,7 +59,7 @@ returns-in-Sched g c =
     let src = c.args.src.now in
     let new = c.schedule_input.new in
     let Reported : Option Command → Type 0 = λ over.
-    HasReported over (g.I.Source.left src) (g.I.Source.left new.src) (g.I.Source.fault_count src) (g.I.Source.fault_count new.src) (g.B.Bench.state c.args.bench.now) (g.B.Bench.state new.bench) c.schedule_input.result in
+    HasReported over (g.I.Source.left src) (g.I.Source.left new.src) (g.I.Source.fault_count src) (g.I.Source.fault_count new.src) (g.B.Bench.state c.args.bench.now) (g.B.Bench.state new.bench) [] c.schedule_input.result in
     subst Reported (sym (c.in_ok-command.ensures.command ∙ ap Some c.in-Sched.is)) c.schedule_input.ensures
 
 pub returns-in-Recover : goal.returns-in-Recover
@@ -69,10 +69,10 @@ returns-in-Recover g c =
     let given = g.I.Source.left c.args.src.now in
     let faults = g.I.Source.fault_count c.args.src.now in
     let made = c.recover.ensures in
-    subst (λ over. HasReported over given given faults faults old new c.recover.result) (sym (c.in_ok-command.ensures.command ∙ ap Some c.in-Recover.is))
+    subst (λ over. HasReported over given given faults faults old new [] c.recover.result) (sym (c.in_ok-command.ensures.command ∙ ap Some c.in-Recover.is))
     (counted_reported Recover given given faults old new c.recover.result c.requires.ready made.back (ap (λ (state : BenchState). state.settled) made.back) (ap (λ (state : BenchState). state.arms) made.back) made.cause
     refl tt (λ why is. recovery_refused given old new why (made.refused why is) (made.unwritten why is))
-    (if_told old.told (λ was. LeavesLife Recover given was new.told) (λ was told. record {
+    (if_told old.told (λ was. LeavesLife Recover given was [] new.told) (λ was told. record {
       stands = told_at old.told (λ was. HasHeader was.parts → TellsOf (StandsAsBefore was) new.told) was told made.standing;
       untouched = told_at old.told (λ was. ¬ (IsGood was.parts) → TellsOf (IsUntouched was) new.told) was told made.untouched;
     }))
@@ -86,9 +86,9 @@ returns-in-Look g c =
     let faults = g.I.Source.fault_count c.args.src.now in
     let files = c.in-Look.files in
     let made = c.look.ensures in
-    subst (λ over. HasReported over given given faults faults old new c.look.result) (sym (c.in_ok-command.ensures.command ∙ ap Some c.in-Look.is))
+    subst (λ over. HasReported over given given faults faults old new [] c.look.result) (sym (c.in_ok-command.ensures.command ∙ ap Some c.in-Look.is))
     (counted_reported (Look files) given given faults old new c.look.result c.requires.ready made.left (look_settled files old new made.left) (look_unarmed files old new made.left) made.cause
-    refl tt made.refused (if_told old.told (λ was. LeavesLife (Look files) given was new.told) (λ was told. tt)) made.shown)
+    refl tt made.refused (if_told old.told (λ was. LeavesLife (Look files) given was [] new.told) (λ was told. tt)) made.shown)
 
 pub returns-in-Gen : goal.returns-in-Gen
 returns-in-Gen g c =
@@ -97,6 +97,6 @@ returns-in-Gen g c =
     let given = g.I.Source.left c.args.src.now in
     let faults = g.I.Source.fault_count c.args.src.now in
     let made = c.run_load.ensures in
-    subst (λ over. HasReported over given given faults faults old new c.run_load.result) (sym (c.in_ok-command.ensures.command ∙ ap Some c.in-Gen.is))
+    subst (λ over. HasReported over given given faults faults old new [] c.run_load.result) (sym (c.in_ok-command.ensures.command ∙ ap Some c.in-Gen.is))
     (counted_reported (Gen c.in-Gen.load) given given faults old new c.run_load.result c.requires.ready made.back (ap (λ (state : BenchState). state.settled) made.back) (ap (λ (state : BenchState). state.arms) made.back) made.cause
     refl tt made.refused made.life made.ran)

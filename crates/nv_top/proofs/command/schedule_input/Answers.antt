@@ -1,4 +1,4 @@
-use Rattle.std.proofs.Common.{Err, refl, sym, subst, ap, inr}
+use Rattle.std.proofs.Common.{[], Err, refl, sym, subst, ap, inr}
 use Rattle.std.specs.Prelude.{IfSome, Some}
 use Rattle.std.proofs.lemmas.Result.{IfOk-weaker, on_ok_weaker}
 use Rattle.nv_plain.specs.Faults.{Rose}
@@ -10,7 +10,7 @@ use Rattle.nv_top.specs.Scheduling.{IsArmedAt, IsArmedAtSome}
 use Rattle.nv_top.specs.Stops.{stop_of_read}
 use Rattle.nv_words.specs.declared.words.Command.TheVariants.{Sched}
 use Rattle.nv_top.proofs.HeadlineLemmas.{of_held, of_read, schedule_refused}
-use Rattle.nv_top.proofs.LifeLemmas.{schedule_from, schedule_unopened}
+use Rattle.nv_top.proofs.LifeLemmas.{life_unread, schedule_from}
 use Rattle.nv_top.proofs.ReportedLemmas.{by_error, never_turns, read_reported, settled_reported, was_read}
 use Rattle.nv_top.proofs.command.schedule_input.Goals as goal
 
@@ -26,10 +26,10 @@ returns-in_err-trace g c =
     let now = g.I.Source.fault_count c.read_trace.new.src in
     let error = c.in_err-trace.field-0.0 in
     let command = Sched c.args.options in
-    by_error c.from_residual.result (stop_of_read error) (λ result. HasReported (Some command) given left before now old old result) c.from_residual.ensures.1
+    by_error c.from_residual.result (stop_of_read error) (λ result. HasReported (Some command) given left before now old old [] result) c.from_residual.ensures.1
     (read_reported command given left before now old error c.requires.ready.at_home (λ has. has) (λ turns. absurd (never_turns error turns)) c.in_err-trace.ensures.refused
     (λ is. c.in_err-trace.ensures.failed (ap Err is)) (λ other. c.in_err-trace.ensures.kept (λ is. other (cc)))
-    (schedule_unopened c.args.options given old old c.images_follow_calls.ensures.quiet refl c.requires.ready.at_home.quiet))
+    (life_unread command given old old c.images_follow_calls.ensures.quiet refl c.requires.ready.at_home.quiet))
 
 pub returns : goal.returns
 returns g c =
@@ -47,7 +47,7 @@ returns g c =
     let all = on_ok_weaker result
     (λ (all : IsArmedAt trace.tokens old new). of_read forms.Sched given trace (λ trace. IsArmedAt trace.tokens old new) read.form made.runnable read.whole all)
     made.all_cuts in
-    subst (λ now. HasReported (Some (Sched options)) given left faults now old new result) (sym (read.kept (λ is. cc)))
+    subst (λ now. HasReported (Some (Sched options)) given left faults now old new [] result) (sym (read.kept (λ is. cc)))
     (settled_reported (Sched options) given left faults old new result (made.back, made.picked) made.cause made.never_falls (λ followed. was_read forms.Sched given left trace read.whole read.at_end) (cuts, all) (λ is. (made.turns is, of_held forms.Sched given old.told trace (λ holding. HasUsedTurnsOn options old new holding) read.form made.runnable read.whole (made.used is)))
     (λ why is. schedule_refused options given old new trace why read.form made.runnable read.whole (made.refused why is))
     made.unarmed

@@ -8,9 +8,9 @@ use Rattle.nv_top.proofs.ending.say_refusal.Goals as goal
 pub returns-in-Ok : goal.returns-in-Ok
 returns-in-Ok g c =
     let line : c.as_bytes.result.now ≡ region_line c.args.refusal.now = search rules in
-    said_by (Err (Region c.args.refusal.now)) _ _ _ _ c.say.result BAD_REGION c.as_bytes.result.now (inl (refl, line)) c.say.ensures.front c.say.ensures.said c.say.ensures.fault c.say.ensures.sound
+    said_by (Err (Region c.args.refusal.now)) _ _ _ _ c.say.result BAD_REGION c.as_bytes.result.now (λ is. cc) (inl (refl, line)) c.say.ensures.front c.say.ensures.said c.say.ensures.fault c.say.ensures.sound
 
 pub returns-in-Err : goal.returns-in-Err
 returns-in-Err g c =
-    said_by (Err (Region c.args.refusal.now)) _ _ _ _ c.say-in-Err.result NO_MEMORY memory_line (inr (tt, refl, refl))
+    said_by (Err (Region c.args.refusal.now)) _ _ _ _ c.say-in-Err.result NO_MEMORY memory_line (λ is. cc) (inr (tt, refl, refl))
     c.say-in-Err.ensures.front c.say-in-Err.ensures.said c.say-in-Err.ensures.fault c.say-in-Err.ensures.sound

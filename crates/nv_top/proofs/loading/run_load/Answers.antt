@@ -1,4 +1,4 @@
-use Rattle.std.proofs.Common.{List, ℕ, ap, refl, sym, subst, arith}
+use Rattle.std.proofs.Common.{[], List, ℕ, ap, refl, sym, subst, arith}
 use Rattle.std.specs.Prelude.{IfOk, IfSome}
 use Rattle.std.proofs.lemmas.Result.{IfOk-weaker}
 use Rattle.nv_trace.specs.Shape.{IsWellFormed}
@@ -50,7 +50,7 @@ pub returns-clause-life : goal.returns-clause-life
 returns-clause-life g c =
     let old = g.T.Bench.state c.args.bench.now in
     let new = g.T.Bench.state c.run_to_end.new.bench in
-    let Left : RunOptions → Traced → Type 0 = λ options trace. IfSome old.told (λ was. LeavesRun options was trace new.told) in
+    let Left : RunOptions → Traced → Type 0 = λ options trace. IfSome old.told (λ was. LeavesRun options was trace [] new.told) in
     subst (λ (trace : Traced). Left load_options (trace_run (Summary c.args.load) trace)) c.in_ok-trace.ensures (subst (λ (options : RunOptions). Left options (trace_run (Summary c.args.load) c.in_ok-trace.trace)) c.options.ensures c.run_to_end.ensures.life)
 
 pub run_to_end-requires-clause-trace : goal.run_to_end-requires-clause-trace

@@ -1,4 +1,4 @@
-use Rattle.std.proofs.Common.{◌≡◌, ◌<◌, ◌∙◌, ℕ, List, All, Some, length, map, refl, sym, ap, subst}
+use Rattle.std.proofs.Common.{[], ◌≡◌, ◌<◌, ◌∙◌, ℕ, List, All, Some, length, map, refl, sym, ap, subst}
 use Rattle.std.specs.Prelude.{IfSome}
 use Rattle.std.proofs.lemmas.Result.{IfOk-weaker}
 use Rattle.nv_pmem.specs.Part.{Part}
@@ -105,7 +105,7 @@ returns-then-faults-before-clause-life g c =
     let region = c.in_ok-region.field-0.region in
     let stores = c.in_ok-region.field-0.stores.items in
     let ended = c.run_region-parts.result in
-    if_told old.told (λ was. LeavesRun c.args.options was trace after_it.told) (λ holding told.
+    if_told old.told (λ was. LeavesRun c.args.options was trace [] after_it.told) (λ holding told.
     let opened = told_at old.told _ holding told made.opened in
     let parts = present (map history region.parts.items) (told_at old.told _ holding told made.tell) in
     let basis = basis_over region c.args.options.pages (files_of opened.files.held) in
@@ -137,7 +137,7 @@ returns-clause-life g c =
     let region = c.in_ok-region.field-0.region in
     let stores = c.in_ok-region.field-0.stores.items in
     let ended = c.run_region-parts.result in
-    if_told old.told (λ was. LeavesRun c.args.options was trace after_it.told) (λ holding told.
+    if_told old.told (λ was. LeavesRun c.args.options was trace [] after_it.told) (λ holding told.
     let opened = told_at old.told _ holding told made.opened in
     let parts = present (map history region.parts.items) (told_at old.told _ holding told made.tell) in
     let basis = basis_over region c.args.options.pages (files_of opened.files.held) in

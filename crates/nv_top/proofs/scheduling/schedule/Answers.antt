@@ -174,7 +174,7 @@ returns-clause-life g c =
     let trace = c.args.trace.now in
     let made = c.in_ok-opened.ensures in
     let region = c.in_ok-opened.opened.region in
-    if_told old.told (λ was. LeavesRun c.args.options was trace new.told) (λ holding told.
+    if_told old.told (λ was. LeavesRun c.args.options was trace [] new.told) (λ holding told.
     let opened = told_at old.told _ holding told made.opened in
     let parts = present (map history region.parts.items) (told_at old.told _ holding told made.tell) in
     let basis = basis_over region c.args.options.pages (files_of opened.files.held) in
@@ -187,7 +187,7 @@ returns-clause-life g c =
         begun = begun;
         lived = lived_on basis trace (line_counts parts.states) (line_counts (opened_parts (Some begun.geometry) holding.parts)) holding.stores new.told
             (row_tells_at (map history region.parts.items) (λ now. line_counts now ≡ line_counts (opened_parts (Some begun.geometry) holding.parts)) parts.states parts.are (told_at old.told _ holding told made.lines))
-            (told_at mid.told (λ left. IsAway region.names left → HasLived basis trace (line_counts parts.states) left.stores new.told) left (mid_told old mid region.names holding made.lent c.requires.ready.at_home.home told)
+            (told_at mid.told (λ left. IsAway region.names left → HasLived basis trace [] (line_counts parts.states) left.stores new.told) left (mid_told old mid region.names holding made.lent c.requires.ready.at_home.home told)
             (c.schedule_region.ensures.life parts.states opened.files.held parts.are opened.files.are)
             (all_away region.names holding.stores (home_distinct old holding (g.met.T.Bench.named c.args.bench.now) told c.requires.ready.at_home.home)));
       });

@@ -141,7 +141,7 @@ returns g c =
       ];
       turns = stopped.turns;
       never_falls = omega (arith, same, stopped.never_falls);
-      life = if_told old.told (λ was. LeavesRun options was trace new.told) (λ holding told.
+      life = if_told old.told (λ was. LeavesRun options was trace [] new.told) (λ holding told.
           let opened = told_at old.told _ holding told made.opened in
           let parts = present (map history region.parts.items) (told_at old.told _ holding told made.tell) in
           let basis = basis_over region options.pages (files_of opened.files.held) in
@@ -154,7 +154,7 @@ returns g c =
               begun = begun;
               lived = lived_on basis trace (line_counts parts.states) (line_counts (opened_parts (Some begun.geometry) holding.parts)) holding.stores new.told
                   (row_tells_at (map history region.parts.items) (λ now. line_counts now ≡ line_counts (opened_parts (Some begun.geometry) holding.parts)) parts.states parts.are (told_at old.told _ holding told made.lines))
-                  (told_at mid.told (λ left. IsAway region.names left → HasLived basis trace (line_counts parts.states) left.stores new.told) left (mid_told old mid region.names holding made.lent at_home.home told)
+                  (told_at mid.told (λ left. IsAway region.names left → HasLived basis trace [] (line_counts parts.states) left.stores new.told) left (mid_told old mid region.names holding made.lent at_home.home told)
                   (stopped.life parts.states opened.files.held parts.are opened.files.are) (all_away region.names holding.stores (distinct holding told)));
             });
           });

@@ -171,7 +171,7 @@ returns-in_err-power-clause-life g c basis begins named =
     let held = map keeps came.stores.items in
     let many : length held ≡ mount.board.opened.sizes.files = length-map came.stores.items keeps ∙ ran.2.many_stores in
     let made = mounted_lines (mount_of mount.board.opened) pass.spare in
-    if_some start.told (λ left. IsAway basis.names left → HasLived basis trace made left.stores (state c.power.new.self).told) (λ left told_is away.
+    if_some start.told (λ left. IsAway basis.names left → HasLived basis trace [] made left.stores (state c.power.new.self).told) (λ left told_is away.
     let here = sym c.requires.board.same_mount in
     let there : mount.board.opened ≡ ran.0.view.opened = here ∙ sym out.mount in
     let life =
@@ -183,11 +183,11 @@ returns-in_err-power-clause-life g c basis begins named =
     let stay : AreLeftSo history keeps basis trace made came.parts.items came.stores.items = record { parts_tell = tell.0; stores_tell = tell.1; lines_are = counted; life = life } in
     let allowed : AreFileNames mount_layout basis.names = subst (λ names. AreFileNames mount_layout names) (sym named) c.requires.names in
     let whole : (holding : Holding) → home.told ≡ Some holding → AreWholeStores holding = λ holding is. g.met.T.Bench.whole c.give_back.new.self holding is in
-    let lived : HasLived basis trace made left.stores home.told = lived_home basis trace history keeps came.parts.items came.stores.items made home.told left.stores whole stay
+    let lived : HasLived basis trace [] made left.stores home.told = lived_home basis trace history keeps came.parts.items came.stores.items made home.told left.stores whole stay
     (λ disks are. all_behind basis.names left.stores (named_stores basis.names disks) away ∙ own_stores basis.names disks (begins.is_mount.names ∙ sym many ∙ sym (length_now held disks are)) allowed.distinct)
     (λ now disks now_are disks_are. given_home c.args.k start (state c.arm.new.self) home.told left parts held c.give_back.ensures.told c.arm.ensures told_is now disks now_are disks_are
     ∙ ap (λ names. Some (home_with left names now disks)) (sym named)) in
-    subst (λ told. HasLived basis trace made left.stores told) (sym (ap (λ (s : BenchState). s.told) c.in_err-power.ensures.memory)) lived)
+    subst (λ told. HasLived basis trace [] made left.stores told) (sym (ap (λ (s : BenchState). s.told) c.in_err-power.ensures.memory)) lived)
 
 pub returns-in_err-sorted-clause-life : goal.returns-in_err-sorted-clause-life
 returns-in_err-sorted-clause-life g c basis begins named =
@@ -207,7 +207,7 @@ returns-in_err-sorted-clause-life g c basis begins named =
     let held = map keeps came.stores.items in
     let many : length held ≡ mount.board.opened.sizes.files = length-map came.stores.items keeps ∙ ran.2.many_stores in
     let made = mounted_lines (mount_of mount.board.opened) pass.spare in
-    if_some start.told (λ left. IsAway basis.names left → HasLived basis trace made left.stores (state c.power.new.self).told) (λ left told_is away.
+    if_some start.told (λ left. IsAway basis.names left → HasLived basis trace [] made left.stores (state c.power.new.self).told) (λ left told_is away.
     let here = sym c.requires.board.same_mount in
     let there : mount.board.opened ≡ ran.0.view.opened = here ∙ sym out.mount in
     let life =
@@ -219,14 +219,14 @@ returns-in_err-sorted-clause-life g c basis begins named =
     let stay : AreLeftSo history keeps basis trace made came.parts.items came.stores.items = record { parts_tell = tell.0; stores_tell = tell.1; lines_are = counted; life = life } in
     let allowed : AreFileNames mount_layout basis.names = subst (λ names. AreFileNames mount_layout names) (sym named) c.requires.names in
     let whole : (holding : Holding) → home.told ≡ Some holding → AreWholeStores holding = λ holding is. g.met.T.Bench.whole c.give_back.new.self holding is in
-    let lived : HasLived basis trace made left.stores home.told = lived_home basis trace history keeps came.parts.items came.stores.items made home.told left.stores whole stay
+    let lived : HasLived basis trace [] made left.stores home.told = lived_home basis trace history keeps came.parts.items came.stores.items made home.told left.stores whole stay
     (λ disks are. all_behind basis.names left.stores (named_stores basis.names disks) away ∙ own_stores basis.names disks (begins.is_mount.names ∙ sym many ∙ sym (length_now held disks are)) allowed.distinct)
     (λ now disks now_are disks_are. given_home c.args.k start (state c.arm.new.self) home.told left parts held c.give_back.ensures.told c.arm.ensures told_is now disks now_are disks_are
     ∙ ap (λ names. Some (home_with left names now disks)) (sym named)) in
     let off = state c.power.new.self in
     let powers = ap (λ (s : BenchState). s.told) c.in_ok-power.ensures.off in
     let still = (at_some start.told IsQuietHolding left told_is c.requires.quiet).stores in
-    let powered_so : HasLived basis trace made left.stores off.told = lived_powered basis trace c.images_follow_calls.ensures.quiet c.power_leaves_an_image.ensures c.args.plan.image made left.stores still home.told off.told whole powers lived in
+    let powered_so : HasLived basis trace [] made left.stores off.told = lived_powered basis trace c.images_follow_calls.ensures.quiet c.power_leaves_an_image.ensures c.args.plan.image made left.stores still home.told off.told whole powers lived in
     powered_so)
 
 pub returns-clause-life : goal.returns-clause-life
@@ -247,7 +247,7 @@ returns-clause-life g c basis begins named =
     let held = map keeps came.stores.items in
     let many : length held ≡ mount.board.opened.sizes.files = length-map came.stores.items keeps ∙ ran.2.many_stores in
     let made = mounted_lines (mount_of mount.board.opened) pass.spare in
-    if_some start.told (λ left. IsAway basis.names left → HasLived basis trace made left.stores (state c.show_recovered.new.bench).told) (λ left told_is away.
+    if_some start.told (λ left. IsAway basis.names left → HasLived basis trace [] made left.stores (state c.show_recovered.new.bench).told) (λ left told_is away.
     let here = sym c.requires.board.same_mount in
     let there : mount.board.opened ≡ ran.0.view.opened = here ∙ sym out.mount in
     let life =
@@ -259,14 +259,14 @@ returns-clause-life g c basis begins named =
     let stay : AreLeftSo history keeps basis trace made came.parts.items came.stores.items = record { parts_tell = tell.0; stores_tell = tell.1; lines_are = counted; life = life } in
     let allowed : AreFileNames mount_layout basis.names = subst (λ names. AreFileNames mount_layout names) (sym named) c.requires.names in
     let whole : (holding : Holding) → home.told ≡ Some holding → AreWholeStores holding = λ holding is. g.met.T.Bench.whole c.give_back.new.self holding is in
-    let lived : HasLived basis trace made left.stores home.told = lived_home basis trace history keeps came.parts.items came.stores.items made home.told left.stores whole stay
+    let lived : HasLived basis trace [] made left.stores home.told = lived_home basis trace history keeps came.parts.items came.stores.items made home.told left.stores whole stay
     (λ disks are. all_behind basis.names left.stores (named_stores basis.names disks) away ∙ own_stores basis.names disks (begins.is_mount.names ∙ sym many ∙ sym (length_now held disks are)) allowed.distinct)
     (λ now disks now_are disks_are. given_home c.args.k start (state c.arm.new.self) home.told left parts held c.give_back.ensures.told c.arm.ensures told_is now disks now_are disks_are
     ∙ ap (λ names. Some (home_with left names now disks)) (sym named)) in
     let off = state c.power.new.self in
     let powers = ap (λ (s : BenchState). s.told) c.in_ok-power.ensures.off in
     let still = (at_some start.told IsQuietHolding left told_is c.requires.quiet).stores in
-    let powered_so : HasLived basis trace made left.stores off.told = lived_powered basis trace c.images_follow_calls.ensures.quiet c.power_leaves_an_image.ensures c.args.plan.image made left.stores still home.told off.told whole powers lived in
+    let powered_so : HasLived basis trace [] made left.stores off.told = lived_powered basis trace c.images_follow_calls.ensures.quiet c.power_leaves_an_image.ensures c.args.plan.image made left.stores still home.told off.told whole powers lived in
     let last = state c.show_recovered.new.bench in
     lived_recovered basis trace c.images_follow_calls.ensures.quiet off.told last.told
     (subst (λ told. IfSome told IsQuietHolding) (sym powers) (quiet_after c.args.plan.image home.told c.power_leaves_an_image.ensures whole)) made left.stores powered_so
