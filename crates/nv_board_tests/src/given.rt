@@ -1,6 +1,6 @@
 //! What the tests of a mount begin with: a region, the store of its file, and a mount over them; and how it ends.
 ghost use Rattle.std.specs.Prelude.{◌≡◌, ◌≤◌, [], ◌∷◌, length, map, All, IfOk};
-ghost use Rattle.nv_plain.specs.Layouts.{mount_layout};
+ghost use Rattle.nv_plain.specs.Layouts.{mount_layout, mount_version};
 ghost use Rattle.nv_plain.specs.declared.mode.Mode.TheVariants.{Rw, W};
 ghost use Rattle.nv_pmem.specs.MemPart.{part_history, part_room};
 ghost use Rattle.nv_pmem.specs.Moments.{Tells};
@@ -15,6 +15,7 @@ ghost use Rattle.nv_table.specs.state.Workspaces.{IsWorkspace};
 
 use nv_header::{Region, add_file, format};
 use nv_mount::{Fds, Mount};
+use nv_plain::limits::MOUNT_VERSION;
 use nv_plain::{Mode, NoMemory};
 use nv_pmem::{Fuse, Geometry, MemPart};
 use nv_store::MemStore;
@@ -29,7 +30,7 @@ fn blank_parts(alloc: Global, geometry: Geometry) -> Result<Vec<MemPart>, NoMemo
     ensures blank { IfOk result (λ parts. RowTells (map part_history parts.items) IsBlankRow) }
 {
     let mut parts = Vec::new(alloc);
-    parts.push(MemPart::new(alloc, 18)?)?;
+    parts.push(MemPart::new(alloc, MOUNT_VERSION.header_lines())?)?;
     for entry in 0..geometry.entries {
         let fuse = Fuse::new(alloc, &[])?;
         parts.push(MemPart::fused(alloc, 1 + geometry.page / 64, fuse)?)?;
@@ -39,13 +40,14 @@ fn blank_parts(alloc: Global, geometry: Geometry) -> Result<Vec<MemPart>, NoMemo
 
 // A region of so many entries of a page of 64 bytes, with the file `a`.
 pub(crate) fn region_of(alloc: Global, entries: u64) -> Result<Region<MemPart>, Fail>
+    ensures version { IfOk result (λ region. region.version ≡ mount_version) }
     ensures page { IfOk result (λ region. region.geometry.page ≡ 64) }
     ensures entries { IfOk result (λ region. region.geometry.entries ≡ entries) }
     ensures names { IfOk result (λ region. length region.names ≡ 1) }
 {
     let geometry = Geometry::new(64, entries)?;
     let parts = blank_parts(alloc, geometry)?;
-    let region = format(parts, geometry).map_err(|failed| failed.1)?;
+    let region = format(parts, MOUNT_VERSION, geometry).map_err(|failed| failed.1)?;
     let (region, _a) = add_file(alloc, region, b"a").map_err(|failed| failed.1)?;
     Ok(region)
 }
@@ -79,6 +81,7 @@ pub(crate) fn opened_with(
 ) -> Result<(Mount<MemPart, MemStore>, Pass<MemPart, MemStore>), Fail>
     requires some { 1 ≤ cache }
     requires few { cache ≤ 64 }
+    requires version { region.version ≡ mount_version }
     requires page { region.geometry.page ≡ 64 }
     requires names { length region.names ≡ 1 }
     requires one { length stores.items ≡ 1 }

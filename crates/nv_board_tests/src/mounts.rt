@@ -1,6 +1,6 @@
 //! Mounts that are opened and closed.
 ghost use Rattle.std.specs.Prelude.{◌≡◌, [], ◌∷◌, length, map, All, IfOk};
-ghost use Rattle.nv_plain.specs.Layouts.{mount_layout};
+ghost use Rattle.nv_plain.specs.Layouts.{mount_layout, mount_version};
 ghost use Rattle.nv_pmem.specs.MemPart.{part_history, part_room};
 ghost use Rattle.nv_pmem.specs.Moments.{Tells};
 ghost use Rattle.nv_pmem.specs.Rows.{RowTells};
@@ -29,6 +29,7 @@ fn opened(
     region: Region<MemPart>,
     stores: Vec<MemStore>,
 ) -> Result<(Mount<MemPart, MemStore>, Pass<MemPart, MemStore>), Unopened<MemPart, MemStore>>
+    requires version { region.version ≡ mount_version }
     requires names { length region.names ≡ 1 }
     requires one { length stores.items ≡ 1 }
     requires quiet { All (λ store. Tells (store_history store) IsQuietStore) stores.items }
@@ -76,6 +77,7 @@ fn closed_at_once<L: Lines + Drop, B: Backing + Drop>(
     region: Region<L>,
     stores: Vec<B>,
 ) -> Result<Result<Closed<L, B>, (Mount<L, B>, Pass<L, B>, PassesOut)>, Unopened<L, B>>
+    requires version { region.version ≡ mount_version }
     requires stores { length stores.items ≡ length region.names }
     requires quiet { All (λ store. Tells (B.history store) IsQuietStore) stores.items }
     ensures rest { (files : Files) → StoresHave (map B.history stores.items) files → AllDevicesTell (map L.history region.parts.items)

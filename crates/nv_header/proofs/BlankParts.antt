@@ -2,7 +2,7 @@
 use Rattle.std.proofs.Common.{◌≡◌, ℕ, ◌+◌, ◌/◌, ◌<◌, ◌≤◌, List, [], ◌∷◌, ◌++◌, length, map, replicate, get_or, slice_index_or, zero, suc, sym, ap, ◌∙◌, subst, arith, inl, inr, refl, length-append}
 use Rattle.std.proofs.lemmas.Bool.{cases_lt}
 use Rattle.std.proofs.lemmas.List.{get_or-replicate, get_or_past, get_or-map, get_or_append_left, get_or_push, length-map, length-replicate}
-use Rattle.nv_plain.specs.Layouts.{version_1}
+use Rattle.nv_plain.specs.Layouts.{Layout}
 use Rattle.nv_pmem.specs.Images.{IsQuietLine, IsQuietPart}
 use Rattle.nv_pmem.specs.MemPart.{IsBlankMemPart, part_history, part_room}
 use Rattle.nv_pmem.specs.Moments.{Tells}
@@ -61,13 +61,13 @@ blank_row row lines each =
     (row_tells_each row (λ i part. IsZeros part) (λ i inside. told_zeros (lines i) (slice_index_or row i []) (each i inside)))
 
 -- A part in memory is blank, and where it is the header's or an entry's it has its lines.
-pub record IsBlankPart (page entries i : ℕ) (part : MemPart) : Type 0 where
+pub record IsBlankPart (layout : Layout) (page entries i : ℕ) (part : MemPart) : Type 0 where
   pub blank : IsBlankMemPart (part_room part).lines part
-  pub lines : i ≤ entries → (part_room part).lines ≡ part_lines version_1 page i
+  pub lines : i ≤ entries → (part_room part).lines ≡ part_lines layout page i
 
 -- each of some parts is
-abbrev pub AreBlank : (page entries : ℕ) → List MemPart → Type 0
-AreBlank page entries parts = (i : ℕ) (none : MemPart) → i < length parts → IsBlankPart page entries i (get_or parts i none)
+abbrev pub AreBlank : Layout → (page entries : ℕ) → List MemPart → Type 0
+AreBlank layout page entries parts = (i : ℕ) (none : MemPart) → i < length parts → IsBlankPart layout page entries i (get_or parts i none)
 
 roomy : (lines : ℕ) (part : MemPart) → IsBlankMemPart (part_room part).lines part → (part_room part).lines ≡ lines → IsRoomy lines (part_room part)
 roomy lines part blank lines_is = record {
@@ -76,31 +76,31 @@ roomy lines part blank lines_is = record {
 }
 
 -- They have the room of a region's parts,
-pub blank_has_parts : (page entries : ℕ) (parts : List MemPart) → 1 + entries ≤ length parts → AreBlank page entries parts → HasParts version_1 page entries (map part_room parts)
-blank_has_parts page entries [] count are = absurd (omega arith)
-blank_has_parts page entries (first ∷ rest) count are =
+pub blank_has_parts : (layout : Layout) (page entries : ℕ) (parts : List MemPart) → 1 + entries ≤ length parts → AreBlank layout page entries parts → HasParts layout page entries (map part_room parts)
+blank_has_parts layout page entries [] count are = absurd (omega arith)
+blank_has_parts layout page entries (first ∷ rest) count are =
     let parts = first ∷ rest in
     record {
       count = omega (arith, length-map parts part_room);
       each = λ i none within.
-          let At : Room → Type 0 = IsRoomy (part_lines version_1 page i) in
+          let At : Room → Type 0 = IsRoomy (part_lines layout page i) in
           let inside : i < length parts = omega arith in
           let part = are i first inside in
-          subst At (sym (get_or-map part_room parts i first none inside)) (roomy (part_lines version_1 page i) (get_or parts i first) part.blank (part.lines within));
+          subst At (sym (get_or-map part_room parts i first none inside)) (roomy (part_lines layout page i) (get_or parts i first) part.blank (part.lines within));
     }
 
 -- and are a blank region.
-pub blank_tells : (page entries : ℕ) (parts : List MemPart) → AreBlank page entries parts → RowTells (map part_history parts) IsBlankRow
-blank_tells page entries [] are = blank_row [] (λ i. 0) (λ i below. absurd (omega arith))
-blank_tells page entries (first ∷ rest) are =
+pub blank_tells : (layout : Layout) (page entries : ℕ) (parts : List MemPart) → AreBlank layout page entries parts → RowTells (map part_history parts) IsBlankRow
+blank_tells layout page entries [] are = blank_row [] (λ i. 0) (λ i below. absurd (omega arith))
+blank_tells layout page entries (first ∷ rest) are =
     let parts = first ∷ rest in
     blank_row (map part_history parts) (λ i. (part_room (get_or parts i first)).lines) (λ i below.
     let inside : i < length parts = omega (arith, length-map parts part_history) in
     get_or-map part_history parts i first [] inside ∙ (are i first inside).blank.history)
 
-one_more : (page entries : ℕ) (parts : List MemPart) (part : MemPart) (lines : ℕ) → AreBlank page entries parts → (length parts ≤ entries → lines ≡ part_lines version_1 page (length parts)) → IsBlankMemPart lines part → AreBlank page entries (parts ++ part ∷ [])
-one_more page entries parts part lines are lines_is blank i none below =
-    let At : MemPart → Type 0 = IsBlankPart page entries i in
+one_more : (layout : Layout) (page entries : ℕ) (parts : List MemPart) (part : MemPart) (lines : ℕ) → AreBlank layout page entries parts → (length parts ≤ entries → lines ≡ part_lines layout page (length parts)) → IsBlankMemPart lines part → AreBlank layout page entries (parts ++ part ∷ [])
+one_more layout page entries parts part lines are lines_is blank i none below =
+    let At : MemPart → Type 0 = IsBlankPart layout page entries i in
     elim (cases_lt i (length parts)) [
       | inl before ↦ subst At (sym (get_or_append_left parts (part ∷ []) none i before)) (are i none before)
       | inr last ↦
@@ -109,20 +109,20 @@ one_more page entries parts part lines are lines_is blank i none below =
           subst At (sym (get_or_push parts part none i (sym here)))
           (record {
             blank = subst Lines (sym blank.count) blank;
-            lines = λ within. blank.count ∙ lines_is (omega arith) ∙ ap (part_lines version_1 page) (sym here);
+            lines = λ within. blank.count ∙ lines_is (omega arith) ∙ ap (part_lines layout page) (sym here);
           })
     ]
 
 -- a part behind the header's has an entry's lines
-pub entry_part : (page i : ℕ) → 1 ≤ i → 1 + page / 64 ≡ part_lines version_1 page i
-entry_part page zero behind = absurd (omega arith)
-entry_part page (suc i) behind = refl
+pub entry_part : (layout : Layout) (page i : ℕ) → 1 ≤ i → 1 + page / 64 ≡ part_lines layout page i
+entry_part layout page zero behind = absurd (omega arith)
+entry_part layout page (suc i) behind = refl
 
 -- blank parts, and one more behind them
-pub part_more : (page entries : ℕ) (parts new : List MemPart) (part : MemPart) (lines : ℕ) → new ≡ parts ++ part ∷ [] → AreBlank page entries parts → (length parts ≤ entries → lines ≡ part_lines version_1 page (length parts)) → IsBlankMemPart lines part
-    → (length new ≡ length parts + 1) × AreBlank page entries new
-part_more page entries parts new part lines new_is are lines_is blank =
-    let At : List MemPart → Type 0 = AreBlank page entries in (
+pub part_more : (layout : Layout) (page entries : ℕ) (parts new : List MemPart) (part : MemPart) (lines : ℕ) → new ≡ parts ++ part ∷ [] → AreBlank layout page entries parts → (length parts ≤ entries → lines ≡ part_lines layout page (length parts)) → IsBlankMemPart lines part
+    → (length new ≡ length parts + 1) × AreBlank layout page entries new
+part_more layout page entries parts new part lines new_is are lines_is blank =
+    let At : List MemPart → Type 0 = AreBlank layout page entries in (
       omega (arith, ap length new_is, length-append parts (part ∷ [])),
-      subst At (sym new_is) (one_more page entries parts part lines are lines_is blank),
+      subst At (sym new_is) (one_more layout page entries parts part lines are lines_is blank),
     )

@@ -2,7 +2,8 @@
 use Rattle.std.proofs.Common.{◌≡◌, ℕ, ◌<◌, ◌≤◌, inl, inr, List, [], ◌∷◌, length, map, get_or, slice_index_or, slice_set, zero, suc, sym, ap, ◌∙◌, subst, arith}
 use Rattle.std.proofs.lemmas.Bool.{cases_eq}
 use Rattle.std.proofs.lemmas.List.{get_or_default, get_or-map, map-set, length-map, length-set, get_or-set_same, get_or-set_other}
-use Rattle.nv_plain.specs.Layouts.{Layout, version_1}
+use Rattle.nv_plain.specs.Layouts.{Layout, layout_of}
+use Rattle.nv_plain.specs.declared.limits.Version.{Version}
 use Rattle.nv_pmem.specs.Moments.{Tells}
 use Rattle.nv_pmem.specs.Part.{Part}
 use Rattle.nv_pmem.specs.Room.{Room, Keeps, Takes, Frees, Settles}
@@ -10,7 +11,8 @@ use Rattle.nv_pmem.specs.Rows.{RowTells}
 use Rattle.nv_pmem.specs.Steps.{PartHistory}
 use Rattle.nv_pmem.proofs.StepLaws.{tells_told}
 use Rattle.nv_pmem.proofs.RowLaws.{EachPart, row_tells_each, row_tells_more}
-use Rattle.nv_header.specs.Regions.{part_lines, IsRoomy, StaysRoomy, HasParts}
+use Rattle.nv_header.proofs.VersionLaws.{sizes}
+use Rattle.nv_header.specs.Regions.{part_lines, IsRoomy, StaysRoomy, HasParts, IsRegion}
 
 -- ---- room
 
@@ -62,6 +64,13 @@ has_parts_set room layout page entries parts i was new d inside is stays has =
       ];
     })
 
+-- ---- versions
+
+-- a region of a version that is known
+pub region_as : {version other : Version} {page entries : ℕ} {names : List (List ℕ)} {next : ℕ} {rooms : List Room} {row : List PartHistory} → version ≡ other
+    → IsRegion (layout_of version) page entries names next rooms row → IsRegion (layout_of other) page entries names next rooms row
+region_as {page = page} {entries} {names} {next} {rooms} {row} same region = subst (λ (one : Version). IsRegion (layout_of one) page entries names next rooms row) same region
+
 -- ---- what the parts tell
 
 -- The parts of the header and of each entry have their lines.
@@ -95,9 +104,11 @@ told_room history room layout page entries (first ∷ rest) told has =
     told_lines_at history room layout page entries parts i was told has inside (get_or_default parts i first was inside)))
 
 -- line 0 of any part is there, and can be stored to
-pub roomy_line_0 : (page i : ℕ) (room : Room) → IsRoomy (part_lines version_1 page i) room → (0 < room.lines) × (1 ≤ room.spare 0)
-roomy_line_0 page zero room roomy = (omega (arith, roomy.there), omega (arith, roomy.spare 0 (omega arith)))
-roomy_line_0 page (suc i) room roomy = (omega (arith, roomy.there), omega (arith, roomy.spare 0 (omega arith)))
+pub roomy_line_0 : (version : Version) (page i : ℕ) (room : Room) → IsRoomy (part_lines (layout_of version) page i) room → (0 < room.lines) × (1 ≤ room.spare 0)
+roomy_line_0 version page zero room roomy =
+    let some : 0 < (layout_of version).header_lines = omega (arith, (sizes version).first, (sizes version).names) in
+    (omega (arith, roomy.there), omega (arith, roomy.spare 0 some))
+roomy_line_0 version page (suc i) room roomy = (omega (arith, roomy.there), omega (arith, roomy.spare 0 (omega arith)))
 
 -- a line stored to, flushed and fenced
 pub stays_stored : {old stored flushed new : Room} (count line : ℕ) → Takes count line old stored → Keeps stored flushed → 15 ≤ flushed.after_fence line → Keeps flushed new → Frees flushed new → StaysRoomy old new

@@ -1,10 +1,14 @@
+pub mod VersionLaws
+pub mod RecordSteps
 pub mod Records
 pub mod RefusalLaws
+pub mod UnreadLaws
 pub mod Counts
 pub mod InRow
+pub mod NotedLaws
 pub mod Clearing
 pub mod FormatLaws
-pub mod OneLine
+pub mod RecordWords
 pub mod AddLaws
 pub mod NewNames
 pub mod FileNameLaws

@@ -38,13 +38,18 @@ name_record layout name = to_le_bytes w64 (length name) ++ padded name (64 * lay
 abbrev pub record_part : Layout → List ℕ → ℕ → List ℕ
 record_part layout name k = take 64 (drop (64 * k) (name_record layout name))
 
--- The record of name i is made durable: each of its lines is stored and flushed, and a fence comes last.
+-- line k of the record of name i is stored and flushed
+unfoldable pub record_line_steps : Layout → (i : ℕ) → List ℕ → (k : ℕ) → List LineStep
+record_line_steps layout i name k =
+    line_stores (record_line layout i + k) (record_part layout name k) ++ Flush (record_line layout i + k) ∷ []
+
+-- and so is each of its lines
+unfoldable pub record_lines_steps : Layout → (i : ℕ) → List ℕ → List LineStep
+record_lines_steps layout i name = flat_map (record_line_steps layout i name) (range_with_len 0 layout.lines_per_name)
+
+-- The record of name i is made durable: a fence comes last.
 unfoldable pub record_steps : Layout → (i : ℕ) → List ℕ → List LineStep
-record_steps layout i name =
-    flat_map
-    (λ k. line_stores (record_line layout i + k) (record_part layout name k) ++ Flush (record_line layout i + k) ∷ [])
-    (range_with_len 0 layout.lines_per_name)
-    ++ Fence ∷ []
+record_steps layout i name = record_lines_steps layout i name ++ Fence ∷ []
 
 -- A name is added as name i: its record first, and then the count of the names.
 unfoldable pub add_file_steps : Layout → (i : ℕ) → List ℕ → List LineStep

@@ -1,6 +1,8 @@
 pub mod FileNames
 pub mod Heads
 pub mod Refusals
+pub mod Unread
+pub mod Noted
 pub mod Fields
 pub mod NextName
 pub mod Needs

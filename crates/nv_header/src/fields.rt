@@ -1,15 +1,16 @@
 //! The fields of a header.
-ghost use Rattle.std.specs.Prelude.{◌≡◌, ◌≤◌, IfOk, IfErr};
+ghost use Rattle.std.specs.Prelude.{◌≡◌, ◌≤◌, IfOk, IfErr, OnOk};
 ghost use Rattle.nv_plain.specs.Faults.{HasCause};
-ghost use Rattle.nv_plain.specs.Layouts.{version_1};
+ghost use Rattle.nv_plain.specs.Layouts.{layout_of};
 ghost use Rattle.nv_pmem.specs.Moments.{Tells};
 ghost use Rattle.nv_pmem.specs.Room.{Keeps};
 ghost use Rattle.nv_header.specs.Fields.{fields_in, header_in};
 ghost use Rattle.nv_header.specs.Heads.{HasFields};
-ghost use Rattle.nv_header.specs.Refusals.{IsBadField, IsNotTruncated};
+ghost use Rattle.nv_header.specs.Refusals.{IsBadField, IsNotTruncated, IsOurs};
+ghost use Rattle.nv_header.specs.Unread.{IsOfNoVersion};
 
-use crate::head::{HeadError, HeadField, MAGIC, TAIL_LIMIT, VERSION};
-use nv_plain::limits::FILE_LIMIT;
+use crate::head::{HeadError, HeadField, MAGIC, TAIL_LIMIT};
+use nv_plain::limits::Version;
 use nv_pmem::{Geometry, LineFault, Lines, RegionFault};
 
 /// The fields of a header as they read.
@@ -25,7 +26,7 @@ pub(crate) struct Fields {
 
 impl Fields {
     pub(crate) fn load<L: Lines>(part: &mut L) -> Result<Self, RegionFault>
-        requires lines { version_1.header_lines ≤ (L.room part.old).lines }
+        requires lines { 2 ≤ (L.room part.old).lines }
         ensures fields { IfOk result (λ fields. Tells (L.history part.old) (λ now. fields ≡ fields_in now)) }
         ensures history { L.history part.new ≡ L.history part.old }
         ensures room { Keeps (L.room part.old) (L.room part.new) }
@@ -42,24 +43,50 @@ impl Fields {
         })
     }
 
-    /// The geometry, where each field is as it has to be.
-    pub(crate) fn check(&self) -> Result<Geometry, HeadError>
-        ensures good { IfOk result (λ geometry. HasFields version_1 (header_in self.now)) }
-        ensures page { IfOk result (λ geometry. geometry.page ≡ self.now.page) }
-        ensures entries { IfOk result (λ geometry. geometry.entries ≡ self.now.entries) }
-        ensures bad { IfErr result (λ e. IsBadField version_1 (header_in self.now) e) }
+    /// The version of the header, where it is a region's.
+    pub(crate) fn version(&self) -> Result<Version, HeadError>
+        ensures ours { IfOk result (λ version. IsOurs (layout_of version) (header_in self.now)) }
+        ensures bad { IfErr result (λ e. IsOfNoVersion (header_in self.now) e) }
+    {
+        if self.magic != MAGIC {
+            return Err(HeadError::BadMagic);
+        }
+        match Version::of_number(self.version) {
+            Some(version) => Ok(version),
+            None => Err(HeadError::BadVersion {
+                found: self.version,
+            }),
+        }
+    }
+
+    /// That the header is a region's, of this version.
+    pub(crate) fn check_version(&self, version: Version) -> Result<(), HeadError>
+        ensures ours { OnOk result (IsOurs (layout_of version) (header_in self.now)) }
+        ensures bad { IfErr result (λ e. IsBadField (layout_of version) (header_in self.now) e) }
         ensures lines { IfErr result IsNotTruncated }
     {
         if self.magic != MAGIC {
             return Err(HeadError::BadMagic);
         }
-        if self.version != VERSION {
+        if self.version != version.number() {
             return Err(HeadError::BadVersion {
                 found: self.version,
             });
         }
+        Ok(())
+    }
+
+    /// The geometry, where each field is within the limits of the header's version.
+    pub(crate) fn geometry(&self, version: Version) -> Result<Geometry, HeadError>
+        requires { IsOurs (layout_of version) (header_in self.now) }
+        ensures good { IfOk result (λ geometry. HasFields (layout_of version) (header_in self.now)) }
+        ensures page { IfOk result (λ geometry. geometry.page ≡ self.now.page) }
+        ensures entries { IfOk result (λ geometry. geometry.entries ≡ self.now.entries) }
+        ensures bad { IfErr result (λ e. IsBadField (layout_of version) (header_in self.now) e) }
+        ensures lines { IfErr result IsNotTruncated }
+    {
         let geometry = Geometry::new(self.page, self.entries)?;
-        if self.files > FILE_LIMIT {
+        if self.files > version.file_limit() {
             return Err(HeadError::BadGeometry {
                 field: HeadField::Files,
                 found: self.files,

@@ -1,12 +1,10 @@
 //! What a header says, and why it is refused.
 use crate::Names;
 use nv_plain::NoMemory;
+use nv_plain::limits::Version;
 use nv_pmem::{BadGeometry, Geometry, GeometryField, RegionFault};
 use std::alloc::{AllocError, AllocFailed};
 use thiserror::Error;
-
-/// The line of the first name's record. Each record is one line.
-pub(crate) const NAME_LINE: u64 = 2;
 
 /// The greatest tail.
 pub(crate) const TAIL_LIMIT: u64 = 1 << 60;
@@ -14,12 +12,10 @@ pub(crate) const TAIL_LIMIT: u64 = 1 << 60;
 /// The bytes `NVCACHE1`, little-endian.
 pub(crate) const MAGIC: u64 = 0x3145_4843_4143_564e;
 
-/// The version of the region's layout.
-pub(crate) const VERSION: u64 = 1;
-
 /// What the header of a region says.
 #[derive(Debug, Drop)]
 pub struct Head {
+    pub version: Version,
     pub geometry: Geometry,
     /// The names of the files, in their order.
     pub names: Names,
@@ -36,7 +32,8 @@ pub enum HeadField {
     Tail,
 }
 
-/// Why a region's header isn't read. Those up to `BadName` are tested in this order.
+/// Why a region's header isn't read. Those up to `BadName` are tested in this order, but that the lines of the header's own
+/// version are counted once that is known.
 #[derive(Clone, Copy, Debug, PartialEq, Eq, Error)]
 pub enum HeadError {
     /// There is no part 0, or it has too few lines.

@@ -1,13 +1,16 @@
 //! Laws of headers.
 ghost use Rattle.nv_header.specs.Laws.{StandsForItsStores, EmptyLogRecoversNothing, LinesMakeParts, TailIsOldOrNew, TailIsMoved, TailEndsQuiet};
 ghost use Rattle.nv_header.specs.Refusals.{ReadIsNotRefused, IsRefusedOnce};
+ghost use Rattle.nv_header.specs.Unread.{HeadIsNotUnread, IsUnreadOnce};
 
 /// A header has one answer: one that can be read is refused for none of its words, and one that can't be read is
-/// refused for one reason. So the refusals of `read_head` come exactly where they are stated, but that a fault, or want
-/// of memory, may come in their place.
+/// refused for one reason: as one of a given version, and as one of whatever version. So the refusals of `read_head` and
+/// `read_head_of` come exactly where they are stated, but that a fault, or want of memory, may come in their place.
 pub fn a_header_has_one_answer()
     ensures read { ReadIsNotRefused }
     ensures refused { IsRefusedOnce }
+    ensures not_unread { HeadIsNotUnread }
+    ensures unread { IsUnreadOnce }
 {}
 
 /// What a region with an empty log stands for: the bytes of its stores, and so does a blank one. So [`format`](crate::format)

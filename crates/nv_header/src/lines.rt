@@ -1,11 +1,11 @@
 //! Whether the parts of a region have the lines that they need.
 ghost use Rattle.std.specs.Prelude.{◌≡◌, ◌*◌, ◌≤◌, ◌↔◌, length, map, min, sum_by, IfErr, IsOk};
 ghost use Rattle.nv_pmem.specs.Limits.{entry_lines as needed};
-ghost use Rattle.nv_plain.specs.Layouts.{version_1};
+ghost use Rattle.nv_plain.specs.Layouts.{layout_of};
 ghost use Rattle.nv_header.specs.Needs.{HasLines, lines_wanted, lines_found};
 
 use crate::head::Head;
-use nv_plain::limits::HEADER_LINES;
+use nv_plain::limits::Version;
 use nv_pmem::{Geometry, Lines};
 use thiserror::Error;
 
@@ -19,18 +19,19 @@ pub struct Truncated {
     pub wanted: u64,
 }
 
-/// Checks that the parts have the lines that the region of this head needs: 18 of the header, and for each entry one
+/// Checks that the parts have the lines that the region of this head needs: those of the header, and for each entry one
 /// of fields and its page. Lines and parts beyond these are not looked at. Takes no memory.
 pub fn check_lines<L: Lines>(parts: &[L], head: &Head) -> Result<(), Truncated>
-    ensures exact { IsOk result ↔ HasLines version_1 head.now.geometry.page head.now.geometry.entries
+    ensures exact { IsOk result ↔ HasLines (layout_of head.now.version) head.now.geometry.page head.now.geometry.entries
         (map L.room parts.now) }
-    ensures found { IfErr result (λ lack. lack.found ≡ lines_found version_1 head.now.geometry.page head.now.geometry.entries
+    ensures found { IfErr result (λ lack. lack.found ≡ lines_found (layout_of head.now.version) head.now.geometry.page head.now.geometry.entries
         (map L.room parts.now)) }
     ensures wanted { IfErr result (λ lack. lack.wanted ≡
-        lines_wanted version_1 head.now.geometry.page head.now.geometry.entries) }
+        lines_wanted (layout_of head.now.version) head.now.geometry.page head.now.geometry.entries) }
 {
-    let found = found_lines(parts, &head.geometry);
-    let wanted = HEADER_LINES + head.geometry.entries * entry_lines(head.geometry.page);
+    let found = found_lines(parts, head.version, &head.geometry);
+    let wanted = head.version.header_lines()
+        + head.geometry.entries * entry_lines(head.geometry.page);
     if found == wanted {
         Ok(())
     } else {
@@ -39,15 +40,15 @@ pub fn check_lines<L: Lines>(parts: &[L], head: &Head) -> Result<(), Truncated>
 }
 
 // Of the lines that a region needs, those that its parts have.
-fn found_lines<L: Lines>(parts: &[L], geometry: &Geometry) -> u64
-    ensures { result ≡ lines_found version_1 geometry.now.page geometry.now.entries
+fn found_lines<L: Lines>(parts: &[L], version: Version, geometry: &Geometry) -> u64
+    ensures { result ≡ lines_found (layout_of version) geometry.now.page geometry.now.entries
         (map L.room parts.now) }
 {
     match parts {
         [] => 0,
         [header, others @ ..] => {
             let count = others.len().min(geometry.entries as usize);
-            HEADER_LINES.min(header.lines())
+            version.header_lines().min(header.lines())
                 + lines_up_to(&others[..count], entry_lines(geometry.page))
         }
     }

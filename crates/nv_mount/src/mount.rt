@@ -1,6 +1,7 @@
 //! The mount: the board of a region and its stores, and the descriptors of its files.
 ghost use Rattle.std.specs.Prelude.{◌≡◌, ◌+◌, ◌<◌, ◌≤◌, length, map, sum_by, All, IfOk, IfErr, OnOk};
 ghost use Rattle.nv_plain.specs.Faults.{Rose};
+ghost use Rattle.nv_plain.specs.Layouts.{mount_version};
 ghost use Rattle.nv_plain.specs.Files.{Files};
 ghost use Rattle.nv_pmem.specs.Moments.{Tells};
 ghost use Rattle.nv_pmem.specs.Rows.{RowTells};
@@ -82,6 +83,7 @@ impl<L: Lines + Drop, B: Backing + Drop> Mount<L, B> {
         pages: u64,
         cache: u64,
     ) -> Result<(Mount<L, B>, Pass<L, B>), Unopened<L, B>>
+        requires version { region.version ≡ mount_version }
         requires stores { length stores.items ≡ length region.names }
         requires quiet { All (λ store. Tells (B.history store) IsQuietStore) stores.items }
         requires fds { All (λ fd. fd.file < length region.names) fds }
@@ -104,6 +106,7 @@ impl<L: Lines + Drop, B: Backing + Drop> Mount<L, B> {
         ensures spare { IfOk result (λ made. AllDevicesTell (map L.history region.parts.items) → All IsTelling made.1.spare) }
         ensures counts { IfOk result (λ made. failed_before made.1 ≡ sum_by L.fault_count region.parts.items + sum_by B.fault_count stores.items) }
         ensures parts_back { IfErr result (λ failed. failed.region.parts.items ≡ region.parts.items) }
+        ensures version_back { IfErr result (λ failed. failed.region.version ≡ region.version) }
         ensures geometry_back { IfErr result (λ failed. failed.region.geometry ≡ region.geometry) }
         ensures names_back { IfErr result (λ failed. failed.region.names ≡ region.names) }
         ensures next_back { IfErr result (λ failed. failed.region.next ≡ region.next) }

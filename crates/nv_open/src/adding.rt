@@ -1,6 +1,6 @@
 //! The names that are wanted and not there are added.
 ghost use Rattle.std.specs.Prelude.{◌≡◌, ◌+◌, ◌++◌, map, sum_by, Err, IfOk, IfErr};
-ghost use Rattle.nv_plain.specs.Layouts.{version_1};
+ghost use Rattle.nv_plain.specs.Layouts.{mount_version, version_1};
 ghost use Rattle.nv_pmem.specs.Rows.{InEachRowImage};
 ghost use Rattle.nv_header.specs.FileNames.{AreFileNames};
 ghost use Rattle.nv_header.specs.Changes.{parts_after_format};
@@ -36,7 +36,9 @@ pub(crate) fn add_names<L: Lines + Drop>(
     region: Region<L>,
     names: &Names,
 ) -> Result<Region<L>, (Vec<L>, OpenError)>
-    requires { AreFileNames version_1 (region.names ++ names.now) }
+    requires version { region.version ≡ mount_version }
+    requires names { AreFileNames version_1 (region.names ++ names.now) }
+    ensures version { IfOk result (λ added. added.version ≡ mount_version) }
     ensures names { IfOk result (λ added. added.names ≡ region.names ++ names.now) }
     ensures geometry { IfOk result (λ added. added.geometry ≡ region.geometry) }
     ensures next { IfOk result (λ added. added.next ≡ region.next) }

@@ -1,6 +1,6 @@
 //! A blank region of a bench is formatted.
 ghost use Rattle.std.specs.Prelude.{◌≡◌, All, true, map, sum_by, IfOk, IfErr};
-ghost use Rattle.nv_plain.specs.Layouts.{version_1};
+ghost use Rattle.nv_plain.specs.Layouts.{mount_version, version_1};
 ghost use Rattle.nv_plain.specs.Faults.{HasCause};
 ghost use Rattle.nv_pmem.specs.Rows.{RowTells, AreOnlyRead, InEachRowImage};
 ghost use Rattle.nv_bench.specs.Opening.{is_blank};
@@ -17,6 +17,7 @@ ghost use Rattle.nv_open.specs.declared.error.OpenError.TheVariants as error;
 
 use crate::OpenError;
 use nv_header::{Head, Names, Region, check_lines, format, needed_lines_make_parts};
+use nv_plain::limits::MOUNT_VERSION;
 use nv_pmem::{Geometry, Lines, RegionFault, loads_follow_calls, rows_have_states};
 use std::alloc::Global;
 
@@ -28,6 +29,7 @@ pub(crate) fn format_parts<L: Lines + Drop>(
 ) -> Result<Region<L>, (Vec<L>, OpenError)>
     requires blank { RowTells (map L.history parts.items) IsBlankRow }
     requires spare { All HasSpare (map L.room parts.items) }
+    ensures version { IfOk result (λ region. region.version ≡ mount_version) }
     ensures formatted { IfOk result (λ region. IsFormatted geometry region.geometry.page region.geometry.entries region.names region.next) }
     ensures lines { HaveSameLines (map L.history parts.items) (map L.history (parts_after_format result)) }
     ensures tell { AllTell (map L.history parts.items) → IfOk result (λ region. AllTell (map L.history region.parts.items)) }
@@ -41,6 +43,7 @@ pub(crate) fn format_parts<L: Lines + Drop>(
 {
     rows_have_states();
     let head = Head {
+        version: MOUNT_VERSION,
         geometry,
         names: Names::new(alloc),
         tail: 0,
@@ -49,7 +52,7 @@ pub(crate) fn format_parts<L: Lines + Drop>(
         return Err((parts, lack.into()));
     }
     needed_lines_make_parts();
-    match format(parts, geometry) {
+    match format(parts, MOUNT_VERSION, geometry) {
         Ok(region) => Ok(region),
         Err((parts, fault)) => Err((parts, fault.into())),
     }

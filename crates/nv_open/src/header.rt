@@ -13,11 +13,13 @@ ghost use Rattle.nv_open.specs.Refusals.{IsRefusedFor, IsBadHeader};
 ghost use Rattle.nv_open.specs.declared.error.OpenError.TheVariants as error;
 
 use crate::OpenError;
-use nv_header::{Head, check_lines, read_head};
+use nv_header::{Head, check_lines, read_head_of};
+use nv_plain::limits::MOUNT_VERSION;
 use nv_pmem::Lines;
 use std::alloc::Global;
 
-/// What the header of a region says, whose parts have the lines that it needs.
+/// What the header of a region says, whose parts have the lines that it needs. A region that has another version than a mount opens
+/// over is refused here, whoever reads it.
 pub(crate) fn read_header<L: Lines>(alloc: Global, parts: &mut [L]) -> Result<Head, OpenError>
     ensures head { IfOk result (λ head. Tells (header_history (map L.history parts.old)) (λ now.
         IsHeadOf version_1 (header_lines_in (map L.room parts.old)) (header_image now) head)) }
@@ -28,7 +30,7 @@ pub(crate) fn read_header<L: Lines>(alloc: Global, parts: &mut [L]) -> Result<He
     ensures read { AreOnlyRead L.history L.room L.device parts.old parts.new }
     ensures cause { OpenHasCause (sum_by L.fault_count parts.old) (sum_by L.fault_count parts.new) result }
 {
-    let head = read_head(alloc, parts)?;
+    let head = read_head_of(alloc, parts, MOUNT_VERSION)?;
     check_lines(parts, &head)?;
     Ok(head)
 }

@@ -1,6 +1,6 @@
 //! The log of a region that is lent is recovered.
 ghost use Rattle.std.specs.Prelude.{◌≡◌, ◌+◌, List, length, map, sum_by, All, Err, IfOk, IfErr};
-ghost use Rattle.nv_plain.specs.Layouts.{version_1};
+ghost use Rattle.nv_plain.specs.Layouts.{mount_version, version_1};
 ghost use Rattle.nv_plain.specs.Recovered.{region_files};
 ghost use Rattle.nv_pmem.specs.Moments.{Tells};
 ghost use Rattle.nv_pmem.specs.Part.{Part};
@@ -45,6 +45,7 @@ pub(crate) fn recover_log<L: Lines + Drop, B: Backing>(
     requires stores { length stores.old.items ≡ length head.names }
     requires synced { RowTells (map B.history stores.old.items) AreQuietStores }
 
+    ensures version { IfOk result (λ done. done.0.version ≡ mount_version) }
     ensures recovered { IfOk result (λ done. RowTells (map L.history parts.items) (λ told. IsRecovered told
         done.0.geometry.page done.0.geometry.entries done.0.names done.0.next done.1)) }
     ensures names { IfOk result (λ done. done.0.names ≡ head.names) }

@@ -1,7 +1,7 @@
 //! The opening of a region of a bench.
 ghost use Rattle.std.specs.Prelude.{◌≡◌, ℕ, List, ◌+◌, ◌<◌, ◌++◌, [], false, true, length, map, sum_by, All, None, Some, Err, IfOk, IfErr, IfSome};
 ghost use Rattle.nv_plain.specs.Faults.{saturated};
-ghost use Rattle.nv_plain.specs.Layouts.{version_1};
+ghost use Rattle.nv_plain.specs.Layouts.{mount_version, version_1};
 ghost use Rattle.nv_pmem.specs.Moments.{Tells};
 ghost use Rattle.nv_pmem.specs.Rows.{RowTells};
 ghost use Rattle.nv_bench.specs.Benches.{with_faults};
@@ -108,6 +108,7 @@ fn open_parts<T: Bench>(
     ensures cause { RegionHasCause (saturated ((T.state bench.old).faults + sum_by T.Part.fault_count parts.items))
         (saturated ((T.state bench.new).faults + (sum_by T.Part.fault_count (parts_after_format result) + sum_by T.Store.fault_count stores.new.items)))
         result }
+    ensures version { IfOk result (λ region. region.version ≡ mount_version) }
     ensures opened { IfOk result (λ region. IsOpenedOpen T.Part.history T.Store.history (T.state bench.old) (T.state bench.new) parts.items stores.new.items
         geometry wanted.now region.geometry.page region.geometry.entries region.names region.next region.parts.items) }
     ensures given_up { IfErr result (λ failed. IsUnopened T.Part.history T.Store.history (T.state bench.old) (T.state bench.new) parts.items failed.0.items stores.new.items
@@ -136,6 +137,7 @@ fn begin<T: Bench>(
     ensures cause { RegionHasCause (saturated ((T.state bench.old).faults + sum_by T.Part.fault_count parts.items))
         (saturated ((T.state bench.new).faults + (sum_by T.Part.fault_count (parts_after_format result) + sum_by T.Store.fault_count stores.new.items)))
         result }
+    ensures version { IfOk result (λ region. region.version ≡ mount_version) }
     ensures begun { IfOk result (λ region. IsBegunOpen T.Part.history T.Store.history (T.state bench.old) (T.state bench.new) parts.items stores.new.items
         geometry region.geometry.page region.geometry.entries region.names region.next region.parts.items) }
     ensures given_up { IfErr result (λ failed. IsNotBegun T.Part.history T.Store.history (T.state bench.old) (T.state bench.new) parts.items failed.0.items stores.new.items geometry failed.1) }
@@ -160,6 +162,7 @@ fn add_wanted<T: Bench>(
     region: Region<T::Part>,
     stores: &mut Vec<T::Store>,
 ) -> Result<Region<T::Part>, (Vec<T::Part>, OpenError)>
+    requires version { region.version ≡ mount_version }
     requires open { (T.state bench.old).is_open ≡ true }
     requires names { (T.state bench.old).lent ≡ region.names }
     requires one_each { length stores.old.items ≡ length region.names }
@@ -169,6 +172,7 @@ fn add_wanted<T: Bench>(
     ensures cause { RegionHasCause (saturated ((T.state bench.old).faults + (sum_by T.Part.fault_count region.parts.items + sum_by T.Store.fault_count stores.old.items)))
         (saturated ((T.state bench.new).faults + (sum_by T.Part.fault_count (parts_after_format result) + sum_by T.Store.fault_count stores.new.items)))
         result }
+    ensures version { IfOk result (λ added. added.version ≡ mount_version) }
     ensures added { IfOk result (λ added. HasAdded T.Part.history T.Store.history (T.state bench.old) (T.state bench.new) region.geometry added.geometry
         region.names wanted.now added.names region.next added.next region.parts.items added.parts.items stores.old.items stores.new.items) }
     ensures given_up { IfErr result (λ failed. HasNotAdded T.Part.history T.Store.history (T.state bench.old) (T.state bench.new) region.geometry.page region.geometry.entries

@@ -1,6 +1,7 @@
 //! The recovery of a region of a bench.
 ghost use Rattle.std.specs.Prelude.{◌≡◌, ◌+◌, ◌++◌, [], false, true, length, map, sum_by, All, None, Err, IfOk, IfErr, IfSome};
 ghost use Rattle.nv_plain.specs.Faults.{saturated};
+ghost use Rattle.nv_plain.specs.Layouts.{mount_version};
 ghost use Rattle.nv_pmem.specs.Moments.{Tells};
 ghost use Rattle.nv_pmem.specs.Rows.{RowTells};
 ghost use Rattle.nv_bench.specs.Benches.{with_faults};
@@ -88,6 +89,7 @@ pub(crate) fn recover_parts<T: Bench>(
     ensures cause { OpenHasCause (saturated ((T.state bench.old).faults + sum_by T.Part.fault_count parts.items))
         (saturated ((T.state bench.new).faults + (sum_by T.Part.fault_count (parts_after result) + sum_by T.Store.fault_count stores.new.items)))
         (answer_of result) }
+    ensures version { IfOk result (λ done. done.0.version ≡ mount_version) }
     ensures recovered { IfOk result (λ done. IsRecoveredOpen T.Part.history T.Store.history (T.state bench.old) (T.state bench.new) parts.items stores.new.items
         done.0.geometry.page done.0.geometry.entries done.0.names done.0.next done.0.parts.items done.1) }
     ensures given_up { IfErr result (λ failed. IsNotRecovered T.Part.history T.Store.history (T.state bench.old) (T.state bench.new) parts.items failed.0.items stores.new.items failed.1) }

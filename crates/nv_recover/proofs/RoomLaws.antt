@@ -3,7 +3,7 @@ use Rattle.std.proofs.Common.{◌≡◌, ℕ, ◌+◌, ◌<◌, ◌≤◌, All, 
 use Rattle.std.proofs.lemmas.List.{length-map, get_or-map, get_or-take, get_or-drop, length-take}
 use Rattle.std.proofs.lemmas.List.Elements.{All-weaker, AllZip-get_or, length_all_zip}
 use Rattle.std.specs.List.{AllZip}
-use Rattle.nv_plain.specs.Layouts.{version_1}
+use Rattle.nv_plain.specs.Layouts.{mount_version, version_1}
 use Rattle.nv_pmem.specs.Limits.{entry_lines}
 use Rattle.nv_pmem.specs.Room.{Room, Keeps}
 use Rattle.nv_header.specs.Regions.{part_lines, IsRoomy, HasParts}
@@ -24,7 +24,7 @@ module _ {X : Type 0} (room : X → Room) (page entries : ℕ) where
   -- whose first line can be stored to
   pub entry_line : (parts : List X) (entry : ℕ) (d : X) → HasParts version_1 page entries (map room parts) → entry < entries
       → (0 < (room (get_or parts (1 + entry) d)).lines) × (1 ≤ (room (get_or parts (1 + entry) d)).spare 0)
-  entry_line parts entry d has below = roomy_line_0 page (1 + entry) _ (roomy_at parts (1 + entry) d has (omega arith))
+  entry_line parts entry d has below = roomy_line_0 mount_version page (1 + entry) _ (roomy_at parts (1 + entry) d has (omega arith))
 
   -- so can the line of the tail, in the header's part
   pub tail_line : (parts : List X) (d : X) → HasParts version_1 page entries (map room parts) → (18 ≤ (room (get_or parts 0 d)).lines) × (1 ≤ (room (get_or parts 0 d)).spare 1)

@@ -1,6 +1,6 @@
 //! Recovery, whole.
 ghost use Rattle.std.specs.Prelude.{◌≡◌, ◌≢◌, ℕ, ◌+◌, ◌^◌, ◌≤◌, length, map, take, drop, sum_by, All, Err, IfOk, IfErr, OnOk};
-ghost use Rattle.nv_plain.specs.Layouts.{version_1};
+ghost use Rattle.nv_plain.specs.Layouts.{mount_version, version_1};
 ghost use Rattle.nv_pmem.specs.Limits.{entry_lines};
 ghost use Rattle.nv_pmem.specs.Moments.{Tells};
 ghost use Rattle.nv_pmem.specs.Rows.{RowTells, AreOnlyRead, row_words, AreQuiet};
@@ -27,6 +27,7 @@ use crate::groups::find_groups;
 use crate::{Leaders, RecoverError};
 use nv_entry::Bounds;
 use nv_header::{Head, Names, Region};
+use nv_plain::limits::MOUNT_VERSION;
 use nv_pmem::Lines;
 use nv_store::Backing;
 use std::alloc::Global;
@@ -73,6 +74,7 @@ pub fn recover<L: Lines + Drop, B: Backing>(
     ensures files { IfOk result (λ done. AcrossTells (map L.history parts.items) (map B.history stores.old.items)
         (map B.history stores.new.items) HoldRecovered) }
     ensures quiet { OnOk result (All (λ store. Tells (B.history store) IsQuietStore) stores.new.items) }
+    ensures version { IfOk result (λ done. done.0.version ≡ mount_version) }
     ensures geometry { IfOk result (λ done. done.0.geometry ≡ head.geometry) }
     ensures names { IfOk result (λ done. done.0.names ≡ head.names) }
     ensures next { IfOk result (λ done. done.0.next ≡ done.1.next) }
@@ -93,7 +95,13 @@ pub fn recover<L: Lines + Drop, B: Backing>(
     let bounds = bounds_of(&head);
     match recover_parts(alloc, &head.names, &bounds, &mut parts, stores) {
         Ok(found) => {
-            let region = Region::from_parts(parts, head.geometry, head.names, found.next);
+            let region = Region::from_parts(
+                parts,
+                MOUNT_VERSION,
+                head.geometry,
+                head.names,
+                found.next,
+            );
             Ok((region, found))
         }
         Err(error) => Err((parts, error)),

@@ -1,7 +1,7 @@
 //! The table of a mount, which threads share by reference.
 ghost use Rattle.std.specs.Prelude.{◌≡◌, ℕ, ◌<◌, ◌≤◌, ◌^◌, [], length, map, vec_capacity, IfOk, IfErr};
 ghost use Rattle.atomic_table.specs.Table.{opening as laid};
-ghost use Rattle.nv_plain.specs.Layouts.{mount_layout};
+ghost use Rattle.nv_plain.specs.Layouts.{mount_layout, mount_version};
 ghost use Rattle.nv_header.specs.Regions.{HasParts};
 ghost use Rattle.nv_core.specs.invariant.Shapes.{HaveShapes, IsStore};
 ghost use Rattle.nv_core.specs.state.Words.{STORE};
@@ -219,6 +219,7 @@ impl<L: Lines + Drop, B: Backing + Drop> Board<L, B> {
         pages: u64,
         cache: u64,
     ) -> Result<(Board<L, B>, Pass<L, B>), Refused<L, B>>
+        requires version { region.version ≡ mount_version }
         requires stores { length stores.items ≡ length region.names }
         requires lengths { length lengths.now ≡ length region.names }
         requires some_pages { 1 ≤ pages }
@@ -230,11 +231,13 @@ impl<L: Lines + Drop, B: Backing + Drop> Board<L, B> {
             (begun_sizes region.geometry.page region.geometry.entries (length region.names) pages cache)
             region.next lengths.now region.parts.items stores.items made.0 made.1) }
         ensures parts_back { IfErr result (λ refused. refused.region.parts.items ≡ region.parts.items) }
+        ensures version_back { IfErr result (λ refused. refused.region.version ≡ region.version) }
         ensures geometry_back { IfErr result (λ refused. refused.region.geometry ≡ region.geometry) }
         ensures names_back { IfErr result (λ refused. refused.region.names ≡ region.names) }
         ensures next_back { IfErr result (λ refused. refused.region.next ≡ region.next) }
         ensures stores_back { IfErr result (λ refused. refused.stores.items ≡ stores.items) }
     {
+        let version = region.version();
         let geometry = region.geometry();
         let next = region.next();
         let files = region.names().len() as u64;
@@ -252,7 +255,7 @@ impl<L: Lines + Drop, B: Backing + Drop> Board<L, B> {
         match board_of(alloc, layout, next, memory, parts, stores) {
             Ok(made) => Ok(made),
             Err(Unfilled { parts, stores }) => Err(Refused {
-                region: Region::from_parts(parts, geometry, names, next),
+                region: Region::from_parts(parts, version, geometry, names, next),
                 stores,
             }),
         }

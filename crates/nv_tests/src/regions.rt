@@ -1,15 +1,24 @@
 //! Tests of regions.
 
 use crate::given::blank_parts;
-use nv_header::{AddError, Region, add_file, format, is_blank, move_tail, read_head};
+use nv_header::{
+    AddError, HeadError, Region, add_file, format, is_blank, move_tail, read_head, read_head_of,
+};
+use nv_plain::limits::Version;
 use nv_pmem::{Fuse, Geometry, Lines, MemPart};
 use std::alloc::Global;
 use std::test::Fail;
 
-// A region of 2 entries of a page of 64 bytes, formatted, with these parts behind; its calls fail as the fuse says.
-fn formatted(alloc: Global, fuse: &Fuse, more: &[u64]) -> Result<Region<MemPart>, Fail> {
+// A region of 2 entries of a page of 64 bytes, formatted in this version, with these parts behind; its calls fail as the fuse says.
+fn formatted(
+    alloc: Global,
+    version: Version,
+    fuse: &Fuse,
+    more: &[u64],
+) -> Result<Region<MemPart>, Fail> {
     let geometry = Geometry::new(64, 2)?;
-    match format(blank_parts(alloc, geometry, fuse, more)?, geometry) {
+    let parts = blank_parts(alloc, version, geometry, fuse, more)?;
+    match format(parts, version, geometry) {
         Ok(region) => Ok(region),
         Err((_, fault)) => Err(fault.into()),
     }
@@ -36,65 +45,102 @@ fn header_words(header: &mut MemPart) -> [Option<u64>; 6] {
     ]
 }
 
+// What the header of each version is to have once two names are added: words 0 to 4 of line 0 and the tail, and of the second
+// record the length, the first word, and a word of its last line.
+struct HeaderRow {
+    version: Version,
+    header: [u64; 6],
+    second: [(u64, u64, u64); 3],
+}
+
+const HEADER_ROWS: [HeaderRow; 2] = [
+    HeaderRow {
+        version: Version::One,
+        header: [0x3145_4843_4143_564e, 1, 64, 2, 2, 0],
+        second: [(3, 0, 2), (3, 1, 0x6362), (3, 7, 0)],
+    },
+    HeaderRow {
+        version: Version::Two,
+        header: [0x3145_4843_4143_564e, 2, 64, 2, 2, 0],
+        second: [(22, 0, 2), (22, 1, 0x6362), (25, 7, 0)],
+    },
+];
+
+// Whether a part has these words, each at a place of a line.
+fn holds(part: &mut MemPart, words: &[(u64, u64, u64)]) -> bool {
+    for (line, at, value) in words {
+        if word(part, *line, *at) != Some(*value) {
+            return false;
+        }
+    }
+    true
+}
+
 #[test]
-fn a_formatted_region_reads_as_one(rt: HostRuntime) -> Result<(), Fail> {
-    let fuse = Fuse::new(rt.alloc(), &[])?;
-    let region = formatted(rt.alloc(), &fuse, &[5])?;
-    let geometry = region.geometry();
-    let told = (region.next(), region.names().len());
-    let mut parts = region.into_parts();
-    assert_eq!(rt; parts.len(), 4);
-    let header = header_words(&mut parts[0]);
-    let entries = [word(&mut parts[1], 0, 0), word(&mut parts[2], 0, 0)];
-    let behind = parts[3].lines();
-    let head = read_head(rt.alloc(), &mut parts)?;
-    let magic = 0x3145_4843_4143_564e;
-    assert_eq!(rt;
-        (
-            (told, geometry.page, geometry.entries),
-            (header, entries, behind),
-            (head.tail, head.names.len())
-        ),
-        (
-            ((0, 0), 64, 2),
-            ([magic, 1, 64, 2, 0, 0].map(Some), [Some(0); 2], 5),
-            (0, 0)
-        )
-    );
+fn a_header_has_its_words(rt: HostRuntime) -> Result<(), Fail> {
+    for row in &HEADER_ROWS {
+        let fuse = Fuse::new(rt.alloc(), &[])?;
+        let region = formatted(rt.alloc(), row.version, &fuse, &[5])?;
+        let (region, _first) = add_file(rt.alloc(), region, b"a").map_err(|failed| failed.1)?;
+        let (region, second) = add_file(rt.alloc(), region, b"bc").map_err(|failed| failed.1)?;
+        assert_eq!(rt; (second, region.version()), (1, row.version));
+        let mut parts = region.into_parts();
+        assert_eq!(rt; parts.len(), 4);
+        assert_eq!(rt; parts[3].lines(), 5);
+        assert_eq!(rt; header_words(&mut parts[0]), row.header.map(Some));
+        assert!(rt; holds(&mut parts[0], &row.second));
+        let head = read_head(rt.alloc(), &mut parts)?;
+        assert_eq!(rt;
+            (head.version, head.tail, head.names.len()),
+            (row.version, 0, 2)
+        );
+        let of_one = read_head_of(rt.alloc(), &mut parts, Version::One).map(|head| head.tail);
+        let known = match row.version {
+            Version::One => Ok(0),
+            Version::Two => Err(HeadError::BadVersion { found: 2 }),
+        };
+        assert_eq!(rt; of_one, known);
+    }
     Ok(())
 }
 
 #[test]
-fn names_are_added_up_to_16(rt: HostRuntime) -> Result<(), Fail> {
-    let fuse = Fuse::new(rt.alloc(), &[])?;
-    let mut region = formatted(rt.alloc(), &fuse, &[])?;
-    for i in 0..16 {
-        match add_file(rt.alloc(), region, &[b'a' + i]) {
-            Ok((more, index)) => {
-                assert_eq!(rt; index, u64::from(i));
-                region = more;
-            }
-            Err((_, error)) => return Err(error.into()),
-        }
+fn a_header_of_version_2_has_274_lines(rt: HostRuntime) -> Result<(), Fail> {
+    let mut parts = Vec::new(rt.alloc());
+    parts.push(MemPart::new(rt.alloc(), 273)?)?;
+    let magic = parts[0].store(0, 0, 0x3145_4843_4143_564e);
+    let version = parts[0].store(0, 1, 2);
+    let refused = read_head(rt.alloc(), &mut parts).map(|head| head.tail);
+    let lack = HeadError::Truncated {
+        found: 273,
+        wanted: 274,
+    };
+    assert_eq!(rt; (magic, version, refused), (Ok(()), Ok(()), Err(lack)));
+    Ok(())
+}
+
+// Adds so many names of one letter of 64, and says whether one more is too many.
+fn fill(alloc: Global, version: Version, count: u8) -> Result<AddError, Fail> {
+    let fuse = Fuse::new(alloc, &[])?;
+    let mut region = formatted(alloc, version, &fuse, &[])?;
+    for i in 0..count {
+        let name = [b'a' + i / 16, b'a' + i % 16];
+        region = add_file(alloc, region, &name).map_err(|failed| failed.1)?.0;
     }
-    assert!(rt; region.names().contains(b"p"));
-    match add_file(rt.alloc(), region, b"q") {
-        Ok(_region) => return Err(AddError::TooManyFiles.into()),
-        Err((mut parts, error)) => {
-            let header = &mut parts[0];
-            let words = [word(header, 0, 4), word(header, 17, 0), word(header, 17, 1)];
-            let names = read_head(rt.alloc(), &mut parts)?.names;
-            assert_eq!(rt;
-                (error, words, names.len(), names.contains(b"p")),
-                (
-                    AddError::TooManyFiles,
-                    [Some(16), Some(1), Some(0x70)],
-                    16,
-                    true
-                )
-            );
-        }
+    match add_file(alloc, region, b"z") {
+        Ok(_region) => Err(AddError::NoMemory.into()),
+        Err((_parts, error)) => Ok(error),
     }
+}
+
+#[test]
+fn names_are_added_up_to_the_limit(rt: HostRuntime) -> Result<(), Fail> {
+    let one = fill(rt.alloc(), Version::One, 16)?;
+    let two = fill(rt.alloc(), Version::Two, 64)?;
+    assert_eq!(rt;
+        (one, two),
+        (AddError::TooManyFiles, AddError::TooManyFiles)
+    );
     Ok(())
 }
 

@@ -1,5 +1,6 @@
 //! The mount of a run.
 ghost use Rattle.std.specs.Prelude.{◌≡◌, ◌+◌, ◌<◌, List, [], length, map, sum_by, All, IfErr, IfOk};
+ghost use Rattle.nv_plain.specs.Layouts.{mount_version};
 ghost use Rattle.nv_pmem.specs.Moments.{Tells};
 ghost use Rattle.nv_pmem.specs.Part.{Part};
 ghost use Rattle.nv_pmem.specs.RowStates.{AreNow};
@@ -46,6 +47,7 @@ pub(crate) fn mount_over<L: Lines + Drop, B: Backing + Drop>(
     options: RunOptions,
     trace: &Trace,
 ) -> Result<(Mount<L, B>, Pass<L, B>), Unmounted<L, B>>
+    requires version { region.version ≡ mount_version }
     requires limits { AreInLimits options }
     requires stores { length stores.items ≡ length region.names }
     requires quiet { All (λ store. Tells (B.history store) IsQuietStore) stores.items }

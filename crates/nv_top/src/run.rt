@@ -1,6 +1,6 @@
 //! A run of a trace, and its report.
 ghost use Rattle.std.specs.Prelude.{◌≡◌, ◌+◌, ◌<◌, [], List, None, length, map, sum_by, All, Err, IfOk, IfSome};
-ghost use Rattle.nv_plain.specs.Layouts.{mount_layout};
+ghost use Rattle.nv_plain.specs.Layouts.{mount_layout, mount_version};
 ghost use Rattle.nv_pmem.specs.Moments.{Tells};
 ghost use Rattle.nv_pmem.specs.Part.{Part};
 ghost use Rattle.nv_pmem.specs.RowStates.{AreNow};
@@ -125,6 +125,7 @@ fn run_region<
     show: Show,
     trace: &Trace,
 ) -> Ended<L, B>
+    requires version { region.version ≡ mount_version }
     requires limits { AreInLimits options }
     requires stores { length stores.items ≡ length region.names }
     requires quiet { All (λ store. Tells (B.history store) IsQuietStore) stores.items }

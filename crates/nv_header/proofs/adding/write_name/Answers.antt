@@ -1,7 +1,7 @@
 use Rattle.std.proofs.Common.{get_or, refl, subst, arith}
 use Rattle.std.proofs.lemmas.List.{get_or-map}
 use Rattle.std.proofs.lemmas.Result.{on_ok_weaker}
-use Rattle.nv_plain.specs.Layouts.{version_1}
+use Rattle.nv_plain.specs.Layouts.{layout_of}
 use Rattle.nv_pmem.specs.Room.{Room}
 use Rattle.nv_header.specs.Regions.{IsRoomy}
 use Rattle.nv_pmem.proofs.OneOfRow.{did_in_row, did_some_in_row, same_in_row}
@@ -11,7 +11,7 @@ use Rattle.nv_header.proofs.adding.write_name.Goals as goal
 pub store_name-requires-clause-room : goal.store_name-requires-clause-room
 store_name-requires-clause-room g c =
     let parts = c.args.parts.now in
-    let At : Room → Type 0 = IsRoomy version_1.header_lines in
+    let At : Room → Type 0 = IsRoomy (layout_of c.args.version).header_lines in
     subst At (get_or-map g.L.Lines.room parts 0 c.index-parts-0.result (g.L.Lines.room c.index-parts-0.result) (omega arith))
     (c.requires.room (g.L.Lines.room c.index-parts-0.result))
 
@@ -28,7 +28,7 @@ returns-clause-done g c =
 pub returns-clause-parts : goal.returns-clause-parts
 returns-clause-parts g c =
     on_ok_weaker c.store_name.result
-    (λ stays page entries has. has_parts_set g.L.Lines.room version_1 page entries c.args.parts.now 0 (get_or c.args.parts.now 0 c.index-parts-0.result) c.store_name.new.header c.index-parts-0.result
+    (λ stays page entries has. has_parts_set g.L.Lines.room (layout_of c.args.version) page entries c.args.parts.now 0 (get_or c.args.parts.now 0 c.index-parts-0.result) c.store_name.new.header c.index-parts-0.result
     (omega arith) refl stays has)
     c.store_name.ensures.room
 

@@ -1,6 +1,6 @@
 use Rattle.std.proofs.Common.{get_or, ◌+◌, ◌<◌, length, refl, ◌∙◌, arith}
 use Rattle.std.proofs.lemmas.List.{length-map}
-use Rattle.nv_plain.specs.Layouts.{version_1}
+use Rattle.nv_plain.specs.Layouts.{layout_of}
 use Rattle.nv_pmem.specs.Steps.{durable_store}
 use Rattle.nv_pmem.proofs.StepLaws.{did_some_all}
 use Rattle.nv_header.proofs.Clearing.{cleared_none, cleared_more, cleared_some_more, cleared_all}
@@ -13,14 +13,14 @@ loop-entry-init g c = record { did = cleared_none _; parts = c.requires.parts; l
 
 pub store_durably-requires-clause-line : goal.store_durably-requires-clause-line
 store_durably-requires-clause-line g c =
-    (roomy_line_0 c.args.geometry.page (1 + c.loop-entry.entry) _
-    (roomy_part g.L.Lines.room version_1 c.args.geometry.page c.args.geometry.entries c.loop-entry.parts (1 + c.loop-entry.entry) (get_or c.loop-entry.parts (1 + c.loop-entry.entry) c.index-parts-entry.result) c.index-parts-entry.result
+    (roomy_line_0 c.args.version c.args.geometry.page (1 + c.loop-entry.entry) _
+    (roomy_part g.L.Lines.room (layout_of c.args.version) c.args.geometry.page c.args.geometry.entries c.loop-entry.parts (1 + c.loop-entry.entry) (get_or c.loop-entry.parts (1 + c.loop-entry.entry) c.index-parts-entry.result) c.index-parts-entry.result
     c.loop-entry.invariant.parts (omega arith) refl)).0
 
 pub store_durably-requires-clause-spare : goal.store_durably-requires-clause-spare
 store_durably-requires-clause-spare g c =
-    (roomy_line_0 c.args.geometry.page (1 + c.loop-entry.entry) _
-    (roomy_part g.L.Lines.room version_1 c.args.geometry.page c.args.geometry.entries c.loop-entry.parts (1 + c.loop-entry.entry) (get_or c.loop-entry.parts (1 + c.loop-entry.entry) c.index-parts-entry.result) c.index-parts-entry.result
+    (roomy_line_0 c.args.version c.args.geometry.page (1 + c.loop-entry.entry) _
+    (roomy_part g.L.Lines.room (layout_of c.args.version) c.args.geometry.page c.args.geometry.entries c.loop-entry.parts (1 + c.loop-entry.entry) (get_or c.loop-entry.parts (1 + c.loop-entry.entry) c.index-parts-entry.result) c.index-parts-entry.result
     c.loop-entry.invariant.parts (omega arith) refl)).1
 
 pub returns-in_err-store_durably-clause-begun : goal.returns-in_err-store_durably-clause-begun
@@ -55,7 +55,7 @@ loop-entry-preserved g c =
           cleared_more c.loop-entry.entry i (c.loop-entry.entry + 1) refl refl c.loop-entry.invariant.did
           (did_in_row g.L.Lines.history parts i was new item {steps = durable_store 0 0 0} inside refl c.in_ok-store_durably.ensures.done);
       parts =
-          has_parts_set g.L.Lines.room version_1 c.args.geometry.page c.args.geometry.entries parts i was new item inside refl
+          has_parts_set g.L.Lines.room (layout_of c.args.version) c.args.geometry.page c.args.geometry.entries parts i was new item inside refl
           (stays_settled 1 0 c.store_durably.ensures.room c.in_ok-store_durably.ensures.settled) c.loop-entry.invariant.parts;
       lines = same_in_row (λ part. (g.L.Lines.room part).lines) parts i was new item refl c.store_durably.ensures.room.lines ∙ c.loop-entry.invariant.lines;
       cause = same_sum_in_row g.L.Lines.fault_count parts i was new item inside refl c.in_ok-store_durably.ensures.cause ∙ c.loop-entry.invariant.cause;

@@ -1,7 +1,7 @@
 use Rattle.std.proofs.Common.{get_or, refl, ◌∙◌, arith}
 use Rattle.std.proofs.lemmas.List.{length-map}
 use Rattle.std.proofs.lemmas.Result.{on_ok_weaker}
-use Rattle.nv_plain.specs.Layouts.{version_1}
+use Rattle.nv_plain.specs.Layouts.{layout_of}
 use Rattle.nv_pmem.specs.Rows.{on_part}
 use Rattle.nv_pmem.proofs.StepLaws.{did_did, did_did_some, did_some_front}
 use Rattle.nv_header.specs.HeaderSteps.{blank_header_steps, format_steps}
@@ -12,14 +12,14 @@ use Rattle.nv_header.proofs.formatting.write_region.Goals as goal
 pub write_header-requires : goal.write_header-requires
 write_header-requires g c = record {
   room =
-      roomy_part g.L.Lines.room version_1 c.args.geometry.page c.args.geometry.entries c.clear_commit_words.new.parts 0 (get_or c.clear_commit_words.new.parts 0 c.index-parts-0.result) c.index-parts-0.result
+      roomy_part g.L.Lines.room (layout_of c.args.version) c.args.geometry.page c.args.geometry.entries c.clear_commit_words.new.parts 0 (get_or c.clear_commit_words.new.parts 0 c.index-parts-0.result) c.index-parts-0.result
       c.in_ok-clear_commit_words.ensures.parts (omega arith) refl;
 }
 
 pub returns-in_err-clear_commit_words-clause-begun : goal.returns-in_err-clear_commit_words-clause-begun
 unfolding format_steps
 returns-in_err-clear_commit_words-clause-begun g c =
-    did_some_front (on_part 0 (blank_header_steps version_1 c.args.geometry.page c.args.geometry.entries)) c.clear_commit_words.ensures.begun
+    did_some_front (on_part 0 (blank_header_steps (layout_of c.args.version) c.args.geometry.page c.args.geometry.entries)) c.clear_commit_words.ensures.begun
 
 pub returns-clause-begun : goal.returns-clause-begun
 unfolding format_steps
@@ -42,7 +42,7 @@ returns-clause-done g c =
 pub returns-clause-parts : goal.returns-clause-parts
 returns-clause-parts g c =
     on_ok_weaker c.write_header.result
-    (λ stays. has_parts_set g.L.Lines.room version_1 c.args.geometry.page c.args.geometry.entries c.clear_commit_words.new.parts 0
+    (λ stays. has_parts_set g.L.Lines.room (layout_of c.args.version) c.args.geometry.page c.args.geometry.entries c.clear_commit_words.new.parts 0
     (get_or c.clear_commit_words.new.parts 0 c.index-parts-0.result) c.write_header.new.header c.index-parts-0.result
     (omega (arith, c.in_ok-clear_commit_words.ensures.parts.count, length-map c.clear_commit_words.new.parts g.L.Lines.room))
     refl stays c.in_ok-clear_commit_words.ensures.parts)

@@ -2,6 +2,7 @@ use Rattle.std.proofs.Common.{◌≡◌, All, ◌++◌, ◌≤◌, ℕ, List, le
 use Rattle.std.specs.Prelude.{IfSome}
 use Rattle.nv_plain.specs.Layouts.{version_1}
 use Rattle.nv_header.specs.FileNames.{AreFileNames}
+use Rattle.nv_header.proofs.InRow.{region_as}
 use Rattle.nv_open.specs.Adding.{new_names, all_names}
 use Rattle.nv_open.specs.Begun.{files_behind}
 use Rattle.nv_open.specs.declared.error.OpenError.TheVariants as error
@@ -39,17 +40,17 @@ open_stores-requires-clause-names g c κs lives =
     let few : length (all_names known wanted) ≤ 16 =
     omega (arith, length-append known (new_names known wanted), ap length is, c.if-len-gt-FILE_LIMIT.false, c.len.ensures, c.len-2.ensures, ap length c.names-2.ensures) in
     subst (λ (these : List (List ℕ)). AreFileNames version_1 (these ++ missing)) (sym c.requires.names)
-    (subst (λ (these : List (List ℕ)). AreFileNames version_1 (known ++ these)) (sym is) (all_are_names known wanted c.args.region.is_region.names_are c.requires.wanted few))
+    (subst (λ (these : List (List ℕ)). AreFileNames version_1 (known ++ these)) (sym is) (all_are_names known wanted (region_as c.requires.version c.args.region.is_region).names_are c.requires.wanted few))
 
-pub add_names-requires : goal.add_names-requires
-add_names-requires g c =
+pub add_names-requires-clause-names : goal.add_names-requires-clause-names
+add_names-requires-clause-names g c =
     let known = c.args.region.names in
     let wanted = c.args.wanted.now in
     let missing = c.in-Ok.missing in
     let is : missing ≡ new_names known wanted = c.in-Ok.ensures ∙ ap (λ (these : List (List ℕ)). new_names these wanted) c.names.ensures in
     let few : length (all_names known wanted) ≤ 16 =
     omega (arith, length-append known (new_names known wanted), ap length is, c.if-len-gt-FILE_LIMIT.false, c.len.ensures, c.len-2.ensures, ap length c.names-2.ensures) in
-    subst (λ (these : List (List ℕ)). AreFileNames version_1 (known ++ these)) (sym is) (all_are_names known wanted c.args.region.is_region.names_are c.requires.wanted few)
+    subst (λ (these : List (List ℕ)). AreFileNames version_1 (known ++ these)) (sym is) (all_are_names known wanted (region_as c.requires.version c.args.region.is_region).names_are c.requires.wanted few)
 
 pub returns-in_default-clause-lent : goal.returns-in_default-clause-lent
 returns-in_default-clause-lent g c =
@@ -119,7 +120,7 @@ returns-clause-given_up g c =
     let is : missing ≡ new = c.in-Ok.ensures ∙ ap (λ (these : List (List ℕ)). new_names these wanted) c.names.ensures in
     let few : length (all_names known wanted) ≤ 16 =
     omega (arith, length-append known new, ap length is, c.if-len-gt-FILE_LIMIT.false, c.len.ensures, c.len-2.ensures, ap length c.names-2.ensures) in
-    let all = all_are_names known wanted region.is_region.names_are c.requires.wanted few in
+    let all = all_are_names known wanted (region_as c.requires.version region.is_region).names_are c.requires.wanted few in
     let row : List lines.PartHistory = map history region.parts.items in
     let Left : Vec _ _ × OpenError → Type 0 = λ failed. TellRow (InEachRowImage (HasFirstNames region.geometry.page region.geometry.entries known missing region.next)) (map history failed.0.items) in
     let Alike : Vec _ _ × OpenError → Type 0 = λ failed. HaveSameLines row (map history failed.0.items) in
@@ -152,8 +153,8 @@ returns-in_default-clause-given_up g c = record {
       let row : List lines.PartHistory = map history region.parts.items in
       let same : map history back ≡ row = ap (λ parts. map history parts.items) c.into_parts.ensures.parts in
       added_back history store_history state state row back stores stores none.stores known c.args.wanted.now [] region.geometry.page region.geometry.entries region.next files (g.met.T.Bench.named c.args.bench.now) c.requires.names
-      (alone_are known region.is_region.names_are) c.requires.one_each holds c.requires.synced none.behind none.lent none.told
-      (λ tell. rest_left (map history back) region.geometry.page region.geometry.entries known new region.next c.rows_have_states.ensures.some (subst AllTell (sym same) tell) c.into_parts.ensures.region.tells)
+      (alone_are known (region_as c.requires.version region.is_region).names_are) c.requires.one_each holds c.requires.synced none.behind none.lent none.told
+      (λ tell. rest_left (map history back) region.geometry.page region.geometry.entries known new region.next c.rows_have_states.ensures.some (subst AllTell (sym same) tell) (region_as c.requires.version c.into_parts.ensures.region).tells)
       (subst (HaveSameLines row) (sym same) (own_lines c.rows_have_states.ensures.one row));
 }
 
@@ -176,7 +177,7 @@ returns-then-len-gt-FILE_LIMIT-clause-given_up g c = record {
       let back = c.into_parts-then-len-gt-FILE_LIMIT.result.items in
       let At : List lines.PartHistory → Type 0 = λ row. IfSome state.told (λ holding. AllTell row → GivesBack history store_history (IsAtRestWith region.geometry.page region.geometry.entries region.names region.next files holding.stores) state back stores) in
       subst At (ap (λ parts. map history parts.items) c.into_parts-then-len-gt-FILE_LIMIT.ensures.parts)
-      (rest_back history store_history state back stores region.geometry.page region.geometry.entries region.names region.next files c.rows_have_states.ensures.some c.requires.names holds c.into_parts-then-len-gt-FILE_LIMIT.ensures.region.tells);
+      (rest_back history store_history state back stores region.geometry.page region.geometry.entries region.names region.next files c.rows_have_states.ensures.some c.requires.names holds (region_as c.requires.version c.into_parts-then-len-gt-FILE_LIMIT.ensures.region).tells);
   standing = λ files holds.
       let history = g.T.Part.Lines.history in
       let store_history = g.T.Store.Backing.history in
@@ -190,8 +191,8 @@ returns-then-len-gt-FILE_LIMIT-clause-given_up g c = record {
       let row : List lines.PartHistory = map history region.parts.items in
       let same : map history back ≡ row = ap (λ parts. map history parts.items) c.into_parts-then-len-gt-FILE_LIMIT.ensures.parts in
       added_back history store_history state state row back stores stores none.stores known c.args.wanted.now [] region.geometry.page region.geometry.entries region.next files (g.met.T.Bench.named c.args.bench.now) c.requires.names
-      (alone_are known region.is_region.names_are) c.requires.one_each holds c.requires.synced none.behind none.lent none.told
-      (λ tell. rest_left (map history back) region.geometry.page region.geometry.entries known new region.next c.rows_have_states.ensures.some (subst AllTell (sym same) tell) c.into_parts-then-len-gt-FILE_LIMIT.ensures.region.tells)
+      (alone_are known (region_as c.requires.version region.is_region).names_are) c.requires.one_each holds c.requires.synced none.behind none.lent none.told
+      (λ tell. rest_left (map history back) region.geometry.page region.geometry.entries known new region.next c.rows_have_states.ensures.some (subst AllTell (sym same) tell) (region_as c.requires.version c.into_parts-then-len-gt-FILE_LIMIT.ensures.region).tells)
       (subst (HaveSameLines row) (sym same) (own_lines c.rows_have_states.ensures.one row));
 }
 
@@ -214,13 +215,13 @@ returns-in-Err-clause-given_up g c = record {
       let is : missing ≡ new = c.in-Ok.ensures ∙ ap (λ (these : List (List ℕ)). new_names these wanted) c.names.ensures in
       let few : length (all_names known wanted) ≤ 16 =
       omega (arith, length-append known new, ap length is, c.if-len-gt-FILE_LIMIT.false, c.len.ensures, c.len-2.ensures, ap length c.names-2.ensures) in
-      let all = all_are_names known wanted region.is_region.names_are c.requires.wanted few in
+      let all = all_are_names known wanted (region_as c.requires.version region.is_region).names_are c.requires.wanted few in
       let back = c.into_parts-in-Err.result.items in
       let row : List lines.PartHistory = map history region.parts.items in
       let same : map history back ≡ row = ap (λ parts. map history parts.items) c.into_parts-in-Err.ensures.parts in
       added_back history store_history state (g.T.Bench.state c.open_stores.new.bench) row back c.args.stores.now.items c.open_stores.new.stores.items opened.stores known wanted more region.geometry.page region.geometry.entries region.next files
       (g.met.T.Bench.named c.args.bench.now) c.requires.names (some_are begun.number known missing (subst (λ (these : List (List ℕ)). AreFileNames version_1 (known ++ these)) (sym is) all)) c.requires.one_each holds c.requires.synced
       opened.behind opened.lent opened.told
-      (λ tell. rest_left (map history back) region.geometry.page region.geometry.entries known new region.next c.rows_have_states.ensures.some (subst AllTell (sym same) tell) c.into_parts-in-Err.ensures.region.tells)
+      (λ tell. rest_left (map history back) region.geometry.page region.geometry.entries known new region.next c.rows_have_states.ensures.some (subst AllTell (sym same) tell) (region_as c.requires.version c.into_parts-in-Err.ensures.region).tells)
       (subst (HaveSameLines row) (sym same) (own_lines c.rows_have_states.ensures.one row));
 }

@@ -4,6 +4,7 @@ use Rattle.std.proofs.lemmas.List.Elements.{All-map}
 use Rattle.nv_plain.specs.Layouts.{mount_layout}
 use Rattle.nv_pmem.specs.Part.{Part}
 use Rattle.nv_pmem.specs.RowStates.{row_tells_at}
+use Rattle.nv_header.proofs.InRow.{region_as}
 use Rattle.nv_header.specs.Regions.{IsAtRest}
 use Rattle.nv_core.specs.log.LogContent.{OpensLog}
 use Rattle.nv_core.specs.state.Values.{Value}
@@ -55,7 +56,7 @@ returns-in-Ok-open-clause-spare g c parts are =
     let region = c.args.region in
     let history = g.L.Lines.history in
     let Rest : List Part → Type 0 = IsAtRest mount_layout region.geometry.page region.geometry.entries region.names region.next in
-    let rest : Rest parts = row_tells_at (map history region.parts.items) Rest parts are region.is_region.tells in
+    let rest : Rest parts = row_tells_at (map history region.parts.items) Rest parts are (region_as c.requires.version region.is_region).tells in
     subst (λ (values : List Value). All IsQuietSpare values) (sym c.in-Ok-open.ensures.opened.begun.spare)
     (quiet_behind g.L.Lines.device history g.L.Lines.fault_count g.L.Lines.room (1 + region.geometry.entries) region.parts.items parts are rest.quiet.each)
 

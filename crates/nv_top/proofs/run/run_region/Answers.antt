@@ -9,6 +9,7 @@ use Rattle.nv_table.specs.state.Opened.{mount_of}
 use Rattle.nv_mount.specs.Telling.{mounted_lines}
 use Rattle.nv_runner.specs.Faithful.{Basis}
 use Rattle.nv_top.specs.Lives.{AreLeftSo}
+use Rattle.nv_header.proofs.InRow.{region_as}
 use Rattle.nv_top.specs.Runs.{BeginsMount, HasRunOver, IsQuietSpare, basis_over}
 use Rattle.std.proofs.Common.{◌+◌, ap, refl, subst}
 use Rattle.std.specs.Prelude.{sum_by}
@@ -68,7 +69,7 @@ returns-clause-life g c parts now parts_are now_are =
     let stores = c.args.stores.items in
     let trace = trace_run c.args.show c.args.trace.now in
     let basis = basis_over region c.args.options.pages (files_of now) in
-    let rest = rest_lives history held basis trace region.parts.items stores parts now region.next parts_are now_are region.is_region.tells (quiet_stores held stores now now_are c.requires.quiet) refl in
+    let rest = rest_lives history held basis trace region.parts.items stores parts now region.next parts_are now_are (region_as c.requires.version region.is_region).tells (quiet_stores held stores now now_are c.requires.quiet) refl in
     left_same history held basis trace (line_counts parts) c.in-Err.field-0.parts.items region.parts.items c.in-Err.field-0.stores.items stores c.in-Err.ensures.same_parts c.in-Err.ensures.same_stores rest
 
 pub returns-clause-cause : goal.returns-clause-cause

@@ -2,6 +2,7 @@ use Rattle.std.proofs.Common.{◌+◌, ◌≤◌, drop, length, map, refl, sym, 
 use Rattle.std.specs.List.{All}
 use Rattle.std.proofs.lemmas.Grind.{common_steps}
 use Rattle.std.proofs.lemmas.List.{drop-map, length-map}
+use Rattle.nv_header.proofs.InRow.{region_as}
 use Rattle.nv_table.specs.ends.Begun.{begun_sizes}
 use Rattle.nv_table.specs.state.SlotValues.{store_value}
 use Rattle.nv_mount.specs.Telling.{AllDevicesTell, IsTelling}
@@ -30,7 +31,7 @@ returns-in-Ok-new-clause-log g c tell =
     let states = c.rows_have_states.ensures.some (map g.L.Lines.history region.parts.items) tell in
     opens_log g.L.Lines.device g.L.Lines.history g.L.Lines.fault_count g.L.Lines.room g.B.Backing.device g.B.Backing.history g.B.Backing.fault_count
     sizes region.next region.parts.items c.args.stores.items c.args.fds _ c.in-Ok-new.pass (returns-in-Ok-new-clause-opened g c) enough c.requires.stores
-    region.names refl c.requires.few_pages region.is_region g.met.L.Lines.told_lines c.rows_have_states.ensures.each states.states states.are
+    region.names refl c.requires.few_pages (region_as c.requires.version region.is_region) g.met.L.Lines.told_lines c.rows_have_states.ensures.each states.states states.are
     c.regions_at_rest_open.ensures c.requires.quiet
 
 pub returns-in-Ok-new-clause-region : goal.returns-in-Ok-new-clause-region
@@ -41,7 +42,7 @@ returns-in-Ok-new-clause-region g c tell =
     let states = c.rows_have_states.ensures.some (map g.L.Lines.history region.parts.items) tell in
     opens_region g.L.Lines.device g.L.Lines.history g.L.Lines.fault_count g.L.Lines.room g.B.Backing.device g.B.Backing.history g.B.Backing.fault_count
     sizes region.next region.parts.items c.args.stores.items c.args.fds _ c.in-Ok-new.pass (returns-in-Ok-new-clause-opened g c) enough c.requires.stores
-    region.names refl c.requires.few_pages region.is_region g.met.L.Lines.told_lines c.rows_have_states.ensures.each states.states states.are
+    region.names refl c.requires.few_pages (region_as c.requires.version region.is_region) g.met.L.Lines.told_lines c.rows_have_states.ensures.each states.states states.are
     c.regions_at_rest_open.ensures c.requires.quiet
 
 pub returns-in-Ok-new-clause-counts : goal.returns-in-Ok-new-clause-counts
@@ -74,7 +75,7 @@ returns-in-Ok-new-clause-long g c tell =
     let states = c.rows_have_states.ensures.some (map g.L.Lines.history region.parts.items) tell in
     has_long_parts g.L.Lines.device g.L.Lines.history g.L.Lines.fault_count g.L.Lines.room g.B.Backing.device g.B.Backing.history g.B.Backing.fault_count
     sizes region.next region.parts.items c.args.stores.items c.args.fds _ c.in-Ok-new.pass (returns-in-Ok-new-clause-opened g c) enough c.requires.stores
-    region.names refl c.requires.few_pages region.is_region g.met.L.Lines.told_lines c.rows_have_states.ensures.each states.states states.are
+    region.names refl c.requires.few_pages (region_as c.requires.version region.is_region) g.met.L.Lines.told_lines c.rows_have_states.ensures.each states.states states.are
 
 pub returns-in-Ok-new-clause-lines : goal.returns-in-Ok-new-clause-lines
 returns-in-Ok-new-clause-lines g c =
