@@ -37,3 +37,4 @@ pub mod RunDrawLaws
 pub mod NumberLaws
 pub mod OneThreadLaws
 pub mod LifeLaws
+pub mod streams

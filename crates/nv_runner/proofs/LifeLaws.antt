@@ -1,8 +1,8 @@
 -- Lives: by the one history, the calls that were left open, and what a closed mount tells of its images.
 use Rattle.std.proofs.Common.{◌≡◌, ℕ, zero, suc, ◌+◌, ◌≤◌, Bool, true, false, if◌then◌else◌, List, [], ◌∷◌, ◌++◌, map, filter, inl, inr, refl, sym, ap, subst, ◌∙◌, arith}
-use Rattle.std.specs.Prelude.{All, IsPermutation, Option, Some, None}
+use Rattle.std.specs.Prelude.{All, IsPermutation, Option, Some, None, Result}
 use Rattle.std.specs.List.{flat_map}
-use Rattle.std.specs.List.Sorted.{IsNonDecreasingBy}
+use Rattle.std.specs.List.Sorted.{IsNonDecreasingBy, IsStrictlyIncreasing}
 use Rattle.std.proofs.lemmas.Bool.{cases_lt}
 use Rattle.std.proofs.lemmas.List.Elements.{All-nil, All-cons, All-weaker}
 use Rattle.std.proofs.lemmas.List.Sorted.{All-permutation, IsPermutation-append_comm, IsPermutation-append_left, IsPermutation-append_right, IsPermutation-refl, IsPermutation-sym, IsPermutation-trans}
@@ -12,30 +12,40 @@ use Rattle.nv_plain.specs.Images.{Image}
 use Rattle.nv_plain.specs.Recovered.{recovered}
 use Rattle.nv_plain.specs.declared.call.FileCall.{FileCall}
 use Rattle.nv_pmem.specs.Rows.{InEachRowImage, RowTells}
+use Rattle.nv_pmem.specs.Steps.{PartHistory}
 use Rattle.nv_pmem.proofs.RowLaws.{row_tells_more}
+use Rattle.nv_store.specs.Steps.{StoreHistory}
 use Rattle.nv_recover.specs.Standing.{AreStoreImages}
 use Rattle.nv_core.specs.crash.CommutingWrites.{after_calls}
 use Rattle.nv_core.specs.crash.CrashImages.{OpensRegion}
 use Rattle.nv_core.specs.state.Passes.{IsOneOf}
+use Rattle.nv_core.specs.state.Values.{Value}
 use Rattle.nv_table.specs.state.Opened.{Opened, mount_of}
-use Rattle.nv_table.specs.state.Views.{PassView, pass_of}
+use Rattle.nv_table.specs.state.States.{PassState}
+use Rattle.nv_table.specs.state.Views.{PassView, first_view, pass_of}
 use Rattle.nv_mount.specs.ClosedAtRest.{files_then}
 use Rattle.nv_mount.specs.WholeRuns.{history_then}
 use Rattle.nv_mount.specs.WholeWrites.{LeavesWholeWrites, faults_then}
 use Rattle.nv_mount.specs.declared.fds.Fd.{Fd}
 use Rattle.nv_calls.specs.fsync.SyncRuns.{file_of_fd}
 use Rattle.nv_calls.specs.histories.Faults.{OpenWrite}
+use Rattle.nv_trace.specs.Shape.{IsWellFormed}
+use Rattle.nv_trace.specs.Traced.{Traced, lines_in}
 use Rattle.nv_trace.specs.declared.trace_call.TraceCall.{TraceCall}
 use Rattle.nv_trace.specs.declared.trace_call.TracedCall.{TracedCall}
 use Rattle.nv_runner.specs.declared.answer.Answer.{Answer}
 use Rattle.nv_runner.specs.declared.answer.Answer.TheVariants.{Placed, Refused, Open}
 use Rattle.nv_runner.specs.Calls.{call_on, fd_of, opened_on}
-use Rattle.nv_runner.specs.EndedRuns.{batch_of}
-use Rattle.nv_runner.specs.Faithful.{descriptors_in, file_call, history_of}
+use Rattle.nv_runner.specs.EndedRuns.{HasOutcome, IsClosedBy, batch_of}
+use Rattle.nv_runner.specs.Faithful.{Basis, descriptors_in, file_call, history_of}
 use Rattle.nv_runner.specs.FaithfulRuns.{IsMountOf}
-use Rattle.nv_runner.specs.Histories.{AreHistory, CallsOnFiles, PlacedCall, placed_calls, placed_in_answer}
+use Rattle.nv_runner.specs.Histories.{AreAtPlaces, AreHistory, CallsOnFiles, PlacedCall, placed_calls, placed_in_answer}
 use Rattle.nv_runner.specs.Lists.{MadeCall, calls_made}
-use Rattle.nv_runner.specs.Lives.{RecoversBehind, RunsLeaveLives}
+use Rattle.nv_runner.specs.Lives.{IsHistoryOf, RecoversBehind, RunsLeaveLives}
+use Rattle.nv_runner.specs.ShownLives.{RunsLeaveShownLives}
+use Rattle.nv_runner.specs.declared.plan.Plan.{Plan}
+use Rattle.nv_runner.specs.declared.run_error.RunError.{RunError}
+use Rattle.nv_runner.specs.declared.sorted.SortedCalls.{SortedCalls}
 use Rattle.nv_runner.specs.OpenRuns.{open_of}
 use Rattle.nv_runner.specs.OpenWrites.{is_kept_open, kept_open}
 use Rattle.nv_runner.specs.Sorted.{HaveOwnLines, OpenedCall, opened_calls, opened_in_answer}
@@ -177,8 +187,19 @@ opened_among call (Open number) o (inr none) = absurd none
 
 -- ---- a run
 
-pub runs_leave_lives : RunsLeaveLives
-runs_leave_lives basis trace fds plan start ended outcome part_values store_values parts stores faults count tail formed lines is region new out closed =
+-- Some calls are the history of a mount over which a trace was run, and its devices are left by it.
+pub record IsLeftBy (basis : Basis) (trace : Traced) (fds : List Fd) (history : List PlacedCall) (ended : PassState) (parts : List PartHistory) (stores : List StoreHistory) : Type 0 where
+  pub are : AreHistory fds history (history_then ended.view)
+  pub is : IsHistoryOf basis trace history
+  pub images : RowTells parts (InEachRowImage (λ image. RowTells stores (λ held. (bytes : Files) → AreStoreImages held bytes → RecoversBehind basis trace history image bytes)))
+
+-- so are the calls that have a place, by their places
+pub left_by : (basis : Basis) (trace : Traced) (fds : List Fd) (plan : Plan) (start ended : PassState) (outcome : Result SortedCalls RunError) (part_values store_values : List Value) (parts : List PartHistory)
+    (stores : List StoreHistory) (faults count tail : ℕ)
+    → IsWellFormed trace → IsStrictlyIncreasing (lines_in trace) → IsMountOf basis trace start.view.opened fds → OpensRegion (mount_of start.view.opened) basis.names → start.view ≡ first_view start.view.opened
+    → (out : HasOutcome fds plan trace.calls start outcome ended) → IsClosedBy ended part_values store_values parts stores faults count tail
+    → (history : List PlacedCall) → IsPermutation (placed_calls out.made) history → IsNonDecreasingBy (λ p. p.place) history → IsLeftBy basis trace fds history ended parts stores
+left_by basis trace fds plan start ended outcome part_values store_values parts stores faults count tail formed lines is region new out closed history sorted rises =
     let calls = trace.calls in
     let made = out.made in
     let descriptors = descriptors_in basis.names trace in
@@ -189,10 +210,7 @@ runs_leave_lives basis trace fds plan start ended outcome part_values store_valu
     let none : (pass_of ended.view).mine ≡ [] = out.run_out.unplaced.mine ∙ ap (λ (v : PassView). (pass_of v).mine) new in
     let all = history_of_others ended.view count closed.whole.is_run out.run_out.taken none closed.history in
     let rise = rises_within calls made (lines_tell_rounds calls calls lines formed.round_order (IsPermutation-refl calls)).1 out.within in
-    let sorted = sorted_by (λ (p : PlacedCall). p.place) (placed_calls made) in
-    let history = sorted.0 in
-    let are : AreHistory fds history (history_then ended.view) =
-    sorted_are_history fds (batch_of plan) made ended (history_then ended.view) history out.run_out.run all rise sorted.1 (falls_nowhere (λ (p : PlacedCall). p.place) history sorted.2) in
+    let are : AreHistory fds history (history_then ended.view) = sorted_are_history fds (batch_of plan) made ended (history_then ended.view) history out.run_out.run all rise sorted rises in
     let legal = threads_are_legal fds on_file history (history_then ended.view) basis.files on_files are (closed.history.legal basis.files ended.view.opened.next there.log there.files) in
     let files : files_then ended.view basis.files ≡ after (history_of descriptors history) basis.files = after_each (history_then ended.view) basis.files ∙ sym legal.2 in
     let left = opened_calls made in
@@ -212,17 +230,17 @@ runs_leave_lives basis trace fds plan start ended outcome part_values store_valu
           (let found = one_of_mapped (λ (o : OpenedCall). o.call) left call (kept.among call one) in
           let from = one_of_joined (λ (m : MadeCall). opened_in_answer m.call m.answer) made found.0 found.1 in
           subst (IsOneOf calls) (sym (opened_among from.0.call from.0.answer found.0 from.2) ∙ found.2) (out.within from.0 from.1));
-      own_lines = own_lines made history kept.calls out.own sorted.1 kept.few;
+      own_lines = own_lines made history kept.calls out.own sorted kept.few;
       files =
           left_open_are_kept fds left (faults_then ended.view) (files_then ended.view basis.files) image bytes moved (whole.faults out.run_out.idle.owned out.run_out.idle.taken)
           ∙ ap (λ (writes : List FileCall). after_calls writes (files_then ended.view basis.files)) (sym kept.are) ∙ ap (λ (files : Files). after_calls (map (λ (call : TracedCall). on_file call.call) kept.calls) files) files;
     } in
     record {
-      history = history;
+      are = are;
       is = record {
         legal = legal.1;
         of_trace = λ p one.
-            (let from = one_of_joined (λ (m : MadeCall). placed_in_answer m.call m.answer) made p (one_moved history (placed_calls made) p (IsPermutation-sym (placed_calls made) history sorted.1) one) in
+            (let from = one_of_joined (λ (m : MadeCall). placed_in_answer m.call m.answer) made p (one_moved history (placed_calls made) p (IsPermutation-sym (placed_calls made) history sorted) one) in
             subst (IsOneOf calls) (sym (placed_among from.0.call from.0.answer p from.2)) (out.within from.0 from.1));
         in_order = are.in_order;
       };
@@ -234,3 +252,19 @@ runs_leave_lives basis trace fds plan start ended outcome part_values store_valu
           (λ held stand bytes are_bytes. each image bytes (stand bytes are_bytes)) (every image is_image))
           (closed.crash basis.files basis.names there.log there.files region_there);
     }
+
+pub runs_leave_lives : RunsLeaveLives
+runs_leave_lives basis trace fds plan start ended outcome part_values store_values parts stores faults count tail formed lines is region new out closed =
+    let sorted = sorted_by (λ (p : PlacedCall). p.place) (placed_calls out.made) in
+    let left = left_by basis trace fds plan start ended outcome part_values store_values parts stores faults count tail formed lines is region new out closed sorted.0 sorted.1 (falls_nowhere (λ (p : PlacedCall). p.place) sorted.0 sorted.2) in
+    record { history = sorted.0; is = left.is; images = left.images }
+
+-- the first of some places
+first_places : (from : ℕ) (first later : List PlacedCall) → AreAtPlaces from (first ++ later) → AreAtPlaces from first
+first_places from [] later at = tt
+first_places from (p ∷ first) later at = (at.0, first_places (from + 1) first later at.1)
+
+pub runs_leave_shown_lives : RunsLeaveShownLives
+runs_leave_shown_lives basis trace fds plan start ended outcome shown part_values store_values parts stores faults count tail formed lines is region new out first closed =
+    let left = left_by basis trace fds plan start ended outcome part_values store_values parts stores faults count tail formed lines is region new out closed (shown ++ first.later) first.all first.by_place in
+    (first_places 0 shown first.later left.are.places, record { later = first.later; is = left.is; images = left.images })

@@ -312,27 +312,31 @@ module _ (fds : List Fd) (plan : Plan) (calls : List TracedCall) (made : List Ma
 
     pub outcome_is : {T : Type 0} → RunsAreSound → HistoriesGoOn → RefusalsInRunsHaveCauses → HeadsCountCalls → DrawsHaveRoom → RunsDrawInARow → OpenInRun → AreCallsOf calls made → HaveOwnLines (calls_made made) → RoundsRise (calls_made made) → AreDistinctNumbers (numbers zero.view.ended)
         → IsRunOf now.view.opened now.view.run → (result : Result T RunError) → OnOk result (IsPermutation (calls_made made) calls) → (is_none plan.stop ≡ true → OnOk result (HasEmptiedLog now.view))
-        → (result ≡ Err Fault → (is_none plan.stop ≡ true) × SawStop now.view) → (is_some plan.stop ≡ true → now ≡ zero) → (is_none plan.stop ≡ true → HasRunBatches (Some plan.batch) zero now) → (outcome : Result SortedCalls RunError) → IsOutcomeOf result made outcome → HasOutcome fds plan calls start outcome now
-    outcome_is sound goes_on causes heads has_room draw are_open within own rise distinct is_run_now result all emptied fault stays batches outcome is = record {
-      made = made;
-      run_out = run_out;
-      sorted = sorted_in result outcome all is;
-      emptied = λ going. emptied_in result outcome (emptied going) is;
-      uncleaned = λ stop. subst (OnlyMakesPasses start) (sym (stays stop)) still.makes;
-      cleaned = λ going. (zero, still.makes, batches going);
-      fault = fault_in result outcome fault is;
-      causes = λ call refusal one. refused_so goes_on is_run_now call refusal (causes fds worker made zero run mount (whole sound) undrawn rise call refusal one);
-      not_barred = not_barred;
-      left_open = are_open fds worker made now run_now (cleaned.keeps.opens ∙ unopened);
-      open_stopped = open_stopped;
-      drawn = subst (λ (o : Opened). HaveDrawn o.sizes o.next made) (sym cleaned.opened) (draw fds worker made zero run mount (whole sound) distinct undrawn rise);
-      within = within;
-      own = own;
-      counted = drawn_now sound heads distinct is_run_now;
-      small = small_now sound heads distinct is_run_now;
-      room = λ none. subst (λ (o : Opened). entries_of_calls o.sizes.page (calls_that_drew made) ≤ o.sizes.entries) (sym cleaned.opened)
-          (has_room fds worker made zero run mount (whole sound) distinct (without none) (uncleaned (without none)));
-    }
+        → (result ≡ Err Fault → (is_none plan.stop ≡ true) × SawStop now.view) → (is_some plan.stop ≡ true → now ≡ zero) → (is_none plan.stop ≡ true → HasRunBatches (Some plan.batch) zero now) → (outcome : Result SortedCalls RunError) → IsOutcomeOf result made outcome
+        → (out : HasOutcome fds plan calls start outcome now) × (out.made ≡ made)
+    outcome_is sound goes_on causes heads has_room draw are_open within own rise distinct is_run_now result all emptied fault stays batches outcome is = (
+      record {
+        made = made;
+        run_out = run_out;
+        sorted = sorted_in result outcome all is;
+        emptied = λ going. emptied_in result outcome (emptied going) is;
+        uncleaned = λ stop. subst (OnlyMakesPasses start) (sym (stays stop)) still.makes;
+        cleaned = λ going. (zero, still.makes, batches going);
+        fault = fault_in result outcome fault is;
+        causes = λ call refusal one. refused_so goes_on is_run_now call refusal (causes fds worker made zero run mount (whole sound) undrawn rise call refusal one);
+        not_barred = not_barred;
+        left_open = are_open fds worker made now run_now (cleaned.keeps.opens ∙ unopened);
+        open_stopped = open_stopped;
+        drawn = subst (λ (o : Opened). HaveDrawn o.sizes o.next made) (sym cleaned.opened) (draw fds worker made zero run mount (whole sound) distinct undrawn rise);
+        within = within;
+        own = own;
+        counted = drawn_now sound heads distinct is_run_now;
+        small = small_now sound heads distinct is_run_now;
+        room = λ none. subst (λ (o : Opened). entries_of_calls o.sizes.page (calls_that_drew made) ≤ o.sizes.entries) (sym cleaned.opened)
+            (has_room fds worker made zero run mount (whole sound) distinct (without none) (uncleaned (without none)));
+      },
+      refl,
+    )
 
 -- ---- what a run begins with
 

@@ -26,3 +26,7 @@ pub mod FailedDevices
 pub mod DrawnNumbers
 pub mod RunNumbers
 pub mod Lives
+pub mod KeptRounds
+pub mod Streams
+pub mod StreamRounds
+pub mod ShownLives

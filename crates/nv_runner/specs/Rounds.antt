@@ -1,11 +1,11 @@
 -- Rounds: the calls of one round among those of a trace.
-use Rattle.std.specs.Prelude.{◌≡◌, ◌⊎◌, ℕ, ◌<◌, ◌≤◌, List, ◌++◌, length, map, Option, take, drop, slice_index_or, All}
+use Rattle.std.specs.Prelude.{◌≡◌, ◌⊎◌, ℕ, ◌<◌, ◌≤◌, List, ◌++◌, length, map, Option, take, drop, slice_index_or, All, IsPermutation, Result, OnOk}
 use Rattle.std.specs.List.Sorted.{IsNonDecreasingBy, IsStrictlyIncreasing}
 use Rattle.nv_core.specs.state.Passes.{IsOneOf}
 use Rattle.nv_table.specs.state.States.{PassState}
 use Rattle.nv_mount.specs.declared.fds.Fd.{Fd}
 use Rattle.nv_trace.specs.declared.trace_call.TracedCall.{TracedCall}
-use Rattle.nv_runner.specs.Lists.{MadeCall}
+use Rattle.nv_runner.specs.Lists.{MadeCall, calls_made}
 use Rattle.nv_runner.specs.Shifts.{HasRun}
 
 -- calls stand in the order of their lines
@@ -46,3 +46,10 @@ pub record IsRoundLong (calls : List TracedCall) (count : ℕ) : Type 0 where
   pub within : count ≤ length calls
   pub one : All (λ call. call.round ≡ round) (take count calls)
   pub later : All (λ call. round < call.round) (drop count calls)
+
+-- They are listed, with those that were listed before, and all of the round were made where it was brought to its end.
+pub record HasRunListed (fds : List Fd) (worker : Option ℕ) (calls : List TracedCall) (before : List MadeCall) (zero : PassState) (old new : List MadeCall) {E : Type 0} (result : Result (Unit {0}) E) : Type 0 where
+  pub made : List MadeCall
+  pub ran : HasRunRound fds worker calls before made zero
+  pub listed : IsPermutation new (made ++ old)
+  pub all : OnOk result (IsPermutation (calls_made made) calls)

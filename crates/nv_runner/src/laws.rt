@@ -7,6 +7,7 @@ ghost use Rattle.nv_runner.specs.KeptCalls.{OpenCallsAreKeptWhole};
 ghost use Rattle.nv_runner.specs.Lists.{PlacedAreMine, PlacedStand};
 ghost use Rattle.nv_runner.specs.OpenRuns.{LeftOpenAreKept, OpenInRun};
 ghost use Rattle.nv_runner.specs.Lives.{RunsLeaveLives};
+ghost use Rattle.nv_runner.specs.ShownLives.{RunsLeaveShownLives};
 ghost use Rattle.nv_runner.specs.Newcomers.{JoinsGoOn, NewcomersAreUnborn, NewcomersBeginBehind, SplitsGoOn};
 ghost use Rattle.nv_runner.specs.OpenWrites.{KeptAreOpen, OpenAreFaults};
 ghost use Rattle.nv_runner.specs.Refusals.{RefusalsHaveCauses};
@@ -158,6 +159,11 @@ pub fn unstopped_runs_leave_nothing_open()
 /// then some other calls, each whole.
 pub fn runs_leave_lives()
     ensures { RunsLeaveLives }
+{}
+
+/// So they are left also behind the first calls that have a place, by their places, as those whose lines were written before the run ended: the history begins with these, and they are at the places from 0 on.
+pub fn runs_leave_shown_lives()
+    ensures { RunsLeaveShownLives }
 {}
 
 /// The calls that a pass made in a run stand in the mount's one history one behind the other, each behind all that its pass had seen before it was made, whatever the run came to.

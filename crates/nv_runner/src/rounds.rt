@@ -1,22 +1,25 @@
 //! All rounds of a trace, one behind the other.
 ghost use Rattle.std.specs.List.{flat_map};
-ghost use Rattle.std.specs.Prelude.{◌≡◌, ◌+◌, ◌<◌, ◌≤◌, ◌^◌, ◌++◌, [], All, IfOk, IsPermutation, OnOk, length, map, vec_capacity};
+ghost use Rattle.std.specs.Prelude.{◌≡◌, ◌+◌, ◌<◌, ◌≤◌, ◌^◌, ◌++◌, List, [], All, IfOk, IsPermutation, OnOk, length, map, vec_capacity};
 ghost use Rattle.nv_table.specs.state.Views.{AreDistinctNumbers, made_of, numbers};
+ghost use Rattle.nv_trace.specs.Shape.{IsWellFormed};
+ghost use Rattle.nv_trace.specs.Traced.{thread_count};
 ghost use Rattle.nv_runner.specs.declared.running.TheConstants.{MOST_CALLS};
-ghost use Rattle.nv_runner.specs.Lists.{calls_made, made_calls};
+ghost use Rattle.nv_runner.specs.Lists.{MadeCall, calls_made, made_calls};
 ghost use Rattle.nv_runner.specs.Owners.{AreShares, list_left, list_made};
-ghost use Rattle.nv_runner.specs.Rounds.{AreCallsOf, AreInLineOrder, AreInRoundOrder, AreMoreOf, IsNextRound, IsRoundLong};
+ghost use Rattle.nv_runner.specs.Rounds.{AreCallsOf, AreInLineOrder, AreInRoundOrder, HasRunListed, IsNextRound, IsRoundLong};
 ghost use Rattle.nv_runner.specs.Shifts.{HasRun};
+ghost use Rattle.nv_runner.specs.StreamRounds.{HasRunSorted};
 ghost use Rattle.nv_runner.specs.Workers.{IsZero, IsZeroStill};
 
 use crate::call_list::CallList;
-use crate::{AnsweredCall, Gate, run_round};
+use crate::{AnsweredCall, Gate, SortedCalls, run_round, sort_out};
 use nv_mount::Mount;
 use nv_plain::NoMemory;
 use nv_pmem::Lines;
 use nv_store::Backing;
 use nv_table::Pass;
-use nv_trace::TracedCall;
+use nv_trace::{Trace, TracedCall};
 use std::alloc::Global;
 use std::sync::Wait;
 use std::thread::Threads;
@@ -64,7 +67,7 @@ fn put_down<'a>(mut lists: Vec<CallList<'a>>, answered: &mut Vec<AnsweredCall<'a
     }
 }
 
-// Makes the calls of one round of a trace, by so many threads. What they are answered goes to the end of `answered`.
+// Makes the calls of one round of a trace, by so many threads, behind those of the rounds before it. What they are answered goes to the end of `answered`.
 fn run_listed<
     'a,
     R: Threads + Wait + Sync,
@@ -86,15 +89,13 @@ fn run_listed<
     requires all_in { length zero.old.view.ended ≡ made_of zero.old.view }
     requires threads { threads ≤ 8 }
     requires few { made_of zero.old.view + 10 < 2 ^ 32 }
-    requires next { IsNextRound threads calls.now (made_calls answered.old.items) }
-    requires run { HasRun mount.now.fds batch (made_calls answered.old.items) zero.old }
+    requires next { (before : List MadeCall) × IsNextRound threads calls.now before × HasRun mount.now.fds batch before zero.old }
     ensures zero { IsZero mount.now zero.new }
     ensures still { IsZeroStill zero.old zero.new }
     ensures all_in { length zero.new.view.ended ≡ made_of zero.new.view }
     ensures few { made_of zero.new.view ≤ made_of zero.old.view + 9 }
-    ensures run { HasRun mount.now.fds batch (made_calls answered.new.items) zero.new }
-    ensures within { AreMoreOf calls.now (made_calls answered.old.items) (made_calls answered.new.items) }
-    ensures all { OnOk result (IsPermutation (calls_made (made_calls answered.new.items)) (calls_made (made_calls answered.old.items) ++ calls.now)) }
+    ensures ran { (before : List MadeCall) → IsNextRound threads calls.now before → HasRun mount.now.fds batch before zero.old
+        → HasRunListed mount.now.fds batch calls.now before zero.new (made_calls answered.old.items) (made_calls answered.new.items) result }
 {
     answered.reserve(calls.len())?;
     let lists = hand_out(alloc, calls, threads)?;
@@ -102,6 +103,49 @@ fn run_listed<
     let result = run_round(rt, alloc, gate, mount, zero, lists, batch, &mut done);
     put_down(done, answered);
     result
+}
+
+/// Makes the calls of a trace of one round, by its threads, behind those of the rounds before it, and sorts them out.
+pub(crate) fn run_sorted<
+    'a,
+    R: Threads + Wait + Sync,
+    G: Gate + Sync,
+    L: Lines + Drop + Send,
+    B: Backing + Drop + Send,
+>(
+    rt: &R,
+    alloc: Global,
+    gate: &G,
+    mount: &Mount<L, B>,
+    zero: &mut Pass<L, B>,
+    trace: &'a Trace,
+    batch: Option<u64>,
+) -> Result<SortedCalls<'a>, NoMemory>
+    requires zero { IsZero mount.now zero.old }
+    requires all_in { length zero.old.view.ended ≡ made_of zero.old.view }
+    requires few { made_of zero.old.view + 10 < 2 ^ 32 }
+    requires next { (before : List MadeCall) × IsNextRound (thread_count trace.now) trace.now.calls before × HasRun mount.now.fds batch before zero.old }
+    ensures zero { IsZero mount.now zero.new }
+    ensures still { IsZeroStill zero.old zero.new }
+    ensures all_in { length zero.new.view.ended ≡ made_of zero.new.view }
+    ensures few { made_of zero.new.view ≤ made_of zero.old.view + 9 }
+    ensures well_formed { IsWellFormed trace.now }
+    ensures ran { (before : List MadeCall) → IsNextRound (thread_count trace.now) trace.now.calls before → HasRun mount.now.fds batch before zero.old
+        → HasRunSorted mount.now.fds batch trace.now.calls before zero.new result }
+{
+    let mut answered = Vec::new(alloc);
+    run_listed(
+        rt,
+        alloc,
+        gate,
+        mount,
+        zero,
+        trace.calls(),
+        trace.thread_count(),
+        batch,
+        &mut answered,
+    )?;
+    sort_out(alloc, answered)
 }
 
 /// Makes the calls of a trace, by so many threads, round by round: each round begins when the one before it has been taken in. Where `batch` tells the most entries of a batch, a

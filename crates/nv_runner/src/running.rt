@@ -1,6 +1,6 @@
 //! The run of a trace over a mount.
 ghost use Rattle.std.specs.List.Sorted.{IsStrictlyIncreasing};
-ghost use Rattle.std.specs.Prelude.{◌≡◌, ◌+◌, ◌≤◌, List, [], IsPermutation, OnOk, length, map, sum_by, Result};
+ghost use Rattle.std.specs.Prelude.{◌≡◌, ◌+◌, ◌≤◌, List, [], IsOk, IsPermutation, OnOk, length, map, sum_by, Result};
 ghost use Rattle.nv_table.specs.invariant.Idle.{IsIdle};
 ghost use Rattle.nv_table.specs.passes.Alone.{IsAlone};
 ghost use Rattle.nv_table.specs.ends.Closing.{IsClosed};
@@ -66,9 +66,10 @@ pub fn end_rounds<R: Wait, L: Lines + Drop, B: Backing + Drop>(
     ensures board { IsOf mount.now.board pass.new }
     ensures idle { IsIdle pass.new }
     ensures alone { IsAlone pass.new.view }
+    ensures brought { IsOk result → IsOk rounds }
     ensures outcome { (calls : List AnyTraced) (made : List MadeCall) (start : PassState) (outcome : Result AnySorted AnyError)
         → HaveRunRounds mount.now.fds (batch_of plan) mount.now.board.opened calls made start pass.old → OnOk rounds (IsPermutation (calls_made made) calls)
-        → IsOutcomeOf result made outcome → HasOutcome mount.now.fds plan calls start outcome pass.new }
+        → IsOutcomeOf result made outcome → (out : HasOutcome mount.now.fds plan calls start outcome pass.new) × (out.made ≡ made) }
 {
     runs_are_sound();
     passes_are_left_alone();

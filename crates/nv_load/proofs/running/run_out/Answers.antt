@@ -23,7 +23,7 @@ returns-clause-ran g c =
     let told =
     told_so c.args.alloc fds c.args.plan calls both.made c.args.pass.now c.end_rounds-ran.new.pass c.run_both-rounds.new.counts c.end_rounds-ran.result (let few = both.few in omega (arith, few, long)) both.counted
     (λ outcome is.
-    c.end_rounds-ran.ensures.outcome calls both.made c.args.pass.now outcome
+    (c.end_rounds-ran.ensures.outcome calls both.made c.args.pass.now outcome
     record {
       new = c.requires.new;
       still = ran.still;
@@ -33,5 +33,5 @@ returns-clause-ran g c =
       line_order = all_lines c.args.load;
       round_order = all_rounds c.args.load;
     }
-    both.all is) in
+    both.all is).0) in
     (told.0, told.1, subst (λ (r : Result Counts RunError). IsCountOf r told.0) (sym c.counted.ensures) told.2)

@@ -1,15 +1,12 @@
 -- The outcome of the rounds, and of the cleaning behind them.
-use Rattle.std.proofs.Common.{◌≡◌, ◌<◌, false, true, List, refl, sym, ap, subst, ◌∙◌, arith}
-use Rattle.std.specs.Prelude.{All, IsPermutation, Option, Some, None, Result, Ok, Err, OnOk, is_err, is_none, is_some}
+use Rattle.std.proofs.Common.{◌≡◌, false, true, refl, sym, ap, ◌∙◌, arith}
+use Rattle.std.specs.Prelude.{IsOk, Option, Some, None, Result, Ok, Err, OnOk, is_err, is_none, is_some}
 use Rattle.std.proofs.lemmas.List.Sorted.{IsPermutation-refl}
 use Rattle.nv_table.specs.passes.Alone.{IsAlone}
-use Rattle.nv_trace.specs.declared.trace_call.TracedCall.{TracedCall}
 use Rattle.nv_runner.specs.declared.run_error.RunError.TheVariants as errors
 use Rattle.nv_runner.specs.Histories.{RoundsRise}
 use Rattle.nv_runner.specs.Lists.{calls_made}
 use Rattle.nv_table.specs.state.Views.{PassView}
-use Rattle.nv_runner.specs.Rounds.{AreCallsOf}
-use Rattle.nv_runner.specs.Shifts.{HasRun}
 use Rattle.nv_runner.proofs.OutcomeLaws.{IsCleaned, memory_is_no_fault, not_both, not_cleaned, ok_is_no_fault, outcome_is, rises_within, stop_was_seen}
 use Rattle.nv_runner.specs.EndedRuns.{batch_of}
 use Rattle.nv_runner.proofs.ShiftLines.{run_lines}
@@ -20,6 +17,17 @@ use Rattle.nv_runner.proofs.running.end_rounds.Goals as goal
 went_well : {T E A : Type 0} (result : Result T E) → OnOk result A → is_err result ≡ false → A
 went_well (Ok done) all well = all
 went_well (Err error) all well = absurd (cc)
+
+-- what is no error went well
+well : {T E : Type 0} (result : Result T E) → is_err result ≡ false → IsOk result
+well (Ok done) fine = refl
+well (Err error) fine = absurd (cc)
+
+pub returns-then-is_some-clause-brought : goal.returns-then-is_some-clause-brought
+returns-then-is_some-clause-brought g c = λ _. well c.args.rounds (sym c.is_err.ensures.value ∙ c.if-is_err.false)
+
+pub returns-clause-brought : goal.returns-clause-brought
+returns-clause-brought g c = λ _. well c.args.rounds (sym c.is_err.ensures.value ∙ c.if-is_err.false)
 
 pub returns-then-is_err-clause-outcome : goal.returns-then-is_err-clause-outcome
 returns-then-is_err-clause-outcome g c =

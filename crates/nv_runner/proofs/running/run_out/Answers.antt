@@ -21,7 +21,7 @@ returns-clause-outcome g c =
     let zero = c.run_rounds-rounds.new.zero in
     let calls = c.args.trace.now.calls in
     λ outcome is.
-    c.end_rounds.ensures.outcome calls made c.args.pass.now outcome
+    (c.end_rounds.ensures.outcome calls made c.args.pass.now outcome
     record {
       new = c.requires.new;
       still = ran.still;
@@ -31,4 +31,4 @@ returns-clause-outcome g c =
       line_order = c.requires.lines;
       round_order = c.requires.well_formed.round_order;
     }
-    (subst (λ (l : List TracedCall). OnOk c.run_rounds-rounds.result (IsPermutation (calls_made made) l)) c.calls.ensures.calls ran.all) is
+    (subst (λ (l : List TracedCall). OnOk c.run_rounds-rounds.result (IsPermutation (calls_made made) l)) c.calls.ensures.calls ran.all) is).0
