@@ -52,7 +52,7 @@ use Rattle.nv_top.specs.Lives.{LeavesLife, LeavesRecovery, LeavesRun}
 use Rattle.nv_top.specs.Loads.{load_options}
 use Rattle.nv_top.specs.Ready.{IsReady}
 use Rattle.nv_top.specs.Reported.{HasReported}
-use Rattle.nv_top.specs.Reports.{history_lines}
+use Rattle.nv_runner.specs.Reports.{history_lines}
 use Rattle.nv_top.specs.Rounds.{OfRounds}
 use Rattle.nv_top.specs.Said.{Outcome}
 use Rattle.nv_top.specs.Stopping.{RestsWith}

@@ -18,8 +18,8 @@ use Rattle.nv_trace.specs.declared.report.Refusal.TheVariants.{BadDescriptor, To
 use Rattle.nv_trace.specs.Lines.{onto_first, parts_between, but_last, fields_of, ended_lines}
 use Rattle.nv_trace.specs.Report.{spaced, line_text, hex_text, call_fields, reply_text, refusal_text, fate_text, history_text, refused_text, open_text, recovered_text, file_text, end_text}
 use Rattle.nv_runner.specs.Histories.{PlacedCall}
-use Rattle.nv_runner.specs.Reports.{NamedFile, OpenCall, Report, ShownRefusal}
-use Rattle.nv_top.specs.Reports.{RecoveryReport, history_lines, refused_lines, open_lines, file_lines, report_text, recovery_text}
+use Rattle.nv_runner.specs.Reports.{NamedFile, OpenCall, Report, ShownRefusal, history_lines, refused_lines}
+use Rattle.nv_top.specs.Reports.{RecoveryReport, open_lines, file_lines, report_text, recovery_text}
 use Rattle.nv_top.specs.Readings.{behind_last, refusal_fields, placed_fields, history_listing, refused_fields, open_fields, recovered_fields, file_fields, end_fields, listing, recovery_listing, IsPlainByte, HavePlainNames}
 
 abbrev IsPlain : List ℕ → Type 0

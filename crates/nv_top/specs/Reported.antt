@@ -12,7 +12,7 @@ use Rattle.nv_top.specs.Endings.{IsTrace}
 use Rattle.nv_top.specs.Headline.{HasRunRounds, IsArmedByAll, IsArmedBySome, IsCommandRefused, IsLeftAfter, IsLeftBy, IsRun, IsRunRefused, IsShown, IsShownOf, IsUnhindered, UsesTurns, expected_faults, form_by}
 use Rattle.nv_top.specs.Lives.{LeavesLife, LeavesRun}
 use Rattle.nv_top.specs.Ready.{IsRunnable}
-use Rattle.nv_top.specs.Reports.{history_lines}
+use Rattle.nv_runner.specs.Reports.{history_lines}
 use Rattle.nv_top.specs.Stopping.{IsSettledStop}
 use Rattle.nv_top.specs.Stops.{ComesFromInput, IsCauseOf, IsFollowed, IsOwnStop}
 use Rattle.nv_top.specs.declared.ending.Stop.{Stop}

@@ -1,9 +1,8 @@
 -- Reports: the text of one, and what that of a recovery lists.
 use Rattle.std.specs.Prelude.{ℕ, ◌+◌, List, [], ◌∷◌, ◌++◌, length}
 use Rattle.std.specs.List.{flat_map}
-use Rattle.nv_trace.specs.Report.{history_text, refused_text, open_text, recovered_text, file_text, end_text}
-use Rattle.nv_runner.specs.Histories.{PlacedCall}
-use Rattle.nv_runner.specs.Reports.{NamedFile, OpenCall, Report, ShownRefusal}
+use Rattle.nv_trace.specs.Report.{open_text, recovered_text, file_text, end_text}
+use Rattle.nv_runner.specs.Reports.{NamedFile, OpenCall, Report, history_lines, refused_lines}
 
 -- What the report of a recovery lists: its first number, the one that the region goes on with, how many groups, and the files.
 pub record RecoveryReport : Type 0 where
@@ -11,15 +10,6 @@ pub record RecoveryReport : Type 0 where
   pub next : ℕ
   pub groups : ℕ
   pub files : List NamedFile
-
--- the lines of placed calls, the first of them at this place
-abbrev pub history_lines : ℕ → List PlacedCall → List ℕ
-history_lines place [] = []
-history_lines place (placed ∷ later) =
-    history_text place placed.call.thread placed.call.call placed.reply ++ history_lines (place + 1) later
-
-abbrev pub refused_lines : List ShownRefusal → List ℕ
-refused_lines refused = flat_map (λ r. refused_text r.call.thread r.call.call r.refusal) refused
 
 abbrev pub open_lines : List OpenCall → List ℕ
 open_lines open_calls = flat_map (λ o. open_text o.call.thread o.call.call o.fate) open_calls

@@ -6,7 +6,7 @@ ghost use Rattle.nv_top.specs.Headline.{HasInput, HasRefusal, command_over, poss
 ghost use Rattle.nv_runner.specs.Histories.{PlacedCall};
 ghost use Rattle.nv_top.specs.Ready.{IsReady, IsRunnable};
 ghost use Rattle.nv_top.specs.Reported.{HasReported, HasRunTrace};
-ghost use Rattle.nv_top.specs.Reports.{history_lines};
+ghost use Rattle.nv_runner.specs.Reports.{history_lines};
 ghost use Rattle.nv_top.specs.Said.{IsSaid, Outcome};
 ghost use Rattle.nv_words.specs.Words.{AreInLimits};
 ghost use Rattle.nv_words.specs.declared.words.Command.{Command};

@@ -1,16 +1,15 @@
 //! Reports, as text.
 ghost use Rattle.std.specs.Prelude.{◌≡◌, ◌++◌, ◌+◌, length, map, IfOk, OnOk};
 ghost use Rattle.nv_runner.specs.Faithful.{named};
-ghost use Rattle.nv_runner.specs.FaithfulRuns.{shown_call};
-ghost use Rattle.nv_runner.specs.Sorted.{placed_call};
 ghost use Rattle.nv_top.specs.Outcomes.{fated_call, report_of};
-ghost use Rattle.nv_top.specs.Reports.{history_lines, refused_lines, open_lines, file_lines, report_text, recovery_text};
+ghost use Rattle.nv_runner.specs.Reports.{history_lines, refused_lines};
+ghost use Rattle.nv_top.specs.Reports.{open_lines, file_lines, report_text, recovery_text};
 
 use crate::outcome::Fated;
 use nv_plain::{Bytes, NoMemory};
 use nv_recover::Recovered;
-use nv_runner::{Placed, Shown};
-use nv_trace::{end_line, file_line, history_line, open_line, recovered_line, refused_line};
+use nv_runner::{Placed, Shown, push_history, push_refused};
+use nv_trace::{end_line, file_line, open_line, recovered_line};
 use std::alloc::Global;
 
 /// The text of a run's report: its calls, those that were left open with what became of them, and the files by their names.
@@ -26,7 +25,7 @@ pub(crate) fn text_of(
     ensures { IfOk result (λ text. text.items ≡ report_text (report_of placed.now refused.now fated.now names.now files.now)) }
 {
     let mut text = Vec::new(alloc);
-    push_history(alloc, &mut text, placed)?;
+    push_history(alloc, &mut text, 0, placed)?;
     push_refused(alloc, &mut text, refused)?;
     push_open(alloc, &mut text, fated)?;
     push_files(alloc, &mut text, names, files)?;
@@ -61,30 +60,6 @@ pub(crate) fn recovery_text_of(
     )?;
     push_files(alloc, &mut text, names, files)?;
     Ok(text)
-}
-
-fn push_history(alloc: Global, text: &mut Vec<u8>, placed: &[Placed<'_>]) -> Result<(), NoMemory>
-    ensures { OnOk result (text.new.items ≡ text.old.items ++ history_lines 0 (map placed_call placed.now)) }
-{
-    for (place, p) in placed.iter().enumerate() {
-        push(
-            text,
-            &history_line(alloc, place as u64, p.call.thread, &p.call.call, &p.reply)?,
-        )?;
-    }
-    Ok(())
-}
-
-fn push_refused(alloc: Global, text: &mut Vec<u8>, refused: &[Shown<'_>]) -> Result<(), NoMemory>
-    ensures { OnOk result (text.new.items ≡ text.old.items ++ refused_lines (map shown_call refused.now)) }
-{
-    for r in refused {
-        push(
-            text,
-            &refused_line(alloc, r.call.thread, &r.call.call, &r.refusal)?,
-        )?;
-    }
-    Ok(())
 }
 
 fn push_open(alloc: Global, text: &mut Vec<u8>, fated: &[Fated<'_>]) -> Result<(), NoMemory>

@@ -1,5 +1,6 @@
 use Rattle.std.proofs.Common.{◌≡◌, ◌∙◌, ℕ, List, None, length, map, refl, sym, ap, subst}
 use Rattle.std.proofs.Common.{◌++◌, ◌<◌, All}
+use Rattle.nv_header.proofs.InRow.{region_as}
 use Rattle.nv_bench.specs.Holding.{named_stores}
 use Rattle.nv_open.specs.Lending.{without_stores}
 use Rattle.std.specs.Prelude.{IfSome}
@@ -63,8 +64,8 @@ returns-clause-recovered g c =
       next = region.next;
       now = now.states;
       now_are = now_are;
-      rest = row_tells_at (map history parts_back) (IsAtRest mount_layout region.geometry.page region.geometry.entries region.names region.next) now.states now_are c.into_parts-parts.ensures.region.tells;
-      long = c.parts_have_lines.ensures region.geometry.page region.geometry.entries now.states c.into_parts-parts.ensures.region.parts now_are;
+      rest = row_tells_at (map history parts_back) (IsAtRest mount_layout region.geometry.page region.geometry.entries region.names region.next) now.states now_are (region_as c.in_ok-opened.opened.version c.into_parts-parts.ensures.region).tells;
+      long = c.parts_have_lines.ensures region.geometry.page region.geometry.entries now.states (region_as c.in_ok-opened.opened.version c.into_parts-parts.ensures.region).parts now_are;
       disks = files.held;
       disks_are = subst StoresAre (sym c.show-report.ensures.histories) files.are;
       files_are = files.files_are;
@@ -83,7 +84,7 @@ returns-clause-recovered g c =
       long = recovery.long;
       fits = recovery.log.fits;
       plain = subst Plain recovery.names_are
-          (names_plain mount_layout.name_limit region.names (files_named holding.parts region.names holding.stores).contents (each_allowed region.names c.into_parts-parts.ensures.region.names_are));
+          (names_plain mount_layout.name_limit region.names (files_named holding.parts region.names holding.stores).contents (each_allowed region.names (region_as c.in_ok-opened.opened.version c.into_parts-parts.ensures.region).names_are));
       text_is =
           told_text files.held files.are
           ∙ ap (shown c.names.result.now) files.files_are
@@ -132,7 +133,7 @@ returns-clause-standing g c =
           ∙ back_is old mid region.names was made.lent c.requires.at_home.home told now.states files.held;
       is_so =
           recovered_stands c.images_stand_for_files.ensures.files was region.geometry.page region.geometry.entries region.next region.names c.in_ok-opened.found now.states files.held recovery
-          (row_tells_at (map history back) (IsAtRest mount_layout region.geometry.page region.geometry.entries region.names region.next) now.states now_are c.into_parts-parts.ensures.region.tells) files.files_are files.quiet
+          (row_tells_at (map history back) (IsAtRest mount_layout region.geometry.page region.geometry.entries region.names region.next) now.states now_are (region_as c.in_ok-opened.opened.version c.into_parts-parts.ensures.region).tells) files.files_are files.quiet
           (home_distinct old was (g.met.T.Bench.named c.args.bench.now) told c.requires.at_home.home)
           (row_tells_at (map history region.parts.items) (λ now. line_counts now ≡ line_counts was.parts) now.states now.are (told_at old.told (λ holding. RowTells (map history region.parts.items) (λ now. line_counts now ≡ line_counts holding.parts)) was told made.lines))
           (sym (states_many (map held backing) files.held files.are ∙ length-map backing held ∙ made.one_each))

@@ -48,7 +48,7 @@ returns-in_default-clause-life g c parts now parts_are now_are =
     let back = c.into_parts.result.items in
     let same : map history back ≡ map history region.parts.items = ap (λ parts. map history parts.items) c.into_parts.ensures.parts in
     rest_lives history held (basis_over region c.args.options.pages (files_of now)) (trace_run c.args.show c.args.trace.now) back c.args.stores.items parts now region.next
-    (subst (λ (row : List lines.PartHistory). AreNow row parts) (sym same) parts_are) now_are c.into_parts.ensures.region.tells (quiet_stores held c.args.stores.items now now_are c.requires.quiet) refl
+    (subst (λ (row : List lines.PartHistory). AreNow row parts) (sym same) parts_are) now_are (region_as c.requires.version c.into_parts.ensures.region).tells (quiet_stores held c.args.stores.items now now_are c.requires.quiet) refl
 
 pub returns-in-Ok-mount_over-clause-life : goal.returns-in-Ok-mount_over-clause-life
 returns-in-Ok-mount_over-clause-life g c parts now parts_are now_are =

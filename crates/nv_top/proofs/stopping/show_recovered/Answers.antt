@@ -1,5 +1,6 @@
 use Rattle.std.proofs.Common.{◌≡◌, List, IfSome, map, sym, ap, subst}
 use Rattle.std.proofs.lemmas.Result.{IfOk-weaker}
+use Rattle.nv_header.proofs.InRow.{region_as}
 use Rattle.nv_pmem.specs.RowStates.{AreNow}
 use Rattle.nv_store.specs.Steps as stores
 use Rattle.nv_store.specs.Store.{Store}
@@ -52,8 +53,8 @@ returns-clause-shown g c =
     (at_some old.told (λ holding. IsRecovered holding.parts region.geometry.page region.geometry.entries region.names region.next found) holding told_is opened.recovered)
     (at_some old.told (λ holding. HoldFiles (map held backing) (files_named holding.parts region.names holding.stores)) holding told_is opened.files)
     (subst Told (sym same_parts) (at_some old.told (λ holding. AllTell (map history region.parts.items)) holding told_is opened.tell))
-    c.into_parts-parts.ensures.region.tells
-    (λ now are. c.parts_have_lines.ensures region.geometry.page region.geometry.entries now c.into_parts-parts.ensures.region.parts are)
+    (region_as c.in_ok-opened.opened.version c.into_parts-parts.ensures.region).tells
+    (λ now are. c.parts_have_lines.ensures region.geometry.page region.geometry.entries now (region_as c.in_ok-opened.opened.version c.into_parts-parts.ensures.region).parts are)
     (λ now disks now_are disks_are.
     let At : List stores.StoreHistory → Type 0 = λ row. AreNow row disks in
     c.give_back.ensures.told now disks now_are (subst At (sym c.show_fates-report.ensures.histories) disks_are))))
@@ -83,7 +84,7 @@ returns-clause-standing g c =
           ∙ back_is old mid region.names was made.lent c.requires.at_home.home told now.states files.held;
       is_so =
           recovered_stands c.images_stand_for_files.ensures.files was region.geometry.page region.geometry.entries region.next region.names c.in_ok-opened.found now.states files.held recovery
-          (row_tells_at (map history back) (IsAtRest mount_layout region.geometry.page region.geometry.entries region.names region.next) now.states now_are c.into_parts-parts.ensures.region.tells) files.files_are files.quiet
+          (row_tells_at (map history back) (IsAtRest mount_layout region.geometry.page region.geometry.entries region.names region.next) now.states now_are (region_as c.in_ok-opened.opened.version c.into_parts-parts.ensures.region).tells) files.files_are files.quiet
           (home_distinct old was (g.met.T.Bench.named c.args.bench.now) told c.requires.at_home.home)
           (row_tells_at (map history region.parts.items) (λ now. line_counts now ≡ line_counts was.parts) now.states now.are (at_some old.told (λ holding. RowTells (map history region.parts.items) (λ now. line_counts now ≡ line_counts holding.parts)) was told made.lines))
           (sym (states_many (map held backing) files.held files.are ∙ length-map backing held ∙ made.one_each))

@@ -2,7 +2,8 @@ use Rattle.std.proofs.Common.{rules, ◌≡◌, ◌++◌, ◌∙◌, ap, map, le
 use Rattle.std.proofs.lemmas.List.{length-map}
 use Rattle.nv_trace.specs.Report.{end_text}
 use Rattle.nv_runner.specs.Faithful.{named}
-use Rattle.nv_top.specs.Reports.{report_text, history_lines, refused_lines, open_lines, file_lines}
+use Rattle.nv_runner.specs.Reports.{history_lines, refused_lines}
+use Rattle.nv_top.specs.Reports.{report_text, open_lines, file_lines}
 use Rattle.nv_runner.specs.FaithfulRuns.{shown_call}
 use Rattle.nv_runner.specs.Sorted.{placed_call}
 use Rattle.nv_top.specs.Outcomes.{fated_call}
