@@ -32,14 +32,14 @@ use Rattle.nv_header.proofs.VersionLaws.{sizes, record_line-before, record_line-
 -- ---- an image in which no word is another but those of a record that isn't a name's yet
 
 -- what an image keeps of one before it
-record Keeps_log (version : Version) (entries count : ℕ) (image before : Image) : Type 0 where
-  magic : image 0 0 0 ≡ before 0 0 0
-  version_is : image 0 0 1 ≡ before 0 0 1
-  page : image 0 0 2 ≡ before 0 0 2
-  count_of_entries : image 0 0 3 ≡ before 0 0 3
-  tail : image 0 1 0 ≡ before 0 1 0
-  records : (j : ℕ) → j < count → SameRecord version image before j
-  commits : (k : ℕ) → image (1 + k) 0 0 ≡ before (1 + k) 0 0
+pub record Keeps_log (version : Version) (entries count : ℕ) (image before : Image) : Type 0 where
+  pub magic : image 0 0 0 ≡ before 0 0 0
+  pub version_is : image 0 0 1 ≡ before 0 0 1
+  pub page : image 0 0 2 ≡ before 0 0 2
+  pub count_of_entries : image 0 0 3 ≡ before 0 0 3
+  pub tail : image 0 1 0 ≡ before 0 1 0
+  pub records : (j : ℕ) → j < count → SameRecord version image before j
+  pub commits : (k : ℕ) → image (1 + k) 0 0 ≡ before (1 + k) 0 0
 
 log_still : (version : Version) (entries next count : ℕ) (image before : Image) → Keeps_log version entries count image before → HasNoneFrom entries next before → HasNoneFrom entries next image
 log_still version entries next count image before keeps log = record {
@@ -47,7 +47,7 @@ log_still version entries next count image before keeps log = record {
 }
 
 -- the names are those before, or the first so many
-still : (version : Version) (page entries next : ℕ) (names : List (List ℕ)) (image before : Image) → Keeps_log version entries (length names) image before → image 0 0 4 ≡ before 0 0 4 → before 0 0 4 ≡ length names → HasEmptyLog (layout_of version) page entries names next before → HasEmptyLog (layout_of version) page entries names next image
+pub still : (version : Version) (page entries next : ℕ) (names : List (List ℕ)) (image before : Image) → Keeps_log version entries (length names) image before → image 0 0 4 ≡ before 0 0 4 → before 0 0 4 ≡ length names → HasEmptyLog (layout_of version) page entries names next before → HasEmptyLog (layout_of version) page entries names next image
 still version page entries next names image before keeps files_is count log =
     let header_is : header_of image ≡ header_of before = λ i. record {
       magic = keeps.magic i;
@@ -81,12 +81,12 @@ still version page entries next names image before keeps files_is count log =
 
 -- ---- and one in which the record is a name's
 
-count_is : (version : Version) (page entries next : ℕ) (names : List (List ℕ)) (image : Image) → HasEmptyLog (layout_of version) page entries names next image → image 0 0 4 ≡ length names
+pub count_is : (version : Version) (page entries next : ℕ) (names : List (List ℕ)) (image : Image) → HasEmptyLog (layout_of version) page entries names next image → image 0 0 4 ≡ length names
 unfolding first_names
 count_is version page entries next names image log =
     sym (length-map-range_with_len (name_of (layout_of version) image) 0 (image 0 0 4)) ∙ ap length log.header.names_are
 
-name_at : (version : Version) (page entries next : ℕ) (names : List (List ℕ)) (image : Image) (j : ℕ) → HasEmptyLog (layout_of version) page entries names next image → j < length names → slice_index_or names j [] ≡ name_of (layout_of version) image j
+pub name_at : (version : Version) (page entries next : ℕ) (names : List (List ℕ)) (image : Image) (j : ℕ) → HasEmptyLog (layout_of version) page entries names next image → j < length names → slice_index_or names j [] ≡ name_of (layout_of version) image j
 unfolding first_names
 name_at version page entries next names image j log below =
     ap (λ these. slice_index_or these j []) (sym log.header.names_are)
@@ -148,7 +148,7 @@ one_more version page entries next names name image before can are keeps files_i
 -- ---- the steps
 
 -- the steps on part 0 store in part 0
-stored_in_header : (i line word found : ℕ) (steps : List LineStep) → IsStoredBy (steps_on i (on_part 0 steps)) line word found → (i ≡ 0) × IsStoredBy steps line word found
+pub stored_in_header : (i line word found : ℕ) (steps : List LineStep) → IsStoredBy (steps_on i (on_part 0 steps)) line word found → (i ≡ 0) × IsStoredBy steps line word found
 stored_in_header i line word found steps stored =
     let By : List LineStep → Type 0 = λ these. IsStoredBy these line word found in
     elim (cases_eq i 0) [
@@ -172,13 +172,13 @@ record_only version i line word found name stored =
       | inr rest ↦ elim rest [ inl none ↦ absurd none | inr none ↦ absurd none ]
     ]
 
-kept_unless : {A : Type 0} (a b : ℕ) → (a ≡ b) ⊎ A → ¬ A → a ≡ b
+pub kept_unless : {A : Type 0} (a b : ℕ) → (a ≡ b) ⊎ A → ¬ A → a ≡ b
 kept_unless a b (inl kept) never = kept
 kept_unless a b (inr one) never = absurd (never one)
 
--- what a change of a record's lines, or of the count, keeps
-keeps_but_record : (version : Version) (entries count : ℕ) (image before : Image) → ((i line word : ℕ) → (image i line word ≡ before i line word) ⊎ ((i ≡ 0) × (record_line (layout_of version) count ≤ line))) → Keeps_log version entries count image before
-keeps_but_record version entries count image before words =
+-- what a change of lines from a record's on, or of the count, keeps
+pub keeps_but_lines : (version : Version) (entries count first : ℕ) (image before : Image) → record_line (layout_of version) count ≤ first → ((i line word : ℕ) → (image i line word ≡ before i line word) ⊎ ((i ≡ 0) × (first ≤ line))) → Keeps_log version entries count image before
+keeps_but_lines version entries count first image before from words =
     let behind = record_line-behind version count in
     record {
       magic = kept_unless _ _ (words 0 0 0) (λ one. omega (arith, one.1));
@@ -220,7 +220,7 @@ while_record version page entries next names name parts each count image is =
     ] in
     found in
     let log = each from.before from.is in
-    still version page entries next names image from.before (keeps_but_record version entries i image from.before words)
+    still version page entries next names image from.before (keeps_but_lines version entries i (record_line (layout_of version) i) image from.before (omega arith) words)
     (kept_unless _ _ (words 0 0 4) (λ one. omega (arith, one.1, record_line-behind version i))) (count_is version page entries next names from.before log) log
 
 -- ---- once the record is written
@@ -289,7 +289,7 @@ record IsRecorded (version : Version) (page entries next : ℕ) (names : List (L
   words : HasRecord version image (length names) name
 
 -- the header's part after steps on it
-header_after : (steps : List LineStep) (parts : List Part) → slice_index_or (run row_after (on_part 0 steps) parts) 0 [] ≡ after_steps steps (slice_index_or parts 0 [])
+pub header_after : (steps : List LineStep) (parts : List Part) → slice_index_or (run row_after (on_part 0 steps) parts) 0 [] ≡ after_steps steps (slice_index_or parts 0 [])
 header_after steps parts =
     row_at 0 (on_part 0 steps) parts ∙ ap (λ these. after_steps these (slice_index_or parts 0 [])) (steps_on-same 0 steps)
 

@@ -9,7 +9,10 @@ pub mod NotedLaws
 pub mod Clearing
 pub mod FormatLaws
 pub mod RecordWords
+pub mod RecordsSteps
 pub mod AddLaws
+pub mod MigrateLaws
+pub mod MigratedHeads
 pub mod NewNames
 pub mod FileNameLaws
 pub mod BlankParts

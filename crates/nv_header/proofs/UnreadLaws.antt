@@ -18,7 +18,7 @@ numbered One = refl
 numbered Two = refl
 
 -- and no other one has it
-same_version : (one other : Version) (number : ℕ) → number ≡ (layout_of one).version → number ≡ (layout_of other).version → one ≡ other
+pub same_version : (one other : Version) (number : ℕ) → number ≡ (layout_of one).version → number ≡ (layout_of other).version → one ≡ other
 same_version One One number is also = refl
 same_version One Two number is also = absurd (omega (arith, is, also))
 same_version Two One number is also = absurd (omega (arith, is, also))

@@ -14,7 +14,7 @@ pub record AreChangedBy {X : Type 0} (history : X → PartHistory) (room : X →
   pub lines : map (λ part. (room part).lines) new ≡ map (λ part. (room part).lines) old
   pub devices : map device new ≡ map device old
 
--- the parts after a call of `format`, in a region or by themselves
+-- the parts after a call of `format` or `migrate`, in a region or by themselves
 abbrev pub parts_after_format : {L A E : Type 0} {g : _} → Result (Region L g) (Vec L A × E) → List L
 parts_after_format (Ok region) = region.parts.items
 parts_after_format (Err failed) = failed.0.items

@@ -1,10 +1,12 @@
 -- The device calls that write a region's header, one after another.
-use Rattle.std.specs.Prelude.{ℕ, ◌+◌, ◌-◌, ◌*◌, List, [], ◌∷◌, ◌++◌, length, take, drop}
+use Rattle.std.specs.Prelude.{ℕ, ◌+◌, ◌-◌, ◌*◌, List, [], ◌∷◌, ◌++◌, length, take, drop, slice_index_or}
 use Rattle.std.specs.Int.{to_le_bytes, w64}
 use Rattle.std.specs.List.{flat_map, range_with_len}
 use Rattle.nv_plain.specs.Files.{padded}
 use Rattle.nv_plain.specs.Images.{header_magic}
-use Rattle.nv_plain.specs.Layouts.{Layout}
+use Rattle.nv_plain.specs.Layouts.{Layout, version_2}
+use Rattle.nv_plain.specs.declared.limits.Version.{Version}
+use Rattle.nv_plain.specs.declared.limits.Version.TheVariants.{One, Two}
 use Rattle.nv_pmem.specs.Rows.{RowStep, on_part}
 use Rattle.nv_pmem.specs.Steps.{LineStep, StoreWord, Flush, Fence, line_stores, durable_store}
 use Rattle.nv_header.specs.Heads.{record_line}
@@ -54,3 +56,21 @@ record_steps layout i name = record_lines_steps layout i name ++ Fence ∷ []
 -- A name is added as name i: its record first, and then the count of the names.
 unfoldable pub add_file_steps : Layout → (i : ℕ) → List ℕ → List LineStep
 add_file_steps layout i name = record_steps layout i name ++ durable_store 0 4 (i + 1)
+
+-- the records of some names, from the first on: each of their lines is stored and flushed
+unfoldable pub records_lines_steps : Layout → List (List ℕ) → List LineStep
+records_lines_steps layout names =
+    flat_map (λ i. record_lines_steps layout i (slice_index_or names i [])) (range_with_len 0 (length names))
+
+-- They are made durable: one fence comes last.
+unfoldable pub records_steps : Layout → List (List ℕ) → List LineStep
+records_steps layout names = records_lines_steps layout names ++ Fence ∷ []
+
+-- A header of version 1 with these names becomes one of version 2: the records of that version first, and then the version.
+unfoldable pub version_2_steps : List (List ℕ) → List LineStep
+version_2_steps names = records_steps version_2 names ++ durable_store 0 1 version_2.version
+
+-- A region with these names is migrated; one of version 2 is left alone.
+abbrev pub migrate_steps : Version → List (List ℕ) → List LineStep
+migrate_steps One names = version_2_steps names
+migrate_steps Two names = []

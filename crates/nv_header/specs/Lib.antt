@@ -9,5 +9,6 @@ pub mod Needs
 pub mod HeaderSteps
 pub mod Regions
 pub mod Additions
+pub mod Migrations
 pub mod Changes
 pub mod Laws

@@ -1,5 +1,6 @@
 //! Laws of headers.
 ghost use Rattle.nv_header.specs.Laws.{StandsForItsStores, EmptyLogRecoversNothing, LinesMakeParts, TailIsOldOrNew, TailIsMoved, TailEndsQuiet};
+ghost use Rattle.nv_header.specs.Migrations.{EitherVersionSaysTheSame, EitherVersionIsRead};
 ghost use Rattle.nv_header.specs.Refusals.{ReadIsNotRefused, IsRefusedOnce};
 ghost use Rattle.nv_header.specs.Unread.{HeadIsNotUnread, IsUnreadOnce};
 
@@ -13,8 +14,16 @@ pub fn a_header_has_one_answer()
     ensures unread { IsUnreadOnce }
 {}
 
-/// What a region with an empty log stands for: the bytes of its stores, and so does a blank one. So [`format`](crate::format)
-/// and [`add_file`](crate::add_file) change no file at any moment, whatever a power failure leaves.
+/// Whatever [`migrate`](crate::migrate) came to, and whatever a power failure leaves of it: what [`read_head`](crate::read_head)
+/// says of the header's part then has the sizes, the names and the tail of before, and no refusal but a fault or want of
+/// memory comes in its place.
+pub fn a_migrated_header_says_the_same()
+    ensures said { EitherVersionSaysTheSame }
+    ensures read { EitherVersionIsRead }
+{}
+
+/// What a region with an empty log stands for: the bytes of its stores, and so does a blank one. So [`format`](crate::format),
+/// [`add_file`](crate::add_file) and [`migrate`](crate::migrate) change no file at any moment, whatever a power failure leaves.
 pub fn an_empty_region_stands_for_its_stores()
     ensures files { StandsForItsStores }
     ensures recovered { EmptyLogRecoversNothing }

@@ -26,6 +26,7 @@ mod formatting;
 mod head;
 mod laws;
 mod lines;
+mod migrating;
 mod names;
 mod read;
 mod record;
@@ -37,10 +38,11 @@ pub use adding::{AddError, add_file};
 pub use formatting::format;
 pub use head::{Head, HeadError, HeadField};
 pub use laws::{
-    a_header_has_one_answer, an_empty_region_stands_for_its_stores, needed_lines_make_parts,
-    the_tail_follows_steps,
+    a_header_has_one_answer, a_migrated_header_says_the_same,
+    an_empty_region_stands_for_its_stores, needed_lines_make_parts, the_tail_follows_steps,
 };
 pub use lines::{Truncated, check_lines};
+pub use migrating::migrate;
 pub use names::Names;
 pub use read::{is_blank, read_head, read_head_of};
 pub use region::Region;
