@@ -1,2 +1,3 @@
+mod HeaderRoom
 mod LostPower
 mod TestRegions

@@ -2,10 +2,11 @@
 
 use crate::given::blank_parts;
 use nv_header::{
-    AddError, HeadError, Region, add_file, format, is_blank, move_tail, read_head, read_head_of,
+    AddError, HeadError, Region, add_file, format, is_blank, migrate, move_tail, read_head,
+    read_head_of,
 };
 use nv_plain::limits::Version;
-use nv_pmem::{Fuse, Geometry, Lines, MemPart};
+use nv_pmem::{Fuse, Geometry, Lines, MemPart, RegionFault};
 use std::alloc::Global;
 use std::test::Fail;
 
@@ -101,6 +102,52 @@ fn a_header_has_its_words(rt: HostRuntime) -> Result<(), Fail> {
         };
         assert_eq!(rt; of_one, known);
     }
+    Ok(())
+}
+
+// A region of version 1 whose header's part has the lines of version 2.
+fn roomy(alloc: Global) -> Result<Region<MemPart>, Fail> {
+    let geometry = Geometry::new(64, 2)?;
+    let fuse = Fuse::new(alloc, &[])?;
+    let parts = blank_parts(alloc, Version::Two, geometry, &fuse, &[])?;
+    match format(parts, Version::One, geometry) {
+        Ok(region) => Ok(region),
+        Err((_, fault)) => Err(fault.into()),
+    }
+}
+
+// That region in version 2, where its header's part has the lines for that.
+fn migrated(region: Region<MemPart>) -> Result<Region<MemPart>, Fail> {
+    let (version, geometry, next) = (region.version(), region.geometry(), region.next());
+    let (parts, names) = region.into_parts_and_names();
+    if parts[0].lines() < Version::Two.header_lines() {
+        return Err(RegionFault.into());
+    }
+    match migrate(Region::from_parts(parts, version, geometry, names, next)) {
+        Ok(region) => Ok(region),
+        Err((_, fault)) => Err(fault.into()),
+    }
+}
+
+#[test]
+fn a_region_is_migrated(rt: HostRuntime) -> Result<(), Fail> {
+    let row = &HEADER_ROWS[1];
+    let region = roomy(rt.alloc())?;
+    let (region, _first) = add_file(rt.alloc(), region, b"a").map_err(|failed| failed.1)?;
+    let (region, _second) = add_file(rt.alloc(), region, b"bc").map_err(|failed| failed.1)?;
+    let region = migrated(region)?;
+    assert_eq!(rt;
+        (region.version(), region.next(), region.names().len()),
+        (row.version, 0, 2)
+    );
+    let mut parts = region.into_parts();
+    assert_eq!(rt; header_words(&mut parts[0]), row.header.map(Some));
+    assert!(rt; holds(&mut parts[0], &row.second));
+    let head = read_head(rt.alloc(), &mut parts)?;
+    assert_eq!(rt;
+        (head.version, head.tail, head.names.len()),
+        (row.version, 0, 2)
+    );
     Ok(())
 }
 
