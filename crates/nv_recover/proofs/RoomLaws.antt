@@ -1,13 +1,44 @@
 -- The lines of a region's parts, as each call asks for them.
-use Rattle.std.proofs.Common.{◌≡◌, ℕ, ◌+◌, ◌<◌, ◌≤◌, All, List, [], ◌∷◌, length, take, drop, map, get_or, suc, refl, sym, ap, ◌∙◌, subst, arith}
+use Rattle.std.proofs.Common.{◌≡◌, ℕ, ◌+◌, ◌<◌, ◌≤◌, All, List, [], ◌∷◌, length, take, drop, map, get_or, slice_set, suc, refl, sym, ap, ◌∙◌, subst, arith}
 use Rattle.std.proofs.lemmas.List.{length-map, get_or-map, get_or-take, get_or-drop, length-take}
 use Rattle.std.proofs.lemmas.List.Elements.{All-weaker, AllZip-get_or, length_all_zip}
 use Rattle.std.specs.List.{AllZip}
-use Rattle.nv_plain.specs.Layouts.{mount_version, version_1}
+use Rattle.nv_plain.specs.Layouts.{Layout, mount_version, version_1}
 use Rattle.nv_pmem.specs.Limits.{entry_lines}
 use Rattle.nv_pmem.specs.Room.{Room, Keeps}
-use Rattle.nv_header.specs.Regions.{part_lines, IsRoomy, HasParts}
-use Rattle.nv_header.proofs.InRow.{roomy_line_0, roomy_part}
+use Rattle.nv_header.specs.Regions.{part_lines, IsRoomy, StaysRoomy, HasParts}
+use Rattle.nv_header.proofs.InRow.{roomy_line_0, roomy_part, has_parts_set}
+use Rattle.nv_recover.specs.Changes.{StayParts}
+
+still_each : {X : Type 0} (room : X → Room) (layout : Layout) (page entries : ℕ) (old new : List X) → AllZip (λ before now. Keeps (room before) (room now)) old new → HasParts layout page entries (map room old) → length old ≡ length new
+    → (i : ℕ) (none : Room) → i ≤ entries → IsRoomy (part_lines layout page i) (get_or (map room new) i none)
+still_each room layout page entries [] new rooms has long i none within = absurd (omega (arith, has.count))
+still_each room layout page entries (x ∷ old) [] rooms has long i none within = absurd (omega (arith, long))
+still_each room layout page entries (x ∷ old) (y ∷ new) rooms has long i none within =
+    let At : Room → Type 0 = IsRoomy (part_lines layout page i) in
+    let was = roomy_part room layout page entries (x ∷ old) i (get_or (x ∷ old) i x) x has within refl in
+    let inside : i < length (x ∷ old) = omega (arith, has.count, length-map (x ∷ old) room) in
+    let kept = AllZip-get_or (λ before now. Keeps (room before) (room now)) (x ∷ old) (y ∷ new) i x y rooms inside in
+    subst At (sym (get_or-map room (y ∷ new) i y none (omega (arith, long)))) (record {
+      there = omega (arith, was.there, kept.lines);
+      spare = λ line below. omega (arith, was.spare line below, kept.spare line);
+    })
+
+-- parts that are only read stay those of a region
+pub parts_read : {X : Type 0} (room : X → Room) (old new : List X) → AllZip (λ before now. Keeps (room before) (room now)) old new → StayParts (map room old) (map room new)
+parts_read room old new rooms layout page entries has =
+    let long : length old ≡ length new = length_all_zip (λ before now. Keeps (room before) (room now)) old new rooms in
+    record {
+      count = omega (arith, length-map new room, long, has.count, length-map old room);
+      each = still_each room layout page entries old new rooms has long;
+    }
+
+-- and so where one of them keeps its room
+pub parts_set : {X : Type 0} (room : X → Room) (parts : List X) (i : ℕ) (was new d : X) → i < length parts → was ≡ get_or parts i d → StaysRoomy (room was) (room new) → StayParts (map room parts) (map room (slice_set parts i new))
+parts_set room parts i was new d inside is stays layout page entries = has_parts_set room layout page entries parts i was new d inside is stays
+
+pub parts_stay : {old between new : List Room} → StayParts old between → StayParts between new → StayParts old new
+parts_stay first then layout page entries has = then layout page entries (first layout page entries has)
 
 module _ {X : Type 0} (room : X → Room) (page entries : ℕ) where
   pub parts_count : (parts : List X) → HasParts version_1 page entries (map room parts) → 1 + entries ≤ length parts
@@ -47,28 +78,9 @@ module _ {X : Type 0} (room : X → Room) (page entries : ℕ) where
   slots_some parts has =
       All-weaker (λ part. entry_lines page ≤ (room part).lines) (λ part. 1 ≤ (room part).lines) (λ part enough. omega arith) (take entries (drop 1 parts)) (parts_slots parts has)
 
-  still_each : (old new : List X) → AllZip (λ before now. Keeps (room before) (room now)) old new → HasParts version_1 page entries (map room old) → length old ≡ length new
-      → (i : ℕ) (none : Room) → i ≤ entries → IsRoomy (part_lines version_1 page i) (get_or (map room new) i none)
-  still_each [] new rooms has long i none within = absurd (omega (arith, parts_count [] has))
-  still_each (x ∷ old) [] rooms has long i none within = absurd (omega (arith, long))
-  still_each (x ∷ old) (y ∷ new) rooms has long i none within =
-      let At : Room → Type 0 = IsRoomy (part_lines version_1 page i) in
-      let was = roomy_at (x ∷ old) i x has within in
-      let inside : i < length (x ∷ old) = omega (arith, parts_count (x ∷ old) has) in
-      let kept = AllZip-get_or (λ before now. Keeps (room before) (room now)) (x ∷ old) (y ∷ new) i x y rooms inside in
-      subst At (sym (get_or-map room (y ∷ new) i y none (omega (arith, long)))) (record {
-        there = omega (arith, was.there, kept.lines);
-        spare = λ line below. omega (arith, was.spare line below, kept.spare line);
-      })
-
   -- parts that are only read stay so
   pub parts_still : (old new : List X) → AllZip (λ before now. Keeps (room before) (room now)) old new → HasParts version_1 page entries (map room old) → HasParts version_1 page entries (map room new)
-  parts_still old new rooms has =
-      let long : length old ≡ length new = length_all_zip (λ before now. Keeps (room before) (room now)) old new rooms in
-      record {
-        count = omega (arith, length-map new room, long, parts_count old has);
-        each = still_each old new rooms has long;
-      }
+  parts_still old new rooms = parts_read room old new rooms version_1 page entries
 
   -- and have as many lines
   pub lines_same : (old new : List X) → AllZip (λ before now. Keeps (room before) (room now)) old new → map (λ part. (room part).lines) new ≡ map (λ part. (room part).lines) old

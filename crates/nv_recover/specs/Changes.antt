@@ -1,11 +1,14 @@
 -- Changes: the one order in which calls change the parts and the stores, and what holds at each moment of it.
 use Rattle.std.specs.Prelude.{ℕ, ◌≤◌, List, [], length, map, take, slice_index_or, slice_set}
+use Rattle.nv_plain.specs.Layouts.{Layout}
 use Rattle.nv_pmem.specs.Part.{Part}
+use Rattle.nv_pmem.specs.Room.{Room}
 use Rattle.nv_pmem.specs.Rows.{RowTells}
 use Rattle.nv_pmem.specs.Runs.{run, Ran, grown}
 use Rattle.nv_pmem.specs.Steps as lines
 use Rattle.nv_store.specs.Steps as stores
 use Rattle.nv_store.specs.Store.{Store}
+use Rattle.nv_header.specs.Regions.{HasParts}
 
 -- Some steps lead from one state to another, and a property holds before each of them and after the last.
 pub record Throughout {T S : Type 0} (after : T → S → S) (P : S → Type 0) (old new : S) : Type 0 where
@@ -58,3 +61,10 @@ DevicesTell devices P = RowTells devices.parts (λ parts. RowTells devices.store
 -- They have it at each moment of a call: there is one order of changes for parts and stores together.
 abbrev pub ThroughoutDevices : (List Part → List Store → Type 0) → Devices → Devices → Type 0
 ThroughoutDevices P old new = Throughout devices_after_change (λ devices. DevicesTell devices P) old new
+
+-- ---- room
+
+-- Parts that are those of a region of some layout are so after a call: lines that could take 15 stores still can, also where
+-- the region that was there doesn't have them.
+abbrev pub StayParts : (old new : List Room) → Type 0
+StayParts old new = (layout : Layout) (page entries : ℕ) → HasParts layout page entries old → HasParts layout page entries new

@@ -7,7 +7,7 @@ ghost use Rattle.nv_pmem.specs.Rows.{RowTells, InEachRowImage, row_words, AreQui
 ghost use Rattle.nv_entry.specs.Checks.{SaysBounds};
 ghost use Rattle.nv_header.specs.Regions.{HasParts, IsAtRest, StaysRoomy};
 ghost use Rattle.nv_recover.specs.Alike.{SayTheSame};
-ghost use Rattle.nv_recover.specs.Changes.{ThroughoutRow};
+ghost use Rattle.nv_recover.specs.Changes.{ThroughoutRow, StayParts};
 ghost use Rattle.nv_recover.specs.Emptying.{BothTell, MayBeTrimmed, HasSmallWord, HasNoneAbove, CommitsNoneFrom, SaysBoundsAndNames, SaysTheSameOrEmpty};
 ghost use Rattle.nv_recover.specs.Telling.{AllTell};
 
@@ -38,6 +38,7 @@ pub(crate) fn empty_log<L: Lines>(
         → RowTells (map L.history parts.old) (λ was. SaysBoundsAndNames bounds.now names (row_words was))
         → RowTells (map L.history parts.new) (IsAtRest version_1 bounds.now.page bounds.now.entries names next)) }
     ensures parts { OnOk result (HasParts version_1 bounds.now.page bounds.now.entries (map L.room parts.new)) }
+    ensures rooms { OnOk result (StayParts (map L.room parts.old) (map L.room parts.new)) }
     ensures further { drop (1 + bounds.now.entries) (map L.history parts.new) ≡ drop (1 + bounds.now.entries) (map L.history parts.old) }
     ensures lines { map (λ part. (L.room part).lines) parts.new ≡ map (λ part. (L.room part).lines) parts.old }
     ensures tells { AllTell (map L.history parts.old) ↔ AllTell (map L.history parts.new) }
@@ -58,6 +59,7 @@ fn clear_words<L: Lines>(parts: &mut [L], bounds: &Bounds) -> Result<(), RegionF
     ensures cleared { OnOk result (RowTells (map L.history parts.new) (λ now. HasNoneAbove (row_words now))) }
     ensures quiet { OnOk result (RowTells (map L.history parts.new) AreQuiet) }
     ensures parts { OnOk result (HasParts version_1 bounds.now.page bounds.now.entries (map L.room parts.new)) }
+    ensures rooms { OnOk result (StayParts (map L.room parts.old) (map L.room parts.new)) }
     ensures further { drop (1 + bounds.now.entries) (map L.history parts.new) ≡ drop (1 + bounds.now.entries) (map L.history parts.old) }
     ensures lines { map (λ part. (L.room part).lines) parts.new ≡ map (λ part. (L.room part).lines) parts.old }
     ensures tells { AllTell (map L.history parts.old) ↔ AllTell (map L.history parts.new) }

@@ -9,6 +9,7 @@ ghost use Rattle.nv_entry.specs.Checks.{SaysBounds};
 ghost use Rattle.nv_header.specs.Heads.{IsHeadOf, HeadIsWithinLimits, header_image};
 ghost use Rattle.nv_header.specs.Needs.{header_history};
 ghost use Rattle.nv_header.specs.Regions.{HasParts, IsAtRest};
+ghost use Rattle.nv_recover.specs.Changes.{StayParts};
 ghost use Rattle.nv_recover.specs.Answers.{answer_of, parts_after};
 ghost use Rattle.nv_recover.specs.Applying.{AcrossTells, AcrossThroughout};
 ghost use Rattle.nv_recover.specs.Bounding.{HasBounds};
@@ -78,6 +79,7 @@ pub fn recover<L: Lines + Drop, B: Backing>(
     ensures geometry { IfOk result (λ done. done.0.geometry ≡ head.geometry) }
     ensures names { IfOk result (λ done. done.0.names ≡ head.names) }
     ensures next { IfOk result (λ done. done.0.next ≡ done.1.next) }
+    ensures rooms { IfOk result (λ done. StayParts (map L.room parts.items) (map L.room done.0.parts.items)) }
 
     // At an error.
     ensures bad { (number : ℕ) → answer_of result ≡ Err (error.BadEntry number)
@@ -142,6 +144,7 @@ pub fn recover_parts<L: Lines, B: Backing>(
     ensures rest { IfOk result (λ found. RowTells (map L.history parts.new)
         (IsAtRest version_1 bounds.now.page bounds.now.entries names.now found.next)) }
     ensures parts { OnOk result (HasParts version_1 bounds.now.page bounds.now.entries (map L.room parts.new)) }
+    ensures rooms { OnOk result (StayParts (map L.room parts.old) (map L.room parts.new)) }
     ensures limit { IfOk result (λ found. found.next ≤ 2 ^ 60) }
     ensures bad { (number : ℕ) → result ≡ Err (error.BadEntry number)
         → RowTells (map L.history parts.old) (λ told. IsLeastBad version_1 (row_words told) number) }

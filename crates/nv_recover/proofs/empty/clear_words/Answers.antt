@@ -9,7 +9,7 @@ use Rattle.nv_header.proofs.InRow.{has_parts_set}
 use Rattle.nv_recover.specs.Alike.{SayTheSame}
 use Rattle.nv_recover.specs.Emptying.{MayBeTrimmed}
 use Rattle.nv_recover.proofs.EmptyRows.{AreClearedTo, cleared_none, clearing_throughout, devices_tell, devices_more, cleared_rows, further_same, small_rows, rows_same, rows_quiet, rows_none_above}
-use Rattle.nv_recover.proofs.RoomLaws.{entry_inside, entry_line}
+use Rattle.nv_recover.proofs.RoomLaws.{entry_inside, entry_line, parts_set, parts_stay}
 use Rattle.nv_recover.proofs.RowMoments.{rows_still}
 use Rattle.nv_recover.proofs.Present.{both_moments}
 use Rattle.nv_recover.proofs.empty.clear_words.Goals as goal
@@ -23,6 +23,7 @@ loop-entry-init g c = record {
       rows_still row (λ was. InEachRowImage (SayTheSame (row_words was)))
       (rows_same c.args.bounds.now (length row) row row c.requires.quiet c.requires.header (cleared_rows most 0 (length row) row row (cleared_none most row) refl));
   parts = c.requires.parts;
+  rooms = λ layout page entries has. has;
   further = refl;
   lines = refl;
   cause = refl;
@@ -89,6 +90,9 @@ loop-entry-preserved g c =
       parts =
           has_parts_set g.L.Lines.room version_1 c.args.bounds.now.page c.args.bounds.now.entries parts i was new d inside refl
           c.in_ok-clear_word.ensures.room c.loop-entry.invariant.parts;
+      rooms =
+          parts_stay c.loop-entry.invariant.rooms
+          (parts_set g.L.Lines.room parts i was new d inside refl c.in_ok-clear_word.ensures.room);
       further = further_same g.L.Lines.history parts i (1 + c.args.bounds.now.entries) new (omega arith) ∙ c.loop-entry.invariant.further;
       lines = map-set_same (λ part. (g.L.Lines.room part).lines) parts i new d c.clear_word.ensures.lines ∙ c.loop-entry.invariant.lines;
       cause = same_sum_in_row g.L.Lines.fault_count parts i was new d inside refl c.in_ok-clear_word.ensures.cause ∙ c.loop-entry.invariant.cause;

@@ -3,7 +3,7 @@ use Rattle.nv_plain.specs.Layouts.{version_1}
 use Rattle.nv_pmem.specs.Rows.{RowTells, InEachRowImage, row_words}
 use Rattle.nv_header.specs.Regions.{HasParts}
 use Rattle.nv_recover.specs.Alike.{SayTheSame}
-use Rattle.nv_recover.specs.Changes.{ThroughoutRow}
+use Rattle.nv_recover.specs.Changes.{ThroughoutRow, StayParts}
 use Rattle.nv_recover.proofs.EmptyRows.{AreClearedTo}
 use Rattle.nv_recover.proofs.empty.clear_words.Given as goal
 
@@ -14,6 +14,7 @@ invariant-loop-entry g l = record {
   moments : RowTells (map g.L.Lines.history l.fn.parts) (λ was.
       ThroughoutRow (InEachRowImage (SayTheSame (row_words was))) (map g.L.Lines.history l.fn.parts) (map g.L.Lines.history l.parts));
   parts : HasParts version_1 l.bounds.page l.bounds.entries (map g.L.Lines.room l.parts);
+  rooms : StayParts (map g.L.Lines.room l.fn.parts) (map g.L.Lines.room l.parts);
   further : drop (1 + l.bounds.entries) (map g.L.Lines.history l.parts) ≡ drop (1 + l.bounds.entries) (map g.L.Lines.history l.fn.parts);
   lines : map (λ part. (g.L.Lines.room part).lines) l.parts ≡ map (λ part. (g.L.Lines.room part).lines) l.fn.parts;
   cause : sum_by g.L.Lines.fault_count l.parts ≡ sum_by g.L.Lines.fault_count l.fn.parts;

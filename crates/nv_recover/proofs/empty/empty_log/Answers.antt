@@ -8,7 +8,7 @@ use Rattle.nv_recover.specs.Alike.{SayTheSame}
 use Rattle.nv_recover.proofs.EmptyParts.{MayBeMoved, moved_moments, stored_tail}
 use Rattle.nv_recover.proofs.EmptyRows.{devices_tell}
 use Rattle.nv_recover.proofs.MoveRows.{can_after, moving_throughout, rest_rows, same_then, same_alone}
-use Rattle.nv_recover.proofs.RoomLaws.{parts_count, tail_line}
+use Rattle.nv_recover.proofs.RoomLaws.{parts_count, parts_set, parts_stay, tail_line}
 use Rattle.nv_recover.proofs.RowMoments.{rows_last}
 use Rattle.nv_recover.proofs.Present.{both_moments, some_tells, on_both}
 use Rattle.nv_recover.proofs.empty.empty_log.Goals as goal
@@ -82,4 +82,15 @@ returns-clause-parts g c =
     on_ok_weaker c.move_tail.result
     (λ settled. has_parts_set g.L.Lines.room version_1 bounds.page bounds.entries parts 0 (get_or parts 0 d) c.move_tail.new.header d inside refl
     (stays_settled 1 1 c.move_tail.ensures.room settled) c.in_ok-clear_words.ensures.parts)
+    c.move_tail.ensures.settled
+
+pub returns-clause-rooms : goal.returns-clause-rooms
+returns-clause-rooms g c =
+    let bounds = c.args.bounds.now in
+    let parts = c.clear_words.new.parts in
+    let d = c.index-parts-0.result in
+    let inside : 0 < length parts = omega (arith, parts_count g.L.Lines.room bounds.page bounds.entries parts c.in_ok-clear_words.ensures.parts) in
+    on_ok_weaker c.move_tail.result
+    (λ settled. parts_stay c.in_ok-clear_words.ensures.rooms
+    (parts_set g.L.Lines.room parts 0 (get_or parts 0 d) c.move_tail.new.header d inside refl (stays_settled 1 1 c.move_tail.ensures.room settled)))
     c.move_tail.ensures.settled

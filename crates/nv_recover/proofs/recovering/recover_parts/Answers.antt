@@ -12,7 +12,7 @@ use Rattle.nv_recover.specs.Groups.{IsLeastBad}
 use Rattle.nv_recover.specs.Recovering.{AreKept}
 use Rattle.nv_recover.specs.declared.error.RecoverError.TheVariants.{BadEntry}
 use Rattle.nv_recover.proofs.Present.{if_err_any}
-use Rattle.nv_recover.proofs.RoomLaws.{slots_some, parts_slots, parts_still, lines_same}
+use Rattle.nv_recover.proofs.RoomLaws.{slots_some, parts_slots, parts_read, parts_stay, parts_still, lines_same}
 use Rattle.nv_recover.proofs.StandLaws.{both_rows, alike_still, stand_on, stand_last, unfit_read, unfit_found}
 use Rattle.nv_recover.proofs.recovering.recover_parts.Given.{Over}
 use Rattle.nv_recover.proofs.recovering.recover_parts.Goals.{After-empty_log}
@@ -131,3 +131,8 @@ returns-in_err-empty_log-clause-kept g c = kept g (goal.at.returns-in_err-empty_
 
 pub returns-clause-kept : goal.returns-clause-kept
 returns-clause-kept g c = kept g (goal.at.returns-clause-kept g c).After-empty_log
+
+pub returns-clause-rooms : goal.returns-clause-rooms
+returns-clause-rooms g c =
+    parts_stay (parts_read g.L.Lines.room c.args.parts.now c.replay.new.parts (only_read_more c.read_log.ensures.read c.replay.ensures.read).rooms)
+    c.in_ok-empty_log.ensures.rooms
