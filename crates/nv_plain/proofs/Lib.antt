@@ -1,3 +1,4 @@
 pub mod FileLemmas
 pub mod HistoryLemmas
+pub mod MadeLemmas
 pub mod PieceLemmas

@@ -1,6 +1,7 @@
 pub mod Files
 pub mod Calls
 pub mod Histories
+pub mod Made
 pub mod Pieces
 pub mod Layouts
 pub mod Images

@@ -2,6 +2,13 @@
 ghost use Rattle.nv_plain.specs.Faults.{SaturatedCountsRise};
 ghost use Rattle.nv_plain.specs.Files.{WriteLeavesItsBytes, WriteLeavesTheRest, WriteReachesItsEnd};
 ghost use Rattle.nv_plain.specs.Histories.{GoesOnFrom, GoesOnLegally, HistoryKeepsFiles};
+ghost use Rattle.nv_plain.specs.Made.{
+  CallsAreMadeAlike,
+  CallsAreMadeRight,
+  HistoriesAreMadeRight,
+  MadeCallsGoOn,
+  PlainCallsAreThemselves,
+};
 ghost use Rattle.nv_plain.specs.Pieces.{WriteIsItsPieces};
 
 /// A write is the same as its pieces, one after another.
@@ -23,6 +30,17 @@ pub fn history_goes_on()
     ensures files { GoesOnFrom }
     ensures legal { GoesOnLegally }
     ensures count { HistoryKeepsFiles }
+{}
+
+/// A call is right where the plain call that it is made as is: it leaves the same files, and its reply follows from that one's. So
+/// the files after a history are those after its calls as they were made, each on the files of its turn. A plain call is made
+/// as itself, and what a call is made as is the same on all files.
+pub fn calls_are_made_right()
+    ensures calls { CallsAreMadeRight }
+    ensures histories { HistoriesAreMadeRight }
+    ensures goes_on { MadeCallsGoOn }
+    ensures plain { PlainCallsAreThemselves }
+    ensures alike { CallsAreMadeAlike }
 {}
 
 /// A count that stands still at 2^64 - 1 rises wherever the exact one rises: what is said of the exact sum of several

@@ -13,7 +13,8 @@ mod plain_files;
 pub use bytes::Bytes;
 pub use call::{FileCall, Reply};
 pub use laws::{
-    history_goes_on, saturated_counts_rise, write_is_its_pieces, write_leaves_its_bytes,
+    calls_are_made_right, history_goes_on, saturated_counts_rise, write_is_its_pieces,
+    write_leaves_its_bytes,
 };
 pub use memory::NoMemory;
 pub use mode::Mode;

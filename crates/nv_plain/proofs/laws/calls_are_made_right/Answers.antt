@@ -1,0 +1,12 @@
+use Rattle.std.proofs.Common.{refl}
+use Rattle.nv_plain.proofs.MadeLemmas.{made_right, made_alike, history_made_right, each_made-push}
+use Rattle.nv_plain.proofs.laws.calls_are_made_right.Goals as goal
+
+pub returns : goal.returns
+returns c = record {
+  calls = made_right;
+  histories = history_made_right;
+  goes_on = each_made-push;
+  plain = record { read = λ files file at len. refl; write = λ files file at bytes. refl; sync = λ files file. refl };
+  alike = made_alike;
+}
