@@ -1,5 +1,6 @@
 -- Content: each event keeps what files, buffers and reads have.
 pub mod PlainPages
+pub mod MadeLaws
 pub mod FileLaws
 pub mod KeepsLengths
 pub mod BufferLaws

@@ -14,6 +14,7 @@ pub mod KeepsSearches
 pub mod FilledParts
 pub mod KeepsRooms
 pub mod KeepsNumbers
+pub mod KeepsMade
 pub mod KeepsLoaded
 pub mod KeepsLooks
 pub mod KeepsBounds

@@ -1,6 +1,7 @@
 -- State: laws of words, cells, passes and lists.
 pub mod Changes
 pub mod Choices
+pub mod PlainCalls
 pub mod PageLaws
 pub mod SlotLaws
 pub mod ValueLaws

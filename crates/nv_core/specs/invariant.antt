@@ -1,6 +1,7 @@
 -- The invariant: what is so in each state that a run leads to, a part a file, and what it forbids.
 pub mod ControlFacts
 pub mod Locks
+pub mod Made
 pub mod CleanerOwnership
 pub mod Ownership
 pub mod CleanerNumbers

@@ -7,6 +7,8 @@ use Rattle.nv_plain.specs.Histories.{Answered, after as files_then, IsLegal, Goe
 use Rattle.nv_plain.specs.declared.call.FileCall.{FileCall}
 use Rattle.nv_plain.specs.declared.call.FileCall.TheVariants.{Sync}
 use Rattle.nv_plain.specs.declared.call.Reply.{Reply}
+use Rattle.nv_core.specs.steps.PassSteps.{as_answered}
+use Rattle.nv_core.proofs.state.PlainCalls.{as_it_is}
 use Rattle.nv_core.specs.state.Passes.{Pass}
 use Rattle.nv_core.specs.content.Content.{Opens, RunsKeepContent}
 use Rattle.nv_core.specs.state.Core.{Core, changed_pass}
@@ -48,14 +50,15 @@ seen_whole sizes core before by reply found =
 
 -- a call that has gone on so far, and has not been refused, has its place
 module _ (old loaded new : PassState) (call : FileCall) (reply : Reply) (place : ℕ) (later : IsLater old loaded) (still : IsUnplaced old.view loaded.view) (makes : (pass_of loaded.view).call ≡ call)
-    (free : IsCallFree (pass_of loaded.view).control) (is : Postcondition loaded None (Place reply) place new) where
+    (free : IsCallFree (pass_of loaded.view).control) (is : Postcondition loaded None (Place reply) place new) (placed : IsPlaced loaded.view new.view place) where
   abbrev before : List Answered
   before = (state_of loaded.view.opened is.steps.run).history
 
-  same_answer : answered_by loaded.view (pass_of loaded.view).call reply ≡ answered_by old.view call reply
-  same_answer = ap (λ (c : FileCall). answered_by loaded.view c reply) makes ∙ ap (λ (n : ℕ). record (answered_by old.view call reply) { caller = n }) later.number
+  same_answer : as_answered loaded.view.number (pass_of loaded.view) reply ≡ answered_by old.view call reply
+  same_answer = as_it_is loaded.view.number (pass_of loaded.view) reply placed.made
+      ∙ ap (λ (c : FileCall). answered_by loaded.view c reply) makes ∙ ap (λ (n : ℕ). record (answered_by old.view call reply) { caller = n }) later.number
 
-  seen_there : (pass_of new.view).seen ≡ before ++ answered_by loaded.view (pass_of loaded.view).call reply ∷ []
+  seen_there : (pass_of new.view).seen ≡ before ++ as_answered loaded.view.number (pass_of loaded.view) reply ∷ []
   seen_there = ap (λ (p : Pass). p.seen) (stepped_there loaded new None (Place reply) place free is)
 
   seen_is : (pass_of new.view).seen ≡ before ++ answered_by old.view call reply ∷ []
@@ -82,9 +85,9 @@ module _ (old loaded new : PassState) (call : FileCall) (reply : Reply) (place :
       let legal = (content (mount_of loaded.view.opened) files tail nothing (λ number. false) (is.steps.run ++ events loaded.view.number is.works (TakesStep (Place reply) place)) mount log opens is.steps.is_run).legal.legal in
       ((legally before (answered_by old.view call reply) files).0 (subst (λ h. IsLegal h files) whole_is legal)).1
 
-  pub done_so : IsPlaced loaded.view new.view place → ((files : Files) (tail : ℕ) → OpensLog (mount_of old.view.opened) tail → Opens (mount_of old.view.opened) files → reply ≡ reply_of call (files_then before files))
+  pub done_so : ((files : Files) (tail : ℕ) → OpensLog (mount_of old.view.opened) tail → Opens (mount_of old.view.opened) files → reply ≡ reply_of call (files_then before files))
       → IsPlacedAs old.view new.view call reply place
-  done_so placed plain = record {
+  done_so plain = record {
     before = before;
     begins = subst (λ l. IsPrefix l before) still.seen
         (subst (λ run. IsPrefix (pass_of loaded.view).seen (state_of loaded.view.opened run).history) (sym is.steps.knew.all.goes_on)
@@ -96,7 +99,7 @@ module _ (old loaded new : PassState) (call : FileCall) (reply : Reply) (place :
   }
 
   -- where the history of the mount is legal
-  pub done_plainly : IsPlaced loaded.view new.view place → RunsKeepContent → GoesOnLegally → IsMount (mount_of loaded.view.opened) → loaded.view.opened ≡ old.view.opened → IsPlacedAs old.view new.view call reply place
-  done_plainly placed content legally mount same =
-      done_so placed
+  pub done_plainly : RunsKeepContent → GoesOnLegally → IsMount (mount_of loaded.view.opened) → loaded.view.opened ≡ old.view.opened → IsPlacedAs old.view new.view call reply place
+  done_plainly content legally mount same =
+      done_so
       (subst (λ (o : Opened). (files : Files) (tail : ℕ) → OpensLog (mount_of o) tail → Opens (mount_of o) files → reply ≡ reply_of call (files_then before files)) same (replied content legally mount))

@@ -1,9 +1,13 @@
 -- Ends: a call may begin on an idle pass, and one that is over leaves it idle.
-use Rattle.std.proofs.Common.{◌≡◌, ℕ, [], refl, ap, subst, ◌∙◌}
+use Rattle.std.proofs.Common.{◌≡◌, ℕ, false, [], refl, sym, ap, subst, ◌∙◌}
 use Rattle.std.specs.Prelude.{Option, Some, None}
 use Rattle.nv_plain.specs.declared.call.FileCall.{FileCall}
-use Rattle.nv_core.specs.state.Passes.{Idle}
+use Rattle.nv_core.specs.state.Words.{Sizes}
+use Rattle.nv_core.specs.state.Passes.{Idle, IsAllowed, Pass}
+use Rattle.nv_core.specs.steps.ControlSteps.{first_control}
+use Rattle.nv_core.specs.steps.Events.{CallMayBegin}
 use Rattle.nv_core.specs.steps.PassSteps.{begun}
+use Rattle.nv_core.proofs.state.PlainCalls.{itself}
 use Rattle.nv_table.specs.invariant.Idle.{IsIdle}
 use Rattle.nv_table.specs.state.Opened.{Opened}
 use Rattle.nv_table.specs.state.Views.{pass_of, values_of, OwnsSlots}
@@ -11,9 +15,17 @@ use Rattle.nv_table.specs.state.States.{PassState}
 use Rattle.nv_table.proofs.steps.CallLaws.{idle_is_still, none_still_owned, later_self, taken_same}
 use Rattle.nv_table.proofs.steps.OwnedSlotLaws.{still_owned_all}
 use Rattle.nv_mirror.specs.declared.answers.Refusal.{Refusal}
-use Rattle.nv_mirror.specs.Controls.{Mirror, MirroredControl, control_mirror, InCall, IsOver}
+use Rattle.nv_mirror.specs.Controls.{Mirror, MirroredControl, control_mirror, mirrored_control, InCall, IsOver}
 use Rattle.nv_mirror.specs.OwnSteps.{AreOwn}
 use Rattle.nv_mirror.specs.PassSteps.{refusal_in}
+
+-- what a machine has at hand of a pass with a call that begins, which is made as itself
+pub begun_mirror : (sizes : Sizes) (call : FileCall) (pass : Pass)
+    → mirrored_control (begun sizes call pass) ≡ record { control = first_control sizes call; call = call; owned = pass.owned; sized = false; length = 0 }
+begun_mirror sizes call pass = ap (λ (made : FileCall). record { control = first_control sizes made; call = made; owned = pass.owned; sized = false; length = 0 }) (itself call)
+
+pub may_begin : (sizes : Sizes) (call : FileCall) (pass : Pass) → pass.control ≡ Idle → IsAllowed sizes call → CallMayBegin sizes call pass
+may_begin sizes call pass idle allowed = record { idle = idle; allowed = subst (IsAllowed sizes) (sym (itself call)) allowed }
 
 pub call_begins : {State : Type 0} (mirror : Mirror State) (call : FileCall) (start : PassState) → IsIdle start
     → InCall mirror call (Some call) (mirror.of (begun start.view.opened.sizes call (pass_of start.view))) None None start start

@@ -32,7 +32,7 @@ use Rattle.nv_mirror.specs.declared.front.FrontControl.TheVariants as fronts
 use Rattle.nv_mirror.specs.declared.front.FrontMachine.{FrontMachine}
 use Rattle.nv_mirror.specs.Controls.{MirroredControl, control_mirror, mirrored_control, with_mirrored_control, InCall}
 use Rattle.nv_mirror.specs.Fronts.{HasPages, front_call_of, file_in, size_in, IsOpen, FitsAt, Fits, front_op_at, front_opens_at, refuse, locked, front_after_at, front_mirror_at, front_refusal_at, IsInCall, IsUnderWay}
-use Rattle.nv_mirror.proofs.EndsLaws.{call_begins}
+use Rattle.nv_mirror.proofs.EndsLaws.{call_begins, begun_mirror, may_begin}
 use Rattle.nv_mirror.proofs.ControlLaws.{mirror_due, mirror_on, told_kept}
 
 -- ---- words
@@ -80,7 +80,8 @@ front_begins m start fits control idle = (
     owned = idle.owned ∙ sym (ap₂ (λ b n. with_if b (SIZE (file_in m)) (pages_from m.first n)) at.1 at.0)
 
     mirrors : mirrored_control (begun start.view.opened.sizes (front_call_of m) (pass_of start.view)) ≡ front_mirror_at m fronts.Begin
-    mirrors = ap₂ (λ control owned. record (front_mirror_at m fronts.Begin) { control = control; owned = owned; sized = false; length = 0 }) first owned
+    mirrors = begun_mirror start.view.opened.sizes (front_call_of m) (pass_of start.view)
+        ∙ ap₂ (λ control owned. record (front_mirror_at m fronts.Begin) { control = control; owned = owned; sized = false; length = 0 }) first owned
         ∙ ap₂ (λ sized length. record (front_mirror_at m fronts.Begin) { sized = sized; length = length }) (sym at.1) (sym at.2)
 
 -- ---- when the steps are due
@@ -103,7 +104,7 @@ last_page first (suc held) some = ap (λ page. Some (Give (PAGE page))) (let e :
 pub front_due : (m : FrontMachine) (control : FrontControl) (start now : PassState) → Fits now.view.opened.sizes m → FitsAt m control → IsOpen control → IsInCall m control start now
     → Precondition now (opened_by (front_opens_at m control)) (core_op_of now.view (front_op_at m control))
 front_due m fronts.Begin start now fits at runs way =
-    mirror_due _ _ _ _ _ _ start now way _ (record { idle = subst (λ (p : PassState). (pass_of p.view).control ≡ Idle) (sym way.fresh) way.idle.control; allowed = fits.allowed }) (λ pass kept. refl) (λ pass. refl)
+    mirror_due _ _ _ _ _ _ start now way _ (may_begin _ _ _ (subst (λ (p : PassState). (pass_of p.view).control ≡ Idle) (sym way.fresh) way.idle.control) fits.allowed) (λ pass kept. refl) (λ pass. refl)
 front_due m fronts.TakePage start now fits at runs way = mirror_due _ _ _ _ _ _ start now way _ tt (λ pass kept. refl) (λ pass. refl)
 front_due m fronts.LoadLength start now fits at runs way = mirror_due _ _ _ _ _ _ start now way _ tt (λ pass kept. refl) (λ pass. refl)
 front_due m fronts.TakeSize start now fits at runs way = mirror_due _ _ _ _ _ _ start now way _ tt (λ pass kept. refl) (λ pass. refl)

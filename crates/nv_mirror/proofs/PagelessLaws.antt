@@ -23,7 +23,7 @@ use Rattle.nv_mirror.specs.declared.pageless.PagelessControl.TheVariants.{Over}
 use Rattle.nv_mirror.specs.declared.pageless.PagelessControl.TheVariants as controls
 use Rattle.nv_mirror.specs.Controls.{MirroredControl, control_mirror, Told, InCall}
 use Rattle.nv_mirror.specs.Pageless.{Fits, IsOpen, IsInCall, pageless_op, pageless_opens_at, pageless_after, mirror, pageless_refusal_at, pageless_place_at}
-use Rattle.nv_mirror.proofs.EndsLaws.{call_begins}
+use Rattle.nv_mirror.proofs.EndsLaws.{call_begins, begun_mirror, may_begin}
 use Rattle.nv_mirror.proofs.ControlLaws.{PlaceLaws, mirror_due, mirror_on, place_plainly, told_kept, told_placed}
 
 -- what the core makes of a call without a page
@@ -43,7 +43,8 @@ no_page sizes (Sync file) none = record { first = refl; next = refl; last = refl
 pub pageless_begins : (asked : Asked) (start : PassState) → len_of (call_asked asked) ≡ 0 → IsIdle start → IsInCall asked controls.Begin start start
 pageless_begins asked start none idle =
     subst (λ (is : MirroredControl). InCall control_mirror (call_asked asked) (Some (call_asked asked)) is None None start start)
-    (ap (λ owned. record (mirror (call_asked asked) controls.Begin) { control = first_control start.view.opened.sizes (call_asked asked); owned = owned }) idle.owned
+    (begun_mirror start.view.opened.sizes (call_asked asked) (pass_of start.view)
+    ∙ ap (λ owned. record (mirror (call_asked asked) controls.Begin) { control = first_control start.view.opened.sizes (call_asked asked); owned = owned }) idle.owned
     ∙ ap (λ control. record (mirror (call_asked asked) controls.Begin) { control = control }) (no_page start.view.opened.sizes (call_asked asked) none).first)
     (call_begins control_mirror (call_asked asked) start idle)
 
@@ -57,7 +58,7 @@ pub pageless_due : (asked : Asked) (control : PagelessControl) (start now : Pass
     → Precondition now (opened_by (pageless_opens_at asked control)) (core_op_of now.view (pageless_op control))
 pageless_due asked controls.Begin start now fits runs way =
     mirror_due _ _ _ _ _ _ start now way _
-    (record { idle = subst (λ (p : PassState). (pass_of p.view).control ≡ Idle) (sym way.fresh) way.idle.control; allowed = fits.allowed }) (λ pass kept. refl) (λ pass. refl)
+    (may_begin _ _ _ (subst (λ (p : PassState). (pass_of p.view).control ≡ Idle) (sym way.fresh) way.idle.control) fits.allowed) (λ pass kept. refl) (λ pass. refl)
 pageless_due asked controls.LoadOrder start now fits runs way = mirror_due _ _ _ _ _ _ start now way _ tt (λ pass kept. refl) (λ pass. refl)
 pageless_due asked controls.TakePlace start now fits runs way =
     mirror_due _ _ _ _ _ _ start now way _ tt (λ pass kept. refl)

@@ -6,7 +6,7 @@ use Rattle.nv_core.specs.invariant.InvariantLaws.{RunsAreSound}
 use Rattle.nv_core.specs.invariant.Ownership.{is_among}
 use Rattle.nv_core.specs.state.Cleaner.{TakeCleaner}
 use Rattle.nv_core.specs.state.Core.{control_worked, worked, values_worked}
-use Rattle.nv_core.specs.state.Passes.{Control, Pass, Idle, TakePage, LoadLength, TakeSize, LoadStop, LoadOrder, VisitPage, Searching, TakeCleanup, TakeStore, ReadStore, GiveStore, ReadLoadHead, ReadLoadTail, LoadEntry, HoldEntry, ReadPiece, ReturnEntry, GiveCleanup, WriteLoadHead, WriteLoadTail, DrawNumbers, SeizeEntry, CommitGroup, PledgePage, ReadyEntry, TakePlace, GrowLength, GiveSize, GivePage, GiveBack, SetStopAfterRead, SetStopAfterPiece, SetStopAfterCommit, BreakEntry, Cleaning, is_read, is_write, first_page, end_page, page_count, without}
+use Rattle.nv_core.specs.state.Passes.{Control, Pass, Idle, TakePage, LoadLength, TakeSize, LoadStop, LoadOrder, VisitPage, Searching, TakeCleanup, TakeStore, ReadStore, GiveStore, ReadLoadHead, ReadLoadTail, LoadEntry, HoldEntry, ReadPiece, ReturnEntry, GiveCleanup, WriteLoadHead, WriteLoadTail, DrawNumbers, SeizeEntry, CommitGroup, PledgePage, ReadyEntry, TakePlace, GrowLength, GiveSize, GivePage, GiveBack, SetStopAfterRead, SetStopAfterPiece, SetStopAfterCommit, BreakEntry, Cleaning, is_read, is_write, first_page, end_page, page_count, without, plain_call}
 use Rattle.nv_core.specs.state.Values.{CallEnding, Made, Failed, Refused}
 use Rattle.nv_core.specs.state.Words.{Sizes, Word, STOP, ORDER, HEAD, TAIL, LENGTH, STORE, ENTRY, HINT, PAGE, SIZE, CLEANUP, DIRTY, slot_of_entry, place}
 use Rattle.nv_core.specs.steps.ControlSteps.{control_after, first_control, leaving, giving, ending, ordered, scanning, after_give, after_head, after_load, after_look, after_page, after_return, after_stop, after_tail, after_hold, copying, hinted, refused}
@@ -315,7 +315,7 @@ module _ (sizes : Sizes) (call : FileCall) where
 
       first_sets : step.opens ≡ Some call → step.op ≡ Stop → ⊥
       first_sets opens is =
-          first_calm seen.opened.sizes call
+          first_calm seen.opened.sizes (plain_call call)
           (subst IsFailing (ap (λ o. (with_call seen.opened.sizes o (pass_worked seen.opened.sizes taken.stepped.works (pass_of seen))).control) opens) (fails_there is))
 
       later_sets : step.opens ≡ None → Stands middle → step.op ≡ Stop → is_fault (fault_in step.works) ≡ true

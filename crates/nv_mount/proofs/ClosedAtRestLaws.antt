@@ -10,6 +10,7 @@ use Rattle.nv_plain.specs.Files.{Files}
 use Rattle.nv_plain.specs.Images.{Image}
 use Rattle.nv_plain.specs.Layouts.{mount_layout}
 use Rattle.nv_plain.specs.Recovered.{committed}
+use Rattle.nv_plain.specs.Made.{after_calls, made_calls, HistoriesAreMadeRight}
 use Rattle.nv_pmem.specs.Images.{IsPartImage, IsQuietPart}
 use Rattle.nv_pmem.specs.Moments.{Tells}
 use Rattle.nv_pmem.specs.Part.{Part}
@@ -29,11 +30,10 @@ use Rattle.nv_core.specs.invariant.InvariantLaws.{RunsAreSound}
 use Rattle.nv_core.specs.invariant.Sound.{Sound}
 use Rattle.nv_core.specs.content.Content.{Opens}
 use Rattle.nv_core.specs.content.StorePages.{store_of_value}
-use Rattle.nv_core.specs.crash.CommutingWrites.{after_calls}
 use Rattle.nv_core.specs.crash.CrashImages.{OpensRegion, RunsKeepRegion}
 use Rattle.nv_core.specs.crash.EmptyLog.{HasAllInStores, EmptyLogsRest}
 use Rattle.nv_core.specs.log.EntryImages.{IsRegionImage}
-use Rattle.nv_core.specs.log.LivePieces.{calls_of, store_bytes, store_files, told_bytes}
+use Rattle.nv_core.specs.log.LivePieces.{store_bytes, store_files, told_bytes}
 use Rattle.nv_core.specs.log.LogContent.{OpensLog, RunsKeepTheLog}
 use Rattle.nv_core.specs.log.Written.{IsPart}
 use Rattle.nv_core.proofs.crash.CrashGroups.{some_entries}
@@ -92,7 +92,7 @@ begins_empty view opened is = record {
 module _ {L B : Type 0} (device : L → ℕ) (history : L → PartHistory) (faults : L → ℕ) (room : L → Room) (store_device : B → ℕ) (store_history : B → StoreHistory) (store_faults : B → ℕ)
     (view : PassView) (parts : List L) (stores : List B) (placed tail : ℕ) (parts_many : 1 + view.opened.sizes.entries ≤ length parts) (stores_many : length stores ≡ view.opened.sizes.files)
     (whole : IsWholeRun view (map (part_value device history faults room) parts) (map (store_value store_device store_history store_faults) stores) placed tail)
-    (sound : RunsAreSound) (tell : OwnEventsTell) (keeps : RunsKeepTheLog) (region_stays : RunsKeepRegion) (rests : EmptyLogsRest) (each : EachPartHasOne)
+    (right : HistoriesAreMadeRight) (sound : RunsAreSound) (tell : OwnEventsTell) (keeps : RunsKeepTheLog) (region_stays : RunsKeepRegion) (rests : EmptyLogsRest) (each : EachPartHasOne)
     (mount : IsMount (mount_of view.opened)) (zero_is : view.number ≡ 0) (knows : KnowsTaken view) (all : length view.ended ≡ made_of view) where
   abbrev sizes : Sizes
   sizes = view.opened.sizes
@@ -135,8 +135,8 @@ module _ {L B : Type 0} (device : L → ℕ) (history : L → PartHistory) (faul
       let first = is_sound.grouped.log in
       let content = keeps (mount_of view.opened) files view.opened.next first (λ _. false) view.run mount log opens.stores whole.is_run in
       have_these (files_then view files) (λ file within. content.tell.each file within)
-      (ap (λ calls. after_calls calls files) (sym (append-nil (calls_of at_last.history)))
-      ∙ ap (λ calls. after_calls (calls_of at_last.history ++ calls) files)
+      (sym (right at_last.history files) ∙ ap (λ calls. after_calls calls files) (sym (append-nil (made_calls files at_last.history)))
+      ∙ ap (λ calls. after_calls (made_calls files at_last.history ++ calls) files)
       (sym (none_to_place sizes (mount_of view.opened).values _ _ at_last is_sound content.flight (none_hold sound view mount whole.is_run zero_is knows all tell owned taken)))
       ∙ no_pieces sizes _ files at_last content.live none)
 

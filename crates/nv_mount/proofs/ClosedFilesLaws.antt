@@ -1,6 +1,7 @@
 -- Laws about what the stores of a closed mount read as.
 use Rattle.std.proofs.Common.{◌≡◌, ℕ, ◌+◌, ◌-◌, ◌<◌, ◌≤◌, ◌++◌, false, List, [], get_or, length, map, sym, ap, subst, ◌∙◌, arith}
 use Rattle.nv_plain.specs.Files.{Files}
+use Rattle.nv_plain.specs.Made.{after_calls, made_calls}
 use Rattle.std.specs.Prelude.{Some}
 use Rattle.nv_pmem.specs.Part.{Part}
 use Rattle.nv_pmem.specs.Room.{Room}
@@ -9,11 +10,10 @@ use Rattle.nv_pmem.specs.Steps.{PartHistory}
 use Rattle.nv_store.specs.Steps.{StoreHistory}
 use Rattle.nv_core.specs.state.Values.{Bare}
 use Rattle.nv_core.specs.state.Words.{Sizes, HEAD, TAIL, STORE}
-use Rattle.nv_core.specs.crash.CommutingWrites.{after_calls}
 use Rattle.nv_core.specs.state.Core.{Core}
 use Rattle.nv_core.specs.log.Groups.{Log}
 use Rattle.nv_core.specs.invariant.InvariantLaws.{RunsAreSound}
-use Rattle.nv_core.specs.log.LivePieces.{calls_of, store_files, to_place, rising, call_if, is_live, piece_call, LivePieces}
+use Rattle.nv_core.specs.log.LivePieces.{store_files, to_place, rising, call_if, is_live, piece_call, LivePieces}
 use Rattle.nv_core.specs.log.LogContent.{RunsKeepTheLog}
 use Rattle.nv_core.specs.log.Written.{IsPart}
 use Rattle.nv_core.specs.steps.Opening.{IsMount}
@@ -28,7 +28,7 @@ use Rattle.nv_mount.proofs.WholeRunLaws.{there}
 
 -- an empty log has no live piece
 pub no_pieces : (sizes : Sizes) (log : Log) (opened : Files) (core : Core) → LivePieces sizes log opened core → core.words TAIL ≡ core.words HEAD
-    → after_calls (calls_of core.history ++ to_place core) opened ≡ store_files sizes core.values
+    → after_calls (made_calls opened core.history ++ to_place core) opened ≡ store_files sizes core.values
 no_pieces sizes log opened core live none =
     let zero : core.words HEAD - core.words TAIL ≡ 0 = omega (arith, none) in
     live.files

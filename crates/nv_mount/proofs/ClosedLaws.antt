@@ -1,6 +1,7 @@
 -- Laws of a mount that is closed: each clause of `close` about what comes out, from what closing its board gives.
 use Rattle.std.proofs.Common.{◌≡◌, ℕ, ◌+◌, ◌≤◌, List, drop, length, map, sym, ap, subst}
 use Rattle.std.specs.List.{All}
+use Rattle.nv_plain.specs.Made.{HistoriesAreMadeRight}
 use Rattle.nv_pmem.specs.Room.{Room}
 use Rattle.nv_pmem.specs.RowStates.{EachPartHasOne}
 use Rattle.nv_pmem.specs.Steps.{PartHistory}
@@ -52,21 +53,21 @@ module _ {L B : Type 0} (device : L → ℕ) (history : L → PartHistory) (faul
   pub reads : RunsKeepTheLog → ReadAsFiles pass.view (map store_history stores) tail
   reads keeps = read_as_files device history faults room store_device store_history store_faults pass.view parts stores placed tail many_parts many_stores whole sound keeps mount
 
-  pub have : OwnEventsTell → RunsKeepTheLog → RunsKeepRegion → EmptyLogsRest → EachPartHasOne → HaveFilesWhereEmpty pass.view (map store_history stores)
-  have tell keeps region_stays empty each =
+  pub have : HistoriesAreMadeRight → OwnEventsTell → RunsKeepTheLog → RunsKeepRegion → EmptyLogsRest → EachPartHasOne → HaveFilesWhereEmpty pass.view (map store_history stores)
+  have right tell keeps region_stays empty each =
       have_files device history faults room store_device store_history store_faults pass.view parts stores placed tail many_parts many_stores whole
-      sound tell keeps region_stays empty each mount zero_is knows all
+      right sound tell keeps region_stays empty each mount zero_is knows all
 
-  pub rests : OwnEventsTell → RunsKeepTheLog → RunsKeepRegion → EmptyLogsRest → EachPartHasOne → RestsWhereEmpty pass.view (map history parts) (map store_history stores) tail
-  rests tell keeps region_stays empty each =
+  pub rests : HistoriesAreMadeRight → OwnEventsTell → RunsKeepTheLog → RunsKeepRegion → EmptyLogsRest → EachPartHasOne → RestsWhereEmpty pass.view (map history parts) (map store_history stores) tail
+  rests right tell keeps region_stays empty each =
       rests_where_empty device history faults room store_device store_history store_faults pass.view parts stores placed tail many_parts many_stores whole
-      sound tell keeps region_stays empty each mount zero_is knows all
+      right sound tell keeps region_stays empty each mount zero_is knows all
 
-  pub crash : OwnEventsTell → RunsKeepTheLog → GroupsAreInImages → NoOldWordCounts → RunsKeepRegion → StatesSurviveCrashes → FaultsAreFated → AddedInAnyOrder → FlightsAreNumbered → NoTwoInFlightOfAPage
+  pub crash : HistoriesAreMadeRight → OwnEventsTell → RunsKeepTheLog → GroupsAreInImages → NoOldWordCounts → RunsKeepRegion → StatesSurviveCrashes → FaultsAreFated → AddedInAnyOrder → FlightsAreNumbered → NoTwoInFlightOfAPage
       → CrashesLeaveWholeWrites pass.view (map history parts) (map store_history stores)
-  crash tell keeps in_images none_old region_stays survive fated ordered flights pages =
+  crash right tell keeps in_images none_old region_stays survive fated ordered flights pages =
       whole_writes device history faults room store_device store_history store_faults pass.view parts stores placed tail many_parts many_stores whole
-      sound tell keeps in_images none_old region_stays survive fated ordered flights pages mount zero_is knows all
+      right sound tell keeps in_images none_old region_stays survive fated ordered flights pages mount zero_is knows all
 
   pub go_on_telling : RunsKeepTheLog → DevicesGoOnTelling pass (map history parts) (map store_history stores)
   go_on_telling keeps files log opens spare =

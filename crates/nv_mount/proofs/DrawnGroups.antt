@@ -3,7 +3,7 @@ use Rattle.std.proofs.Common.{◌≡◌, ◌⊎◌, ℕ, ◌<◌, ◌≤◌, ◌
 use Rattle.std.proofs.lemmas.Bool.{cases_lt, eqb-true}
 use Rattle.nv_plain.specs.declared.call.FileCall.{FileCall}
 use Rattle.nv_core.specs.state.Core.{Core, after_begin, after_step}
-use Rattle.nv_core.specs.state.Passes.{Control, CommitGroup, DrawNumbers, LoadStop, Pass, TakePage, first_page, page_count}
+use Rattle.nv_core.specs.state.Passes.{Control, CommitGroup, DrawNumbers, LoadStop, Pass, TakePage, first_page, page_count, plain_call}
 use Rattle.nv_core.specs.state.Values.{CallEnding}
 use Rattle.nv_core.specs.state.Words.{Sizes, HEAD, TAIL}
 use Rattle.nv_core.specs.steps.ControlSteps.{first_control}
@@ -81,8 +81,8 @@ module _ (sound : RunsAreSound) (opened : Opened) (mount : IsMount (mount_of ope
       → (n < core.words HEAD) × ((log_stepped sizes (begun sizes call (core.passes by)) op found log).group n ≡ log.group n)
   begins_group by core log call Draw found may n less = absurd (never (ap (λ (p : Pass). p.control) (sym (number_here core.passes by (begun sizes call (core.passes by)))) ∙ may.may))
     where
-      never : first_control sizes call ≡ DrawNumbers → ⊥
-      never = if_both (λ (c : Control). c ≡ DrawNumbers → ⊥) (page_count sizes call == 0) LoadStop (TakePage (first_page sizes call)) (λ _ e. cc) (λ _ e. cc)
+      never : first_control sizes (plain_call call) ≡ DrawNumbers → ⊥
+      never = if_both (λ (c : Control). c ≡ DrawNumbers → ⊥) (page_count sizes (plain_call call) == 0) LoadStop (TakePage (first_page sizes (plain_call call))) (λ _ e. cc) (λ _ e. cc)
   begins_group by core log call op found may n less = (let same = untouched sizes by (after_begin sizes by call core) op found may HEAD refl in omega (arith, less, same), refl)
 
   act_group : (by : ℕ) (core : Core) (log : Log) (act : Act) → IsSound core → ActEnabledByKind sizes by core act → (n : ℕ) → n < (after_act sizes by act core).words HEAD

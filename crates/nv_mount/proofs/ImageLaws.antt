@@ -3,6 +3,7 @@ use Rattle.std.proofs.Common.{◌≡◌, ℕ, ◌+◌, ◌≤◌, List, [], leng
 use Rattle.std.specs.Prelude.{Option, Some, None}
 use Rattle.std.proofs.lemmas.List.{length-map}
 use Rattle.nv_plain.specs.Files.{Files, contents_of}
+use Rattle.nv_plain.specs.Made.{HistoriesAreMadeRight}
 use Rattle.nv_pmem.specs.Part.{Part}
 use Rattle.nv_pmem.specs.Room.{Room}
 use Rattle.nv_pmem.specs.RowStates.{AreNow, row_tells_from}
@@ -37,7 +38,7 @@ told_or none (Some one) = one
 module _ {L B : Type 0} (device : L → ℕ) (history : L → PartHistory) (faults : L → ℕ) (room : L → Room) (store_device : B → ℕ) (store_history : B → StoreHistory) (store_faults : B → ℕ)
     (view : PassView) (parts : List L) (stores : List B) (placed tail : ℕ) (parts_many : 1 + view.opened.sizes.entries ≤ length parts) (stores_many : length stores ≡ view.opened.sizes.files)
     (whole : IsWholeRun view (map (part_value device history faults room) parts) (map (store_value store_device store_history store_faults) stores) placed tail)
-    (sound : RunsAreSound) (tell : OwnEventsTell) (keeps : RunsKeepTheLog) (in_images : GroupsAreInImages) (none_old : NoOldWordCounts) (region_stays : RunsKeepRegion) (survive : StatesSurviveCrashes) (fated : FaultsAreFated) (ordered : AddedInAnyOrder)
+    (right : HistoriesAreMadeRight) (sound : RunsAreSound) (tell : OwnEventsTell) (keeps : RunsKeepTheLog) (in_images : GroupsAreInImages) (none_old : NoOldWordCounts) (region_stays : RunsKeepRegion) (survive : StatesSurviveCrashes) (fated : FaultsAreFated) (ordered : AddedInAnyOrder)
     (flights : FlightsAreNumbered) (pages : NoTwoInFlightOfAPage) (mount : IsMount (mount_of view.opened)) (zero_is : view.number ≡ 0) (knows : KnowsTaken view) (all : length view.ended ≡ made_of view) where
   part_at : (states : List Part) → AreNow (map history parts) states → (i : ℕ) → i ≤ view.opened.sizes.entries → IsPart (values_of view (cell_of view.opened.sizes i)) (get_or states i [])
   part_at states are i least =
@@ -60,6 +61,6 @@ module _ {L B : Type 0} (device : L → ℕ) (history : L → PartHistory) (faul
   whole_writes files names log opens region =
       row_tells_from (map history parts) _ (λ states are image is.
       row_tells_from (map store_history stores) _ (λ held now bytes images.
-      leaves sound tell in_images none_old survive fated ordered flights pages view mount whole.is_run zero_is knows all files names
+      leaves right sound tell in_images none_old survive fated ordered flights pages view mount whole.is_run zero_is knows all files names
       (last_log sound keeps region_stays view mount whole.is_run files names log opens region) image bytes
       (region_image view.opened.sizes (values_of view) states (part_at states are) image is) (store_images held now bytes images)))

@@ -7,13 +7,13 @@ use Rattle.nv_plain.specs.declared.call.FileCall.{FileCall}
 use Rattle.nv_plain.specs.declared.call.Reply.{Reply}
 use Rattle.nv_core.specs.content.StorePages.{HasFiles}
 use Rattle.nv_core.specs.state.Core.{Core, after_begin, with_number}
-use Rattle.nv_core.specs.state.Passes.{Control, DrawNumbers, LoadStop, Pass, TakePage, first_page, is_write, page_count}
+use Rattle.nv_core.specs.state.Passes.{Control, DrawNumbers, LoadStop, Pass, TakePage, first_page, is_write, page_count, plain_call}
 use Rattle.nv_core.specs.state.Words.{Sizes, HEAD}
 use Rattle.nv_core.specs.steps.ControlSteps.{first_control}
 use Rattle.nv_core.specs.steps.Events.{Act, BeginsCall, CallsDevice, Event, TakesStep, after_act, after_event, after_run}
 use Rattle.nv_core.specs.steps.Opening.{IsMount, opening}
 use Rattle.nv_core.specs.steps.Ops.{Op, Draw, Place}
-use Rattle.nv_core.specs.steps.PassSteps.{begun}
+use Rattle.nv_core.specs.steps.PassSteps.{begun, as_answered}
 use Rattle.nv_core.specs.steps.StepKinds.{MayPlace}
 use Rattle.nv_core.specs.invariant.InvariantLaws.{RunsAreSound}
 use Rattle.nv_core.specs.invariant.Sound.{Sound}
@@ -79,14 +79,14 @@ pub record IsNoted (opened : Opened) (run : List Event) (log : Log) (placed : �
 pub record HasItsPlace (opened : Opened) (run : List Event) (log : Log) (placed : ℕ → Bool) (earlier : List Answered) (answered : Answered) : Type 0 where
   pub number : ℕ
   pub was : WasPlaced opened run earlier answered number
-  pub noted : is_write answered.call ≡ true → IsNoted opened run log placed answered.call number
+  pub noted : is_write (plain_call answered.call) ≡ true → IsNoted opened run log placed (plain_call answered.call) number
 
 -- a number of a write that has its place
 pub record IsOfPlaced (opened : Opened) (run : List Event) (log : Log) (number : ℕ) : Type 0 where
   pub earlier : List Answered
   pub answered : Answered
   pub was : WasPlaced opened run earlier answered number
-  pub call_is : answered.call ≡ (log.group number).call
+  pub call_is : plain_call answered.call ≡ (log.group number).call
   pub below : number < (state_of opened run).words HEAD
 
 pub record AreNumbered (opened : Opened) (run : List Event) (log : Log) (placed : ℕ → Bool) : Type 0 where
@@ -108,7 +108,7 @@ record IsPlacing (sizes : Sizes) (by : ℕ) (core : Core) (act : Act) (log : Log
   pub reply : Reply
   pub found : ℕ
   pub act_is : act ≡ TakesStep (Place reply) found
-  pub history : (after_act sizes by act core).history ≡ core.history ++ record { caller = by; call = (core.passes by).call; reply = reply } ∷ []
+  pub history : (after_act sizes by act core).history ≡ core.history ++ as_answered by (core.passes by) reply ∷ []
   pub head : (after_act sizes by act core).words HEAD ≡ core.words HEAD
   pub groups : (n : ℕ) → (log_acted sizes (core.passes by) act log).group n ≡ log.group n
   pub stay : (n : ℕ) → placed n ≡ true → placed_acted sizes (core.passes by) act placed n ≡ true
@@ -188,12 +188,12 @@ module _ (sound : RunsAreSound) (opened : Opened) (mount : IsMount (mount_of ope
       → IsQuiet sizes by core (BeginsCall call op found) log placed
   begin_act by core log placed call Draw found may = absurd (never (ap (λ (p : Pass). p.control) (sym (number_here core.passes by (begun sizes call (core.passes by)))) ∙ may.may))
     where
-      never : first_control sizes call ≡ DrawNumbers → ⊥
-      never = if_both (λ (c : Control). c ≡ DrawNumbers → ⊥) (page_count sizes call == 0) LoadStop (TakePage (first_page sizes call)) (λ _ e. cc) (λ _ e. cc)
+      never : first_control sizes (plain_call call) ≡ DrawNumbers → ⊥
+      never = if_both (λ (c : Control). c ≡ DrawNumbers → ⊥) (page_count sizes (plain_call call) == 0) LoadStop (TakePage (first_page sizes (plain_call call))) (λ _ e. cc) (λ _ e. cc)
   begin_act by core log placed call (Place reply) found may = absurd (never ((after_begin sizes by call core).passes by) (ap (λ (p : Pass). p.control) (number_here core.passes by (begun sizes call (core.passes by)))) may.may)
     where
-      never : (pass : Pass) → pass.control ≡ first_control sizes call → MayPlace sizes core.values pass reply pass.control → ⊥
-      never pass e may = if_both (λ (c : Control). MayPlace sizes core.values pass reply c → ⊥) (page_count sizes call == 0) LoadStop (TakePage (first_page sizes call)) (λ _ m. m) (λ _ m. m)
+      never : (pass : Pass) → pass.control ≡ first_control sizes (plain_call call) → MayPlace sizes core.values pass reply pass.control → ⊥
+      never pass e may = if_both (λ (c : Control). MayPlace sizes core.values pass reply c → ⊥) (page_count sizes (plain_call call) == 0) LoadStop (TakePage (first_page sizes (plain_call call))) (λ _ m. m) (λ _ m. m)
           (subst (MayPlace sizes core.values pass reply) e may)
   begin_act by core log placed call op found may = record {
     history = append-nil core.history;
@@ -236,10 +236,13 @@ module _ (sound : RunsAreSound) (opened : Opened) (mount : IsMount (mount_of ope
     still : (earlier : List Answered) (answered : Answered) (number : ℕ) → WasPlaced opened run earlier answered number → WasPlaced opened longer earlier answered number
     still earlier answered number was = record {
       before = was.before;
+      reply = was.reply;
       found = was.found;
       after = was.after ++ event ∷ [];
-      lies = ap (λ r. r ++ event ∷ []) was.lies ∙ append_assoc was.before (record { by = answered.caller; act = TakesStep (Place answered.reply) was.found } ∷ was.after) (event ∷ []);
+      lies = ap (λ r. r ++ event ∷ []) was.lies ∙ append_assoc was.before (record { by = answered.caller; act = TakesStep (Place was.reply) was.found } ∷ was.after) (event ∷ []);
+      replied = was.replied;
       behind = was.behind;
+      asked_is = was.asked_is;
       call_is = was.call_is;
       drew = was.drew;
     }
@@ -269,14 +272,15 @@ module _ (sound : RunsAreSound) (opened : Opened) (mount : IsMount (mount_of ope
             number = old.number;
             was = still earlier answered old.number old.was;
             noted = λ write. let noted = old.noted write in
-                still_noted answered.call old.number quiet.head (quiet.groups old.number noted.below) (quiet.stay old.number noted.below ∙ noted.flag) noted;
+                still_noted (plain_call answered.call) old.number quiet.head (quiet.groups old.number noted.below) (quiet.stay old.number noted.below ∙ noted.flag) noted;
           };
       numbers = λ n is. let old = are.numbers n (quiet.were n is) in still_of n quiet.head (quiet.groups n old.below) old;
     }
 
-    module _ (are : AreNumbered opened run log placed) (placing : IsPlacing sizes event.by core event.act log placed) where
+    module _ (are : AreNumbered opened run log placed) (placing : IsPlacing sizes event.by core event.act log placed)
+        (made : (core.passes event.by).call ≡ plain_call (core.passes event.by).asked) where
       abbrev this : Answered
-      this = record { caller = event.by; call = (core.passes event.by).call; reply = placing.reply }
+      this = as_answered event.by (core.passes event.by) placing.reply
 
       abbrev drawn : ℕ
       drawn = (core.passes event.by).first
@@ -287,19 +291,22 @@ module _ (sound : RunsAreSound) (opened : Opened) (mount : IsMount (mount_of ope
       here : WasPlaced opened longer core.history this drawn
       here = record {
         before = run;
+        reply = placing.reply;
         found = placing.found;
         after = [];
         lies = ap (λ (a : Act). run ++ record { by = event.by; act = a } ∷ []) placing.act_is;
+        replied = refl;
         behind = refl;
-        call_is = refl;
+        asked_is = refl;
+        call_is = made;
         drew = refl;
       }
 
-      noted_here : is_write this.call ≡ true → IsNoted opened longer log_then placed_then this.call drawn
-      noted_here write = let new = placing.new write in record {
+      noted_here : is_write (plain_call this.call) ≡ true → IsNoted opened longer log_then placed_then (plain_call this.call) drawn
+      noted_here write = let new = placing.new (ap is_write made ∙ write) in record {
         flag = new.0;
         below = (let head = ap (λ (c : Core). c.words HEAD) next in let less = new.1 in let same = placing.head in omega (arith, head, less, same));
-        call_is = ap (λ (g : Group). g.call) (placing.groups drawn ∙ new.2);
+        call_is = ap (λ (g : Group). g.call) (placing.groups drawn ∙ new.2) ∙ made;
         leads = ap (λ (g : Group). g.first) (placing.groups drawn ∙ new.2);
       }
 
@@ -319,18 +326,19 @@ module _ (sound : RunsAreSound) (opened : Opened) (mount : IsMount (mount_of ope
           go earlier answered (Within rest is) = let old = are.history earlier rest answered is in record {
             number = old.number;
             was = still earlier answered old.number old.was;
-            noted = λ write. let noted = old.noted write in still_noted answered.call old.number rises (placing.groups old.number) (placing.stay old.number noted.flag) noted;
+            noted = λ write. let noted = old.noted write in still_noted (plain_call answered.call) old.number rises (placing.groups old.number) (placing.stay old.number noted.flag) noted;
           }
 
-          of_here : is_write this.call ≡ true → IsOfPlaced opened longer log_then drawn
-          of_here write = let noted = noted_here write in record { earlier = core.history; answered = this; was = here; call_is = sym noted.call_is; below = noted.below }
+          of_here : is_write (core.passes event.by).call ≡ true → IsOfPlaced opened longer log_then drawn
+          of_here write = let noted = noted_here (ap is_write (sym made) ∙ write) in record { earlier = core.history; answered = this; was = here; call_is = sym noted.call_is; below = noted.below }
 
     one_more : AreNumbered opened run log placed → IsRunOf opened longer → InFlight sizes log placed core → AreNumbered opened longer log_then placed_then
     one_more are is_run flight =
         let parts = run_parts sizes start run (event ∷ []) is_run in
-        elim (one_act event.by core log placed event.act (sound (mount_of opened) run mount parts.0) flight (act_kind sizes event.by core event.act parts.1.0.act)) [
+        let is_sound = sound (mount_of opened) run mount parts.0 in
+        elim (one_act event.by core log placed event.act is_sound flight (act_kind sizes event.by core event.act parts.1.0.act)) [
           | inl quiet ↦ quiet_more are quiet
-          | inr placing ↦ placed_more are placing
+          | inr placing ↦ placed_more are placing (is_sound.made.each event.by)
         ]
 
   -- ---- a run

@@ -6,6 +6,7 @@ use Rattle.std.proofs.lemmas.Bool.{cases_Bool, cases_eq, cases_lt, and_from, and
 use Rattle.std.proofs.lemmas.Nat.{mod_below}
 use Rattle.std.proofs.lemmas.List.Sorted.{IsPermutation-sym}
 use Rattle.std.proofs.lemmas.List.Sums.{sum_by-append}
+use Rattle.nv_plain.specs.Made.{after_calls, made_calls, HistoriesAreMadeRight}
 use Rattle.nv_core.specs.steps.Order.{Values}
 use Rattle.nv_plain.specs.Files.{Files}
 use Rattle.nv_plain.specs.Histories.{Answered}
@@ -16,7 +17,7 @@ use Rattle.nv_plain.specs.declared.call.FileCall.{FileCall}
 use Rattle.nv_plain.specs.declared.call.FileCall.TheVariants.{Read, Write, Sync}
 use Rattle.nv_header.specs.Regions.{ReadsAs}
 use Rattle.nv_core.specs.state.Words.{Sizes, HEAD, TAIL, PAGE, ENTRY, slot_of_entry}
-use Rattle.nv_core.specs.state.Passes.{Cleaning, Control, Idle, SeizeEntry, CommitGroup, PledgePage, ReadyEntry, TakePlace, SetStopAfterCommit, Fault, Pass, IsOneOf, is_write, first_page, page_count, times}
+use Rattle.nv_core.specs.state.Passes.{Cleaning, Control, Idle, SeizeEntry, CommitGroup, PledgePage, ReadyEntry, TakePlace, SetStopAfterCommit, Fault, Pass, IsOneOf, is_write, first_page, page_count, times, plain_call}
 use Rattle.nv_core.specs.state.Core.{Core}
 use Rattle.nv_core.specs.steps.Frames.{OwnEventsTell}
 use Rattle.nv_core.specs.steps.Opening.{IsMount, opening}
@@ -29,7 +30,7 @@ use Rattle.nv_core.specs.invariant.InvariantLaws.{RunsAreSound}
 use Rattle.nv_core.specs.invariant.LogWindow.{InWindow}
 use Rattle.nv_core.specs.invariant.Ownership.{HoldsLocks}
 use Rattle.nv_core.specs.invariant.Sound.{Sound}
-use Rattle.nv_core.specs.crash.CommutingWrites.{IsReordered, after_calls}
+use Rattle.nv_core.specs.crash.CommutingWrites.{IsReordered}
 use Rattle.nv_core.specs.crash.CrashImages.{AreImagesOfStores, AddedInAnyOrder, FaultsAreFated, StatesSurviveCrashes, Survives, is_in_flight, is_committed, is_added, added_unready, added_writes, IsFated, KeptInImage, Stored}
 use Rattle.nv_core.specs.log.EntryImages.{IsRegionImage, ReadsOpenOrWhole, ReadsWhole}
 use Rattle.nv_core.specs.log.LogContent.{GroupsAreInImages, NoOldWordCounts}
@@ -40,7 +41,7 @@ use Rattle.nv_core.specs.log.Retiring.{TailsAt}
 use Rattle.nv_core.specs.log.Tails.{Tails}
 use Rattle.nv_core.specs.state.Cleaner.{FreeEntry, AdvanceTail}
 use Rattle.nv_core.specs.steps.PassSteps.{fault_of}
-use Rattle.nv_core.specs.log.LivePieces.{calls_of, is_ready, is_waiting}
+use Rattle.nv_core.specs.log.LivePieces.{is_ready, is_waiting}
 use Rattle.nv_core.specs.log.Unready.{group_of_fault}
 use Rattle.nv_core.proofs.crash.CommutingLaws.{after_both}
 use Rattle.nv_core.proofs.crash.CrashGroups.{entry_is, some_entries}
@@ -166,7 +167,7 @@ number_kept test from (suc many) n low high is = elim (cases_eq n from) [
 
 -- ---- what recovery finds of the last state of a mount
 
-module _ (sound : RunsAreSound) (tell : OwnEventsTell) (in_images : GroupsAreInImages) (none_old : NoOldWordCounts) (survive : StatesSurviveCrashes) (fated : FaultsAreFated) (ordered : AddedInAnyOrder) (flights : FlightsAreNumbered) (pages : NoTwoInFlightOfAPage)
+module _ (right : HistoriesAreMadeRight) (sound : RunsAreSound) (tell : OwnEventsTell) (in_images : GroupsAreInImages) (none_old : NoOldWordCounts) (survive : StatesSurviveCrashes) (fated : FaultsAreFated) (ordered : AddedInAnyOrder) (flights : FlightsAreNumbered) (pages : NoTwoInFlightOfAPage)
     (view : PassView) (mount : IsMount (mount_of view.opened)) (is_run : IsRunOf view.opened view.run) (zero_is : view.number ≡ 0) (knows : KnowsTaken view) (all : length view.ended ≡ made_of view)
     (files : Files) (names : List (List ℕ)) (last : LastLog view files names)
     (image : Image) (bytes : Files) (is : IsRegionImage view.opened.sizes (values_of view) image) (held : AreImagesOfStores view.opened.sizes (values_of view) bytes) where
@@ -449,7 +450,8 @@ module _ (sound : RunsAreSound) (tell : OwnEventsTell) (in_images : GroupsAreInI
     files_are =
         survives.files
         ∙ sym (ordered sizes at_opening files names last.tails last.log last.placed core image (kept_writes first groups some) is_sound last.content last.region is all_added)
-        ∙ after_both (calls_of (history_then view)) (kept_writes first groups some) files
+        ∙ after_both (made_calls files (history_then view)) (kept_writes first groups some) files
+        ∙ ap (after_calls (kept_writes first groups some)) (right (history_then view) files)
 
   -- ---- those of all passes
 
@@ -665,10 +667,10 @@ module _ (sound : RunsAreSound) (tell : OwnEventsTell) (in_images : GroupsAreInI
           let whole = subst (λ c. ReadsWhole sizes c n image) noted.call_is ((in_images sizes at_opening files last.tails last.log last.placed core entries is_sound last.content).whole n inside low noted.leads ready image is) in
           (group_where n inside high call whole, whole)
 
-  placed_there : (earlier later : List Answered) (answered : Answered) → history_then view ≡ earlier ++ answered ∷ later → is_write answered.call ≡ true → IsPlacedThere view image bytes earlier answered
+  placed_there : (earlier later : List Answered) (answered : Answered) → history_then view ≡ earlier ++ answered ∷ later → is_write (plain_call answered.call) ≡ true → IsPlacedThere view image bytes earlier answered
   placed_there earlier later answered stands write =
       let has = last.numbered.history earlier later answered stands in
-      record { number = has.number; placed = has.was; there = noted_there answered.call has.number (has.noted write) }
+      record { number = has.number; placed = has.was; there = noted_there (plain_call answered.call) has.number (has.noted write) }
 
   pub leaves : LeavesWholeWrites view files names image bytes
   leaves = record {

@@ -1,6 +1,7 @@
 -- Closed at rest: what comes out of a mount that is closed where its log is empty.
 use Rattle.std.specs.Prelude.{◌≡◌, ℕ, ◌+◌, List, [], take, All}
 use Rattle.nv_plain.specs.Files.{Files}
+use Rattle.nv_plain.specs.Histories.{after}
 use Rattle.nv_plain.specs.Layouts.{mount_layout}
 use Rattle.nv_plain.specs.Recovered.{committed}
 use Rattle.nv_pmem.specs.Moments.{Tells}
@@ -11,9 +12,7 @@ use Rattle.nv_store.specs.Store.{IsQuietStore}
 use Rattle.nv_header.specs.Regions.{IsAtRest}
 use Rattle.nv_core.specs.state.Words.{Sizes, STOP, HEAD, TAIL}
 use Rattle.nv_core.specs.content.Content.{Opens}
-use Rattle.nv_core.specs.crash.CommutingWrites.{after_calls}
 use Rattle.nv_core.specs.crash.CrashImages.{OpensRegion}
-use Rattle.nv_core.specs.log.LivePieces.{calls_of}
 use Rattle.nv_core.specs.log.LogContent.{OpensLog}
 use Rattle.nv_table.specs.invariant.Idle.{TakenHoldNothing}
 use Rattle.nv_table.specs.state.Opened.{mount_of}
@@ -39,7 +38,7 @@ pub record AreAtRest (sizes : Sizes) (names : List (List ℕ)) (files : Files) (
 
 -- the files after the history as a pass saw it last
 abbrev pub files_then : PassView → Files → Files
-files_then view files = after_calls (calls_of (history_then view)) files
+files_then view files = after (history_then view) files
 
 -- Where no number is in the log of a mount, and neither pass 0 nor one that it took in holds a cell, the stores that come out have the files after the history, whatever STOP says.
 abbrev pub HaveFilesWhereEmpty : PassView → (stores : List StoreHistory) → Type 0

@@ -7,15 +7,16 @@ use Rattle.nv_plain.specs.Images.{Image}
 use Rattle.nv_plain.specs.Layouts.{mount_layout}
 use Rattle.nv_plain.specs.Recovered.{Fits, recovered}
 use Rattle.nv_plain.specs.declared.call.FileCall.{FileCall}
+use Rattle.nv_plain.specs.declared.call.Reply.{Reply}
+use Rattle.nv_plain.specs.Made.{after_calls, reply_from}
 use Rattle.nv_pmem.specs.Rows.{RowTells, InEachRowImage}
 use Rattle.nv_pmem.specs.Steps.{PartHistory}
 use Rattle.nv_store.specs.Steps.{StoreHistory}
 use Rattle.nv_header.specs.Regions.{ReadsAs}
 use Rattle.nv_recover.specs.Standing.{AreStoreImages}
-use Rattle.nv_core.specs.state.Passes.{Control, SeizeEntry, CommitGroup, PledgePage, ReadyEntry, TakePlace, SetStopAfterCommit, Fault, Pass, IsOneOf, is_write}
+use Rattle.nv_core.specs.state.Passes.{Control, SeizeEntry, CommitGroup, PledgePage, ReadyEntry, TakePlace, SetStopAfterCommit, Fault, Pass, IsOneOf, is_write, plain_call}
 use Rattle.nv_core.specs.steps.PassSteps.{fault_of}
 use Rattle.nv_core.specs.content.Content.{Opens}
-use Rattle.nv_core.specs.crash.CommutingWrites.{after_calls}
 use Rattle.nv_core.specs.crash.CrashImages.{OpensRegion}
 use Rattle.nv_core.specs.log.EntryImages.{ReadsWhole}
 use Rattle.nv_core.specs.log.LogContent.{OpensLog}
@@ -71,20 +72,24 @@ pub record WasDrawn (opened : Opened) (run : List Event) (call : FileCall) (numb
   pub call_is : ((state_of opened before).passes by).call ≡ call
   pub loaded : ((state_of opened before).passes by).head ≡ number
 
--- A call got its place in a run, behind these of the history, by this event; the numbers that its pass had drawn by then, if any, go from this one on.
+-- A call got its place in a run, behind these of the history, by this event, and its reply by that of the plain call that it was made as; the numbers
+-- that its pass had drawn by then, if any, go from this one on.
 pub record WasPlaced (opened : Opened) (run : List Event) (earlier : List Answered) (answered : Answered) (number : ℕ) : Type 0 where
   pub before : List Event
+  pub reply : Reply
   pub found : ℕ
   pub after : List Event
-  pub lies : run ≡ before ++ record { by = answered.caller; act = TakesStep (Place answered.reply) found } ∷ after
+  pub lies : run ≡ before ++ record { by = answered.caller; act = TakesStep (Place reply) found } ∷ after
+  pub replied : answered.reply ≡ reply_from answered.call reply
   pub behind : (state_of opened before).history ≡ earlier
-  pub call_is : ((state_of opened before).passes answered.caller).call ≡ answered.call
+  pub asked_is : ((state_of opened before).passes answered.caller).asked ≡ answered.call
+  pub call_is : ((state_of opened before).passes answered.caller).call ≡ plain_call answered.call
   pub drew : ((state_of opened before).passes answered.caller).first ≡ number
 
 -- a write that drew its numbers from this one on has its place in the run, or is in flight
 abbrev pub IsPlacedOrFlies : PassView → FileCall → (number : ℕ) → Type 0
 IsPlacedOrFlies view call number =
-    ((earlier : List Answered) × (answered : Answered) × (answered.call ≡ call) × WasPlaced view.opened view.run earlier answered number)
+    ((earlier : List Answered) × (answered : Answered) × (plain_call answered.call ≡ call) × WasPlaced view.opened view.run earlier answered number)
     ⊎ ((write : Fault) × IsOneOf (flights_then view) write × (is_write write.call ≡ true) × (write.call ≡ call) × (write.first ≡ number))
 
 -- A group that an image has at this number was drawn in the run by a write, and the image has that write whole: its file, its offset and its bytes. The write has its place, or is in flight.
@@ -98,7 +103,7 @@ pub record IsGroupOfRun (view : PassView) (image : Image) (leader : ℕ) : Type 
 pub record IsPlacedThere (view : PassView) (image : Image) (bytes : Files) (earlier : List Answered) (answered : Answered) : Type 0 where
   pub number : ℕ
   pub placed : WasPlaced view.opened view.run earlier answered number
-  pub there : (number < (recovered image bytes).first) ⊎ (IsOneOf (recovered image bytes).groups number × ReadsWhole view.opened.sizes answered.call number image)
+  pub there : (number < (recovered image bytes).first) ⊎ (IsOneOf (recovered image bytes).groups number × ReadsWhole view.opened.sizes (plain_call answered.call) number image)
 
 -- The header reads as this region's, and the image fits. It recovers to the files after the history and then the writes in flight that are kept;
 -- where neither pass 0 nor one that it took in holds a cell, these are writes that faults ended. None of the latter has its first number below the
@@ -112,7 +117,7 @@ pub record LeavesWholeWrites (view : PassView) (files : Files) (names : List (Li
   pub groups : (leader : ℕ) → IsOneOf (recovered image bytes).groups leader → IsGroupOfRun view image leader
   pub own : (write : Fault) → IsOneOf (flights_then view) write → is_write write.call ≡ true → IsOneOf (recovered image bytes).groups write.first → ReadsWhole view.opened.sizes write.call write.first image
   pub low : (fault : Fault) → IsOneOf (faults_then view) fault → is_write fault.call ≡ true → (recovered image bytes).first ≤ fault.first
-  pub placed : (earlier later : List Answered) (answered : Answered) → history_then view ≡ earlier ++ answered ∷ later → is_write answered.call ≡ true → IsPlacedThere view image bytes earlier answered
+  pub placed : (earlier later : List Answered) (answered : Answered) → history_then view ≡ earlier ++ answered ∷ later → is_write (plain_call answered.call) ≡ true → IsPlacedThere view image bytes earlier answered
 
 -- Whatever a power failure leaves of parts and stores that tell does so.
 abbrev pub CrashesLeaveWholeWrites : PassView → (parts : List PartHistory) (stores : List StoreHistory) → Type 0

@@ -31,6 +31,7 @@ use nv_core::{
     runs_are_sound, runs_keep_content, runs_keep_the_log, writes_in_flight_keep_apart,
 };
 use nv_header::Region;
+use nv_plain::calls_are_made_right;
 use nv_pmem::{Lines, rows_have_states};
 use nv_store::Backing;
 use nv_table::{Board, Closed, Pass, Refused};
@@ -194,6 +195,7 @@ impl<L: Lines + Drop, B: Backing + Drop> Mount<L, B> {
         }
         let Mount { board, fds } = self;
         drop(fds);
+        calls_are_made_right();
         runs_are_sound();
         runs_keep_content();
         runs_keep_the_log();

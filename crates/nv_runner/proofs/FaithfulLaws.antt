@@ -6,15 +6,11 @@ use Rattle.std.proofs.lemmas.Bool.{true≢false}
 use Rattle.std.proofs.lemmas.List.{length-append, length-map}
 use Rattle.std.proofs.lemmas.List.Sorted.{length_permutation, IsPermutation-sym}
 use Rattle.std.proofs.lemmas.Slice.Zip.{AllZip-long}
-use Rattle.nv_plain.specs.Calls.{files_after}
-use Rattle.nv_plain.specs.Files.{Files}
-use Rattle.nv_plain.specs.Histories.{Answered, IsLegal, after}
+use Rattle.nv_plain.specs.Histories.{Answered, IsLegal}
 use Rattle.nv_plain.specs.declared.call.Reply.{Reply}
 use Rattle.nv_pmem.specs.Steps.{PartHistory}
 use Rattle.nv_store.specs.Steps.{StoreHistory}
 use Rattle.nv_core.specs.invariant.InvariantLaws.{RunsAreSound}
-use Rattle.nv_core.specs.crash.CommutingWrites.{after_calls}
-use Rattle.nv_core.specs.log.LivePieces.{calls_of}
 use Rattle.nv_core.specs.state.Passes.{IsOneOf, Pass}
 use Rattle.nv_core.specs.state.Values.{Value}
 use Rattle.nv_core.specs.steps.Frames.{OwnEventsTell}
@@ -376,11 +372,6 @@ emptied_logs_go_on basis trace fds plan start zero sorted part_values store_valu
 
 -- ---- the files
 
--- those after the calls of a history, whoever made them
-pub after_each : (history : List Answered) (files : Files) → after_calls (calls_of history) files ≡ after history files
-after_each [] files = refl
-after_each (answered ∷ later) files = after_each later (files_after answered.call files)
-
 pub files_are_of_the_history : FilesAreOfTheHistory
 files_are_of_the_history basis trace fds plan start zero sorted part_values store_values parts stores faults count tail formed lines is new out closed =
     let told = runs_are_told fds plan trace.calls start zero sorted part_values store_values parts stores faults count tail new out closed lines formed.round_order in
@@ -388,7 +379,6 @@ files_are_of_the_history basis trace fds plan start zero sorted part_values stor
     let legal = closed.history.legal basis.files zero.view.opened.next there.log there.files in
     (threads_are_legal fds (file_call (descriptors_in basis.names trace)) (map placed_call sorted.placed.items) (history_then zero.view) basis.files
     (calls_on_files basis trace zero.view.opened fds there) told.placed legal).2
-    ∙ sym (after_each (history_then zero.view) basis.files)
 
 -- ---- STOP
 

@@ -6,8 +6,8 @@ use Rattle.std.proofs.lemmas.List.{append-nil, length-map}
 use Rattle.std.proofs.lemmas.List.Elements.{All-nil, All-cons, All-head, All-tail}
 use Rattle.std.proofs.lemmas.List.Sorted.{All-permutation, IsPermutation-append_left, IsPermutation-filter_both, IsPermutation-keeps, IsPermutation-refl, IsPermutation-swap, IsPermutation-sym, IsPermutation-trans}
 use Rattle.nv_plain.specs.Recovered.{recovered}
+use Rattle.nv_plain.specs.Made.{after_calls}
 use Rattle.nv_core.specs.state.Passes.{Fault, is_write}
-use Rattle.nv_core.specs.crash.CommutingWrites.{after_calls}
 use Rattle.nv_calls.specs.histories.Faults.{OpenWrite, open_in}
 use Rattle.nv_runner.specs.OpenRuns.{LeftOpenAreKept, open_of}
 use Rattle.nv_runner.specs.OpenWrites.{kept_open}

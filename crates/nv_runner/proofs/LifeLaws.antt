@@ -11,12 +11,12 @@ use Rattle.nv_plain.specs.Histories.{after}
 use Rattle.nv_plain.specs.Images.{Image}
 use Rattle.nv_plain.specs.Recovered.{recovered}
 use Rattle.nv_plain.specs.declared.call.FileCall.{FileCall}
+use Rattle.nv_plain.specs.Made.{after_calls}
 use Rattle.nv_pmem.specs.Rows.{InEachRowImage, RowTells}
 use Rattle.nv_pmem.specs.Steps.{PartHistory}
 use Rattle.nv_pmem.proofs.RowLaws.{row_tells_more}
 use Rattle.nv_store.specs.Steps.{StoreHistory}
 use Rattle.nv_recover.specs.Standing.{AreStoreImages}
-use Rattle.nv_core.specs.crash.CommutingWrites.{after_calls}
 use Rattle.nv_core.specs.crash.CrashImages.{OpensRegion}
 use Rattle.nv_core.specs.state.Passes.{IsOneOf}
 use Rattle.nv_core.specs.state.Values.{Value}
@@ -49,7 +49,7 @@ use Rattle.nv_runner.specs.declared.sorted.SortedCalls.{SortedCalls}
 use Rattle.nv_runner.specs.OpenRuns.{open_of}
 use Rattle.nv_runner.specs.OpenWrites.{is_kept_open, kept_open}
 use Rattle.nv_runner.specs.Sorted.{HaveOwnLines, OpenedCall, opened_calls, opened_in_answer}
-use Rattle.nv_runner.proofs.FaithfulLaws.{after_each, calls_on_files}
+use Rattle.nv_runner.proofs.FaithfulLaws.{calls_on_files}
 use Rattle.nv_runner.proofs.histories.HistoryLaws.{sorted_are_history}
 use Rattle.nv_runner.proofs.histories.HistoryMembers.{one_moved, one_of_joined, one_of_mapped}
 use Rattle.nv_runner.proofs.histories.HistorySums.{added, added_append, added_mapped, added_moved, if_same, once_there, times_there}
@@ -212,7 +212,7 @@ left_by basis trace fds plan start ended outcome part_values store_values parts 
     let rise = rises_within calls made (lines_tell_rounds calls calls lines formed.round_order (IsPermutation-refl calls)).1 out.within in
     let are : AreHistory fds history (history_then ended.view) = sorted_are_history fds (batch_of plan) made ended (history_then ended.view) history out.run_out.run all rise sorted rises in
     let legal = threads_are_legal fds on_file history (history_then ended.view) basis.files on_files are (closed.history.legal basis.files ended.view.opened.next there.log there.files) in
-    let files : files_then ended.view basis.files ≡ after (history_of descriptors history) basis.files = after_each (history_then ended.view) basis.files ∙ sym legal.2 in
+    let files : files_then ended.view basis.files ≡ after (history_of descriptors history) basis.files = sym legal.2 in
     let left = opened_calls made in
     let moved = out.left_open left (IsPermutation-refl left) in
     let each : (image : Image) (bytes : Files) → LeavesWholeWrites ended.view basis.files basis.names image bytes → RecoversBehind basis trace history image bytes =

@@ -13,6 +13,7 @@ use Rattle.nv_core.specs.steps.Order.{Work}
 use Rattle.nv_core.specs.steps.Opening.{IsMount}
 use Rattle.nv_core.specs.invariant.Draws.{entries_of}
 use Rattle.nv_core.proofs.state.Choices.{if_both}
+use Rattle.nv_core.proofs.state.PlainCalls.{itself}
 use Rattle.nv_table.specs.steps.SeatSteps.{act_of, events, pass_before, pass_worked, with_call}
 use Rattle.nv_table.specs.steps.StepContracts.{Postcondition}
 use Rattle.nv_table.specs.state.Opened.{Opened, IsRunOf, mount_of, state_of}
@@ -210,7 +211,7 @@ module _ (laws : WordLaws) (tell : OwnEventsTell) (sizes : Sizes) (call : FileCa
 
     there_makes : there.call ≡ call
     there_makes = elim own.1 [
-      | inl first ↦ ap (λ (p : Pass). p.call) (opened_with (Some call) first)
+      | inl first ↦ ap (λ (p : Pass). p.call) (opened_with (Some call) first) ∙ itself call
       | inr later ↦
           ap (λ (p : Pass). p.call) (opened_with None later.0) ∙ calls_leave (λ (p : Pass). p.call) (λ sizes work p. refl) seen.opened.sizes works (pass_of seen)
           ∙ ap (λ (v : PassView). (pass_of v).call) taken.between.view ∙ was.makes later.1

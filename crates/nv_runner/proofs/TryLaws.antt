@@ -18,6 +18,7 @@ use Rattle.nv_core.specs.steps.Frames.{OwnEventsTell}
 use Rattle.nv_core.specs.steps.Opening.{IsMount}
 use Rattle.nv_core.specs.invariant.Draws.{entries_of, placed_entries}
 use Rattle.nv_core.proofs.invariant.KeepsDraws.{idle_passes_have_drawn}
+use Rattle.nv_core.proofs.state.PlainCalls.{itself}
 use Rattle.nv_table.specs.invariant.Idle.{IsIdle}
 use Rattle.nv_table.specs.state.Opened.{Opened, mount_of}
 use Rattle.nv_table.specs.state.States.{PassState}
@@ -52,7 +53,7 @@ use Rattle.nv_runner.proofs.RunLaws.{Went, batch_went, plain_went, went_as, went
 -- ---- what a pass has drawn
 
 placed_more : (sizes : Sizes) (calls : List Answered) (one : Answered) → placed_entries sizes (calls ++ one ∷ []) ≡ placed_entries sizes calls + entries_of sizes one.call
-placed_more sizes [] one = omega arith
+placed_more sizes [] one = let same = ap (entries_of sizes) (itself one.call) in omega (arith, same)
 placed_more sizes (first ∷ rest) one = let again = placed_more sizes rest one in omega (arith, again)
 
 -- between two calls

@@ -6,13 +6,13 @@ use Rattle.nv_plain.specs.Histories.{IsLegal, after}
 use Rattle.nv_plain.specs.Images.{Image}
 use Rattle.nv_plain.specs.Layouts.{mount_layout}
 use Rattle.nv_plain.specs.Recovered.{Fits, recovered}
+use Rattle.nv_plain.specs.Made.{after_calls}
 use Rattle.nv_pmem.specs.Rows.{InEachRowImage, RowTells}
 use Rattle.nv_pmem.specs.Steps.{PartHistory}
 use Rattle.nv_store.specs.Steps.{StoreHistory}
 use Rattle.nv_header.specs.Heads.{IsHead, first_names}
 use Rattle.nv_plain.specs.Images.{header_of}
 use Rattle.nv_recover.specs.Standing.{AreStoreImages}
-use Rattle.nv_core.specs.crash.CommutingWrites.{after_calls}
 use Rattle.nv_core.specs.crash.CrashImages.{OpensRegion}
 use Rattle.nv_core.specs.state.Passes.{IsOneOf}
 use Rattle.nv_core.specs.state.Values.{Value}

@@ -4,7 +4,7 @@ use Rattle.std.specs.List.{flat_map}
 use Rattle.nv_plain.specs.Files.{Files}
 use Rattle.nv_plain.specs.Images.{Image}
 use Rattle.nv_plain.specs.Recovered.{recovered}
-use Rattle.nv_core.specs.crash.CommutingWrites.{after_calls}
+use Rattle.nv_plain.specs.Made.{after_calls}
 use Rattle.nv_core.specs.state.Passes.{Fault}
 use Rattle.nv_table.specs.state.States.{PassState}
 use Rattle.nv_mount.specs.WholeWrites.{RecoversTo, faults_then}

@@ -23,7 +23,6 @@ use Rattle.nv_runner.specs.Lists.{MadeCall, Stand, calls_made, made_calls, place
 use Rattle.nv_runner.specs.Rounds.{AreInLineOrder}
 use Rattle.nv_runner.specs.Shifts.{calls_of_thread}
 use Rattle.nv_runner.specs.Sorted.{HaveOwnLines, OpenedCall, RefusedCall, opened_call, opened_made, placed_call, placed_made, refused_call, refused_made}
-use Rattle.nv_runner.proofs.FaithfulLaws.{after_each}
 use Rattle.nv_runner.proofs.histories.HistoryMembers.{of_each, of_one, one_left, one_mapped}
 use Rattle.nv_runner.proofs.histories.HistoryThreads.{threads_are_legal}
 use Rattle.nv_runner.proofs.LineLaws.{open_in_lines, refused_in_lines}
@@ -241,4 +240,4 @@ pub schedules_are_legal : SchedulesAreLegal
 schedules_are_legal mount tokens calls batch then_ zero told sorted part_values store_values parts stores faults placed tail followed calls_are closed order one_round out on_file on_files files next log opens =
     let are = schedules_are_told mount tokens calls batch then_ zero told sorted part_values store_values parts stores faults placed tail followed calls_are closed order one_round out in
     let legal = threads_are_legal mount.fds on_file (map placed_call sorted.placed.items) (history_then zero.view) files on_files are.placed (closed.history.legal files next log opens) in
-    (legal.1, legal.2 ∙ sym (after_each (history_then zero.view) files))
+    (legal.1, legal.2)

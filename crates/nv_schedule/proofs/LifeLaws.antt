@@ -6,10 +6,10 @@ use Rattle.nv_plain.specs.Histories.{after}
 use Rattle.nv_plain.specs.Images.{Image}
 use Rattle.nv_plain.specs.Recovered.{recovered}
 use Rattle.nv_plain.specs.declared.call.FileCall.{FileCall}
+use Rattle.nv_plain.specs.Made.{after_calls}
 use Rattle.nv_pmem.specs.Rows.{InEachRowImage, RowTells}
 use Rattle.nv_pmem.proofs.RowLaws.{row_tells_more}
 use Rattle.nv_recover.specs.Standing.{AreStoreImages}
-use Rattle.nv_core.specs.crash.CommutingWrites.{after_calls}
 use Rattle.nv_core.specs.crash.CrashImages.{OpensRegion}
 use Rattle.nv_core.specs.state.Passes.{IsOneOf}
 use Rattle.nv_table.specs.state.Opened.{Opened, mount_of}
@@ -23,7 +23,7 @@ use Rattle.nv_runner.specs.Histories.{AreHistory, CallsOnFiles, PlacedCall, plac
 use Rattle.nv_runner.specs.Lists.{MadeCall, calls_made}
 use Rattle.nv_runner.specs.Lives.{RecoversBehind}
 use Rattle.nv_runner.specs.Sorted.{OpenedCall, opened_calls, opened_in_answer}
-use Rattle.nv_runner.proofs.FaithfulLaws.{after_each, calls_on_files}
+use Rattle.nv_runner.proofs.FaithfulLaws.{calls_on_files}
 use Rattle.nv_runner.proofs.histories.HistoryMembers.{one_left, one_mapped, one_moved, one_of_joined, one_of_mapped}
 use Rattle.nv_runner.proofs.histories.HistoryThreads.{threads_are_legal}
 use Rattle.nv_runner.proofs.KeptRunLaws.{left_open_are_kept}
@@ -53,7 +53,7 @@ schedules_leave_lives basis trace mount batch start ended bench armed outcome pa
     let are : AreHistory mount.fds history (history_then ended.view) =
     called_history mount calls batch callers ended count made history called closed.history refl lines one_round sorted.1 (falls_nowhere (λ (p : PlacedCall). p.place) history sorted.2) in
     let legal = threads_are_legal mount.fds on_file history (history_then ended.view) basis.files on_files are (closed.history.legal basis.files ended.view.opened.next there.log there.files) in
-    let files : files_then ended.view basis.files ≡ after (history_of (descriptors_in basis.names trace) history) basis.files = after_each (history_then ended.view) basis.files ∙ sym legal.2 in
+    let files : files_then ended.view basis.files ≡ after (history_of (descriptors_in basis.names trace) history) basis.files = sym legal.2 in
     let left = opened_calls made in
     let moved = called.left_open left (IsPermutation-refl left) in
     let each : (image : Image) (bytes : Files) → LeavesWholeWrites ended.view basis.files basis.names image bytes → RecoversBehind basis trace history image bytes =

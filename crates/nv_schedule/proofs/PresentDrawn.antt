@@ -15,6 +15,7 @@ use Rattle.nv_core.specs.state.Passes.{Control, Fault, is_write, len_of, TakePag
 use Rattle.nv_core.specs.state.Words.{Sizes}
 use Rattle.nv_core.specs.steps.Frames.{OwnEventsTell}
 use Rattle.nv_core.specs.steps.Opening.{IsMount}
+use Rattle.nv_core.proofs.state.PlainCalls.{itself}
 use Rattle.nv_table.specs.invariant.Drawn.{drawn_by, lost_of, or_else}
 use Rattle.nv_table.specs.invariant.Drawn as told
 use Rattle.nv_table.specs.invariant.Idle.{IsIdle}
@@ -106,7 +107,7 @@ open_most sizes call SetStopAfterCommit = omega arith
 open_most sizes call control = omega arith
 
 placed_more : (sizes : Sizes) (calls : List Answered) (one : Answered) → placed_entries sizes (calls ++ one ∷ []) ≡ placed_entries sizes calls + entries_of sizes one.call
-placed_more sizes [] one = omega arith
+placed_more sizes [] one = let same = ap (entries_of sizes) (itself one.call) in omega (arith, same)
 placed_more sizes (first ∷ rest) one = let again = placed_more sizes rest one in omega (arith, again)
 
 -- what a call's place adds to its pass's own entries

@@ -8,7 +8,6 @@ use Rattle.std.proofs.lemmas.Bool.{cases_lt}
 use Rattle.std.proofs.lemmas.List.{get_or-drop, get_or_default, length-drop, length-map}
 use Rattle.std.proofs.lemmas.List.Elements.{All-cons, All-head, All-tail}
 use Rattle.nv_plain.specs.Files.{Files}
-use Rattle.nv_plain.specs.Histories.{Answered, after}
 use Rattle.nv_plain.specs.Layouts.{mount_layout}
 use Rattle.nv_pmem.specs.Images.{IsQuietPart}
 use Rattle.nv_pmem.specs.Part.{Part, part_word}
@@ -22,11 +21,9 @@ use Rattle.nv_store.specs.Store.{IsQuietStore, Store}
 use Rattle.nv_header.specs.FileNames.{AreFileNames}
 use Rattle.nv_header.specs.Regions.{IsAtRest}
 use Rattle.nv_recover.specs.Standing.{AreQuietStores, files_of}
-use Rattle.nv_core.specs.crash.CommutingWrites.{after_calls}
 use Rattle.nv_core.specs.crash.CrashImages.{OpensRegion, RunsKeepRegion}
 use Rattle.nv_core.specs.crash.EmptyLog.{EmptyLogsRest, HasAllInStores}
 use Rattle.nv_core.specs.invariant.InvariantLaws.{RunsAreSound}
-use Rattle.nv_core.specs.log.LivePieces.{calls_of}
 use Rattle.nv_core.specs.log.LogContent.{OpensLog, RunsKeepTheLog}
 use Rattle.nv_core.specs.log.Written.{IsPart}
 use Rattle.nv_core.specs.state.Core.{Core}
@@ -77,11 +74,6 @@ use Rattle.nv_top.proofs.RestLemmas.{all_rest, first_states, is_longer, now_of, 
 use Rattle.nv_top.proofs.RowLemmas.{Present, present as present_states}
 
 -- ---- files
-
--- what a history leaves is what its calls leave
-after_is : (history : List Answered) (files : Files) → after history files ≡ after_calls (calls_of history) files
-after_is [] files = refl
-after_is (answered ∷ later) files = after_is later _
 
 -- stores that read as files, and tell, hold them
 seen_files : (row : List StoreHistory) (states : List Store) (contents : List (List ℕ)) → AreNow row states → AllZip IsSeen row contents → (files_of states).contents ≡ contents
@@ -280,7 +272,7 @@ module _ {L B : Type 0} (device : L → ℕ) (history : L → PartHistory) (faul
       (map store_history stores) (sum_by faults parts + sum_by store_faults stores) placed tail new out by lines formed.round_order in
       let legal = by.history.legal basis.files ended.view.opened.next log here.files in
       let same = threads_are_legal fds (file_call (descriptors_in basis.names trace)) (map placed_call sorted.placed.items) (history_then ended.view) basis.files (calls_on_files basis trace ended.view.opened fds here) told.placed legal in
-      sym (same.2 ∙ after_is (history_then ended.view) basis.files)
+      sym same.2
 
   files_are : files_of store_states.states ≡ files_shown basis trace report
   files_are = stores_hold ∙ shown_is

@@ -12,6 +12,7 @@ use Rattle.nv_plain.specs.Images.{Image, header_of}
 use Rattle.nv_plain.specs.Layouts.{mount_layout}
 use Rattle.nv_plain.specs.Names.{is_name}
 use Rattle.nv_plain.specs.Recovered.{recovered}
+use Rattle.nv_plain.specs.Made.{after_calls}
 use Rattle.nv_pmem.specs.Part.{Part}
 use Rattle.nv_pmem.specs.Draws.{draws_of}
 use Rattle.nv_pmem.specs.RowStates.{AreNow, IsNow, row_tells_at}
@@ -36,13 +37,11 @@ use Rattle.nv_recover.specs.Standing.{AreStoreImages, ReadableStandsForRecovered
 use Rattle.nv_recover.specs.Recovering.{HasFoundAll}
 use Rattle.nv_recover.specs.declared.recovering.Recovered as recover
 use Rattle.nv_core.specs.content.Content.{Opens}
-use Rattle.nv_core.specs.crash.CommutingWrites.{after_calls}
 use Rattle.nv_core.specs.crash.CrashImages.{OpensRegion}
 use Rattle.nv_core.specs.log.LogContent.{OpensLog}
 use Rattle.nv_core.specs.content.StorePages.{store_of_value}
 use Rattle.nv_core.specs.log.Written.{IsPart}
 use Rattle.nv_core.specs.state.Values.{Bare, Value, faults_of}
-use Rattle.nv_core.proofs.content.PatchLaws.{history_after}
 use Rattle.nv_table.specs.state.Opened.{Opened, mount_of}
 use Rattle.nv_table.specs.state.States.{PassState}
 use Rattle.nv_table.specs.state.Views.{PassView, first_view}
@@ -325,7 +324,6 @@ module _ (basis : Basis) (trace : Traced) (mount : MountState) (pass zero : Pass
     history_files =
         (threads_so mount.fds (file_call descriptors) (map placed_call sorted.placed.items) (history_then zero.view) basis.files on_files told.placed
         (run.closed.history.legal basis.files zero.view.opened.next opens_log opens_files)).2
-        ∙ sym (history_after (history_then zero.view) basis.files)
 
     module _ (image : Image) (bytes : Files) (left : LeavesWholeWrites zero.view basis.files basis.names image bytes) (found : recover.Recovered) (all : HasFoundAll image found) where
       -- and then those that are kept of the calls that were left open

@@ -7,6 +7,8 @@ use Rattle.nv_plain.specs.Histories.{Answered}
 use Rattle.nv_plain.specs.Images.{Image}
 use Rattle.nv_plain.specs.Recovered.{recovered}
 use Rattle.nv_plain.specs.declared.call.FileCall.{FileCall}
+use Rattle.nv_plain.specs.Made.{reply_from}
+use Rattle.nv_plain.specs.declared.call.Reply.{Reply}
 use Rattle.nv_pmem.specs.Rows.{row_words}
 use Rattle.nv_pmem.specs.declared.picker.Pick.{Pick}
 use Rattle.nv_bench.specs.Benches.{BenchState}
@@ -19,6 +21,7 @@ use Rattle.nv_core.specs.steps.Opening.{opening}
 use Rattle.nv_core.specs.steps.Ops.{Place}
 use Rattle.nv_core.proofs.invariant.HistoryLaws.{grown}
 use Rattle.nv_core.proofs.steps.RunLaws.{after_parts}
+use Rattle.nv_core.proofs.state.PlainCalls.{itself}
 use Rattle.nv_table.specs.state.Opened.{Opened, mount_of, state_of}
 use Rattle.nv_table.specs.state.Views.{PassView}
 use Rattle.nv_mount.specs.WholeRuns.{history_then}
@@ -102,12 +105,13 @@ placed_stands : (opened : Opened) (run : List Event) (earlier : List Answered) (
 placed_stands opened run earlier answered number was =
     let sizes = opened.sizes in
     let start = opening (mount_of opened) in
-    let event : Event = record { by = answered.caller; act = TakesStep (Place answered.reply) was.found } in
+    let event : Event = record { by = answered.caller; act = TakesStep (Place was.reply) was.found } in
     let middle = was.before ++ event ∷ [] in
     let parts : middle ++ was.after ≡ run = append_assoc was.before (event ∷ []) was.after ∙ sym was.lies in
     let here : (state_of opened middle).history ≡ earlier ++ answered ∷ [] =
     ap (λ (c : Core). c.history) (after_parts sizes start was.before (event ∷ []))
-    ∙ ap (λ (call : FileCall). (state_of opened was.before).history ++ record { caller = answered.caller; call = call; reply = answered.reply } ∷ []) was.call_is
+    ∙ ap (λ (call : FileCall). (state_of opened was.before).history ++ record { caller = answered.caller; call = call; reply = reply_from call was.reply } ∷ []) was.asked_is
+    ∙ ap (λ (reply : Reply). (state_of opened was.before).history ++ record answered { reply = reply } ∷ []) (sym was.replied)
     ∙ ap (λ l. l ++ answered ∷ []) was.behind in
     let more = grown sizes (state_of opened middle) was.after in (
       more.0,
@@ -156,13 +160,14 @@ module _ (basis : Basis) (trace : Traced) (report : Report) (left : List OpenedC
   one_placed p one write =
       let stands = stands_there fds report.history (history_then last) 0 ran.history.places ran.history.each p one in
       let same = on_file p stands.answered stands.stands in
-      let there = behind.whole.placed stands.earlier stands.later stands.answered stands.splits (ap is_write same ∙ writes_on descriptors p.call.call write) in
+      let made = itself stands.answered.call ∙ same in
+      let there = behind.whole.placed stands.earlier stands.later stands.answered stands.splits (ap is_write made ∙ writes_on descriptors p.call.call write) in
       let at : length stands.earlier ≡ p.place = let at = stands.at in omega (arith, at) in (
         there.number,
         (stands.earlier, stands.answered, at, same, there.placed),
         elim there.there [
           | inl below ↦ inl below
-          | inr group ↦ inr (group.0, as_basis (file_call descriptors p.call.call) there.number (subst (λ c. ReadsWhole last.opened.sizes c there.number image) same group.1))
+          | inr group ↦ inr (group.0, as_basis (file_call descriptors p.call.call) there.number (subst (λ c. ReadsWhole last.opened.sizes c there.number image) made group.1))
         ],
       )
 

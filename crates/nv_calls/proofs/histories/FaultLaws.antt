@@ -16,6 +16,7 @@ use Rattle.nv_core.specs.steps.Ops.{Op, Load, Place, Stop}
 use Rattle.nv_core.specs.steps.Order.{Enabled, IsFailing, Work}
 use Rattle.nv_core.specs.steps.PassSteps.{fault_of, faulted_after}
 use Rattle.nv_core.proofs.steps.NextSteps.{next_steps_may_come}
+use Rattle.nv_core.proofs.state.PlainCalls.{itself}
 use Rattle.nv_table.specs.state.Opened.{Opened, mount_of}
 use Rattle.nv_table.specs.state.States.{PassState}
 use Rattle.nv_table.specs.state.Views.{PassView, pass_of}
@@ -145,7 +146,7 @@ module _ (sizes : Sizes) (call : FileCall) (sound : RunsAreSound) (tell : OwnEve
     call_then same = ap (λ (p : Pass). p.call) taken.stepped.pass ∙ same
 
     begins_call : step.opens ≡ Some call → there.call ≡ call
-    begins_call opens = ap (λ o. (with_call here_sizes o (pass_worked here_sizes taken.stepped.works (pass_of taken.before.view))).call) opens
+    begins_call opens = ap (λ o. (with_call here_sizes o (pass_worked here_sizes taken.stepped.works (pass_of taken.before.view))).call) opens ∙ itself call
 
     goes_on_call : step.opens ≡ None → (pass_of middle.view).call ≡ call → there.call ≡ call
     goes_on_call opens before =

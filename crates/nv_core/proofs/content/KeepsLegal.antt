@@ -11,6 +11,8 @@ use Rattle.nv_plain.specs.declared.call.FileCall.{FileCall}
 use Rattle.nv_plain.specs.declared.call.FileCall.TheVariants.{Read, Write, Sync}
 use Rattle.nv_plain.specs.declared.call.Reply.{Reply}
 use Rattle.nv_plain.specs.declared.call.Reply.TheVariants.{Bytes}
+use Rattle.nv_core.proofs.content.MadeLaws.{reply_asked}
+use Rattle.nv_core.specs.steps.PassSteps.{as_answered}
 use Rattle.nv_core.specs.state.Words.{Sizes, SIZE}
 use Rattle.nv_core.specs.state.Passes.{Control, VisitPage, TakePlace, GrowLength, IsAllowed, file_of, at_of, len_of, is_read, page_count, first_page, end_read, covered, page_number, times}
 use Rattle.nv_core.specs.steps.Ops.{Op, Place}
@@ -168,6 +170,6 @@ pub legal_step : (plain : PlainLaws) (sizes : Sizes) (first : Values) (opening :
     → FoundEnabledByKind sizes by core op found → Legal opening core → Legal opening (after_step sizes by op found core)
 legal_step plain sizes first opening by core (Place reply) found sound lengths buffers may was = record {
   legal =
-      (plain.legally core.history record { caller = by; call = (core.passes by).call; reply = reply } opening).1 (was.legal, reply_is sizes first opening by core reply sound lengths buffers may.may);
+      (plain.legally core.history (as_answered by (core.passes by) reply) opening).1 (was.legal, reply_asked plain opening by core reply sound (reply_is sizes first opening by core reply sound lengths buffers may.may));
 }
 legal_step plain sizes first opening by core op found sound lengths buffers may was = record { legal = subst (λ h. IsLegal h opening) (sym (same_history by core op tt)) was.legal }

@@ -7,12 +7,13 @@ use Rattle.nv_plain.specs.Calls.{files_after}
 use Rattle.nv_plain.specs.declared.call.FileCall.{FileCall}
 use Rattle.nv_plain.specs.declared.call.FileCall.TheVariants.{Read, Write, Sync}
 use Rattle.nv_plain.specs.declared.call.Reply.{Reply}
+use Rattle.nv_core.proofs.content.MadeLaws.{made_now}
 use Rattle.nv_core.specs.state.Words.{Sizes, Word, STOP, ORDER, HEAD, TAIL, SIZE, LENGTH, STORE, ENTRY, PAGE, DIRTY, index, HINT, CLEANUP, ready, is_entry_of, slot_of_entry}
 use Rattle.nv_core.specs.state.Values.{CallEnding, Made, Failed, Refused}
-use Rattle.nv_core.specs.state.Passes.{Control, Idle, TakePage, LoadLength, TakeSize, LoadStop, LoadOrder, VisitPage, TakeStore, ReadStore, GiveStore, TakeCleanup, WriteLoadHead, WriteLoadTail, DrawNumbers, SeizeEntry, CommitGroup, PledgePage, ReadyEntry, TakePlace, GrowLength, GiveSize, GivePage, GiveBack, SetStopAfterRead, SetStopAfterCommit, BreakEntry, Pass, file_of, at_of, len_of, is_write, is_read, page_count, first_page, end_page, without, times, Searching, ReadLoadHead, LoadEntry, HoldEntry, ReadPiece, GiveCleanup, SetStopAfterPiece, Cleaning}
+use Rattle.nv_core.specs.state.Passes.{Control, Idle, TakePage, LoadLength, TakeSize, LoadStop, LoadOrder, VisitPage, TakeStore, ReadStore, GiveStore, TakeCleanup, WriteLoadHead, WriteLoadTail, DrawNumbers, SeizeEntry, CommitGroup, PledgePage, ReadyEntry, TakePlace, GrowLength, GiveSize, GivePage, GiveBack, SetStopAfterRead, SetStopAfterCommit, BreakEntry, Pass, file_of, at_of, len_of, is_write, is_read, page_count, first_page, end_page, without, times, Searching, ReadLoadHead, LoadEntry, HoldEntry, ReadPiece, GiveCleanup, SetStopAfterPiece, Cleaning, plain_call}
 use Rattle.nv_core.specs.steps.Ops.{Op, Load, Take, Give, Place, Stop, Draw, Seize, Pledge, Ready, Grow, Break, Split, PutBack, Join, Turn, Hint, Hold, Return, ByCleaner, cleaner_move, moved}
 use Rattle.nv_core.specs.steps.ControlSteps.{control_after, after_load, after_give, after_stop, leaving, giving, ending, ordered, copying, exceeds, scanning, after_head, after_tail, after_look, after_hold, after_return}
-use Rattle.nv_core.specs.steps.PassSteps.{added}
+use Rattle.nv_core.specs.steps.PassSteps.{added, as_answered}
 use Rattle.nv_core.specs.steps.Order.{Values, Work, CallEnabled, CallDue, IsFailing, commit_steps}
 use Rattle.nv_core.specs.steps.StepKinds.{MayLoad, MayTake, MayPlace, EnabledByKind}
 use Rattle.nv_core.specs.state.Core.{Core, changes, changed_pass, after_step, after_begin, after_work, control_worked}
@@ -193,8 +194,11 @@ known_file plain sizes first opening by core op sound count may =
     omega (arith, known, all, count)
 
 -- the files after it
-pub files_placed : (plain : PlainLaws) (opening : Files) (by : ℕ) (core : Core) (reply : Reply) → after (core.history ++ added by (core.passes by) (Place reply)) opening ≡ files_after (core.passes by).call (files_now opening core)
-files_placed plain opening by core reply = plain.goes_on core.history record { caller = by; call = (core.passes by).call; reply = reply } opening
+pub files_placed : (plain : PlainLaws) (sizes : Sizes) (first : Values) (opening : Files) (by : ℕ) (core : Core) (reply : Reply) → Sound sizes first core
+    → after (core.history ++ added by (core.passes by) (Place reply)) opening ≡ files_after (core.passes by).call (files_now opening core)
+files_placed plain sizes first opening by core reply sound =
+    plain.goes_on core.history (as_answered by (core.passes by) reply) opening ∙ sym (plain.made (core.passes by).asked (files_now opening core)).leaves
+    ∙ ap (λ call. files_after call (files_now opening core)) (sym (made_now plain opening by core sound))
 
 -- two passes that grow one file are one
 grown_by_one : (sizes : Sizes) (first : Values) (opening : Files) (core : Core) → Sound sizes first core → (file one other : ℕ) → times (SIZE file) (core.passes one).owned ≡ 1
@@ -217,14 +221,14 @@ module _ (plain : PlainLaws) (sizes : Sizes) (first : Values) (opening : Files) 
   there = known_file plain sizes first opening by core (Place reply) sound count may.may
 
   now_same : (file : ℕ) → (is_write (core.passes by).call ≡ false) ⊎ (file ≢ file_of (core.passes by).call) → length_now opening (after_step sizes by (Place reply) found core) file ≡ length_now opening core file
-  now_same file other = ap (λ f. length (contents_of f file)) (files_placed plain opening by core reply) ∙ ap length (files_same (core.passes by).call (files_now opening core) file there other)
+  now_same file other = ap (λ f. length (contents_of f file)) (files_placed plain sizes first opening by core reply sound) ∙ ap length (files_same (core.passes by).call (files_now opening core) file there other)
 
   now_more : (file : ℕ) → length_now opening core file ≤ length_now opening (after_step sizes by (Place reply) found core) file
-  now_more file = let e = ap (λ f. length (contents_of f file)) (files_placed plain opening by core reply) in let g = files_grow plain (core.passes by).call (files_now opening core) file there in omega (arith, e, g)
+  now_more file = let e = ap (λ f. length (contents_of f file)) (files_placed plain sizes first opening by core reply sound) in let g = files_grow plain (core.passes by).call (files_now opening core) file there in omega (arith, e, g)
 
   now_written : is_write (core.passes by).call ≡ true → length_now opening (after_step sizes by (Place reply) found core) (file_of (core.passes by).call)
       ≡ max (length_now opening core (file_of (core.passes by).call)) (at_of (core.passes by).call + len_of (core.passes by).call)
-  now_written write = ap (λ f. length (contents_of f (file_of (core.passes by).call))) (files_placed plain opening by core reply) ∙ files_written plain (core.passes by).call (files_now opening core) there write
+  now_written write = ap (λ f. length (contents_of f (file_of (core.passes by).call))) (files_placed plain sizes first opening by core reply sound) ∙ files_written plain (core.passes by).call (files_now opening core) there write
 
   measured : HasMeasured (core.passes by).control
   measured = place_measured sizes core.values (core.passes by) reply (core.passes by).control may.may
@@ -431,7 +435,7 @@ lengths_one sizes opening core by pass values before now was = record {
 
 pub lengths_begin : (sizes : Sizes) (opening : Files) (by : ℕ) (core : Core) (call : FileCall) → CallMayBegin sizes call (core.passes by) → Lengths sizes opening core → Lengths sizes opening (after_begin sizes by call core)
 lengths_begin sizes opening by core call may was = lengths_one sizes opening core by _ core.values (unlike Idle may.idle (λ z. z))
-    (λ is. if_both (λ s. IsGrow s → ⊥) (page_count sizes call == 0) LoadStop (TakePage (first_page sizes call)) (λ _ z. z) (λ _ z. z) (subst IsGrow (sym is) tt)) was
+    (λ is. if_both (λ s. IsGrow s → ⊥) (page_count sizes (plain_call call) == 0) LoadStop (TakePage (first_page sizes (plain_call call))) (λ _ z. z) (λ _ z. z) (subst IsGrow (sym is) tt)) was
 
 due_growing : (sizes : Sizes) (values : Values) (pass : Pass) (work : Work) (control : Control) → CallDue sizes values pass work control → (control ≡ GrowLength → ⊥)
 due_growing sizes values pass work control due is = subst (CallDue sizes values pass work) is due

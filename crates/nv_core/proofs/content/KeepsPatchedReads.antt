@@ -11,7 +11,7 @@ use Rattle.nv_pmem.specs.Laws.{LoadsAreAnImage}
 use Rattle.nv_entry.specs.Commits.{after_some, GroupsBecomeWhole}
 use Rattle.nv_core.specs.state.Words.{Sizes, Word, STOP, ORDER, HEAD, TAIL, SIZE, LENGTH, STORE, ENTRY, PAGE, CLEANUP, DIRTY, kind_of, page_of, filling, ready, held, is_entry_of, is_shut, HINT, slot_of_entry}
 use Rattle.nv_core.specs.state.Values.{Value, Bare, APart, AStore, ABuffer, PageRead, PieceRead, CallEnding, Made, Failed, Refused}
-use Rattle.nv_core.specs.state.Passes.{Control, Idle, TakePage, LoadLength, TakeSize, LoadStop, LoadOrder, VisitPage, TakeCleanup, TakeStore, ReadStore, GiveStore, ReadLoadHead, ReadLoadTail, LoadEntry, HoldEntry, ReadPiece, ReturnEntry, GiveCleanup, WriteLoadHead, WriteLoadTail, DrawNumbers, SeizeEntry, CommitGroup, PledgePage, ReadyEntry, TakePlace, GrowLength, GiveSize, GivePage, GiveBack, SetStopAfterRead, SetStopAfterPiece, SetStopAfterCommit, BreakEntry, Pass, fetched_bytes, IsHeldEntry, file_of, is_write, is_read, page_count, first_page, end_page, without, times, Searching, Cleaning, IsHeldByCleaner}
+use Rattle.nv_core.specs.state.Passes.{Control, Idle, TakePage, LoadLength, TakeSize, LoadStop, LoadOrder, VisitPage, TakeCleanup, TakeStore, ReadStore, GiveStore, ReadLoadHead, ReadLoadTail, LoadEntry, HoldEntry, ReadPiece, ReturnEntry, GiveCleanup, WriteLoadHead, WriteLoadTail, DrawNumbers, SeizeEntry, CommitGroup, PledgePage, ReadyEntry, TakePlace, GrowLength, GiveSize, GivePage, GiveBack, SetStopAfterRead, SetStopAfterPiece, SetStopAfterCommit, BreakEntry, Pass, fetched_bytes, IsHeldEntry, file_of, is_write, is_read, page_count, first_page, end_page, without, times, Searching, Cleaning, IsHeldByCleaner, plain_call}
 use Rattle.nv_core.specs.steps.Ops.{Op, Load, Take, Give, Place, Stop, Draw, Seize, Pledge, Ready, Grow, Break, Hold, Return, Split, PutBack, Join, Turn, Hint, ByCleaner, cleaner_move, moved}
 use Rattle.nv_core.specs.steps.ControlSteps.{control_after, after_load, after_give, after_stop, after_head, after_tail, after_look, after_hold, after_return, scanning, leaving, giving, ending, ordered, copying, exceeds}
 use Rattle.nv_core.specs.steps.PassSteps.{head_after, begun}
@@ -69,7 +69,7 @@ use Rattle.nv_core.proofs.steps.SearchLaws.{hinting_next}
 page_stays : (plain : PlainLaws) (sizes : Sizes) (first : Values) (opening : Files) (core : Core) (by : ℕ) (op : Op) (found : ℕ) → length opening.contents ≡ sizes.files → Sound sizes first core → FoundEnabledByKind sizes by core op found
     → (page : ℕ) → times (PAGE page) (core.passes by).owned ≡ 0 → page_now sizes opening (after_step sizes by op found core) page ≡ page_now sizes opening core page
 page_stays plain sizes first opening core by (Place reply) found count sound may page none =
-    ap (λ f. page_in sizes f page) (files_placed plain opening by core reply)
+    ap (λ f. page_in sizes f page) (files_placed plain sizes first opening by core reply sound)
     ∙ page_else plain sizes (core.passes by).call (files_now opening core) page ((sound.control_facts by).allowed (step_idle sizes core.values (core.passes by) (Place reply) may.may))
     (known_file plain sizes first opening by core (Place reply) sound count may.may)
     (λ is. let h = whole_holds sizes (core.passes by) (core.passes by).control (place_whole sizes core.values (core.passes by) reply (core.passes by).control may.may) (sound.ownership by).locks page is in omega (arith, h, none))
@@ -507,7 +507,7 @@ module _ (sizes : Sizes) (opening : Files) (log later : Log) (core now : Core) (
 pub patched_begin : (sizes : Sizes) (log : Log) (opening : Files) (core : Core) (by : ℕ) (call : FileCall) → PatchedReads sizes log opening core → PatchedReads sizes log opening (after_begin sizes by call core)
 patched_begin sizes log opening core by call was = record {
   each = by_number (λ n (p : Pass). PatchedAt sizes log opening (after_begin sizes by call core) p.fetched p.head p.control) core.passes by (begun sizes call (core.passes by))
-      (if_both (PatchedAt sizes log opening (after_begin sizes by call core) [] (core.passes by).head) (page_count sizes call == 0) LoadStop (TakePage (first_page sizes call)) (λ _. tt) (λ _. tt))
+      (if_both (PatchedAt sizes log opening (after_begin sizes by call core) [] (core.passes by).head) (page_count sizes (plain_call call) == 0) LoadStop (TakePage (first_page sizes (plain_call call))) (λ _. tt) (λ _. tt))
       (λ n ne. patched_same sizes opening log log core (after_begin sizes by call core) (λ word. refl) (λ m. refl) (λ page. refl) (core.passes n).fetched (core.passes n).head (core.passes n).control (begun_stores (core.passes n).control) (was.each n));
 }
   where

@@ -8,7 +8,7 @@ use Rattle.nv_plain.specs.declared.call.Reply.{Reply}
 use Rattle.nv_store.specs.Store.{Store}
 use Rattle.nv_core.specs.state.Words.{Sizes, Word, PAGE, CLEANUP, DIRTY, ENTRY, STORE, same, index, HEADER, slot_of_entry}
 use Rattle.nv_core.specs.state.Values.{Value, AStore, ABuffer, Job, PartStep, PageRead, PieceRead, CallEnding, Made, Failed, called, filled, is_valid, bytes_in, Refused}
-use Rattle.nv_core.specs.state.Passes.{Control, Idle, TakePage, LoadStop, LoadOrder, VisitPage, ReadStore, GiveStore, ReadPiece, GiveCleanup, CommitGroup, PledgePage, ReadyEntry, TakePlace, GrowLength, GivePage, Pass, fetched_bytes, IsAllowed, is_write, is_read, file_of, times, page_count, first_page, end_page, Searching, GiveVictim, Cleaning}
+use Rattle.nv_core.specs.state.Passes.{Control, Idle, TakePage, LoadStop, LoadOrder, VisitPage, ReadStore, GiveStore, ReadPiece, GiveCleanup, CommitGroup, PledgePage, ReadyEntry, TakePlace, GrowLength, GivePage, Pass, fetched_bytes, IsAllowed, is_write, is_read, file_of, times, page_count, first_page, end_page, Searching, GiveVictim, Cleaning, plain_call}
 use Rattle.nv_core.specs.steps.Ops.{Op, Take, Give, Place, Pledge, Split, PutBack, Join, moved, Comes, Stays, patched_by, ByCleaner}
 use Rattle.nv_core.specs.steps.ControlSteps.{after_give, exceeds, ending}
 use Rattle.nv_core.specs.steps.PassSteps.{begun}
@@ -248,13 +248,13 @@ module _ (plain : PlainLaws) (sizes : Sizes) (first : Values) (opening : Files) 
   -- the pages that it doesn't hold stay, and those that it holds get its pieces
   now_else : (page : ℕ) → times (PAGE page) (core.passes by).owned ≡ 0 → page_now sizes opening (after_step sizes by (Place reply) found core) page ≡ page_now sizes opening core page
   now_else page none =
-      ap (λ f. page_in sizes f page) (files_placed plain opening by core reply)
+      ap (λ f. page_in sizes f page) (files_placed plain sizes first opening by core reply sound)
       ∙ page_else plain sizes (core.passes by).call (files_now opening core) page allowed there
       (λ is. let h = whole_holds sizes (core.passes by) (core.passes by).control whole (sound.ownership by).locks page is in omega (arith, h, none))
 
   now_own : (page : ℕ) → times (PAGE page) (core.passes by).owned ≡ 1 → page_now sizes opening (after_step sizes by (Place reply) found core) page ≡ with_own_pieces sizes (core.passes by).call page (page_now sizes opening core page)
   now_own page has =
-      ap (λ f. page_in sizes f page) (files_placed plain opening by core reply)
+      ap (λ f. page_in sizes f page) (files_placed plain sizes first opening by core reply sound)
       ∙ page_placed plain sizes (core.passes by).call (files_now opening core) page allowed there (whole_page sizes (core.passes by) (core.passes by).control whole (sound.ownership by).locks page has)
 
   unpatched_then : (page : ℕ) (old : List ℕ) → patched_page sizes (core.passes by).call (changed_pass sizes by core (Place reply) found).control page old ≡ old
@@ -495,7 +495,7 @@ valid_begin sizes first opening by core call sound may was =
     let held : HoldsLocks sizes (core.passes by) Idle = subst (HoldsLocks sizes (core.passes by)) may.idle (sound.ownership by).locks in
     buffers_one sizes first opening core by (begun sizes call (core.passes by)) core.values (λ page. refl)
     (λ page has valid. absurd (let z = held (PAGE page) (λ slot. differ (PAGE page) (ENTRY slot) refl) in omega (arith, z, has)))
-    (if_both (GatheredAt sizes (page_now sizes opening core) core.values call []) (page_count sizes call == 0) LoadStop (TakePage (first_page sizes call)) (λ _. refl) (λ _. refl))
+    (if_both (GatheredAt sizes (page_now sizes opening core) core.values (plain_call call) []) (page_count sizes (plain_call call) == 0) LoadStop (TakePage (first_page sizes (plain_call call))) (λ _. refl) (λ _. refl))
     sound was
 
 -- the cell of a device call is no page

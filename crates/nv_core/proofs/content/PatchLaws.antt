@@ -8,9 +8,9 @@ use Rattle.std.proofs.Math.Nat.{mul-le-mul_right, div-add-mod, mul_comm}
 use Rattle.nv_plain.specs.Files.{Files, contents_of, overwritten}
 use Rattle.nv_plain.specs.Pieces.{Piece, pages_touched, piece_of, piece_bytes}
 use Rattle.nv_plain.specs.Calls.{files_after}
-use Rattle.nv_plain.specs.Histories.{Answered, after}
 use Rattle.nv_plain.specs.declared.call.FileCall.{FileCall}
 use Rattle.nv_plain.specs.declared.call.FileCall.TheVariants.{Read, Write, Sync}
+use Rattle.nv_plain.specs.Made.{after_calls, made_calls}
 use Rattle.nv_store.specs.Store.{Store}
 use Rattle.nv_core.specs.state.Words.{Sizes, HEAD, TAIL, STORE, ENTRY, PAGE, kind_of, was_readied, free, filling}
 use Rattle.nv_core.specs.state.Passes.{Control, SeizeEntry, CommitGroup, PledgePage, ReadyEntry, TakePlace, SetStopAfterCommit, BreakEntry, Pass, IsAllowed, IsFilling, IsAmong, file_of, is_write, page_count, page_number, first_page, end_page, times}
@@ -25,8 +25,7 @@ use Rattle.nv_core.specs.content.ValidBuffers.{with_own_pieces}
 use Rattle.nv_core.specs.log.Groups.{Log, group_of, HasGroup, Groups}
 use Rattle.nv_core.specs.log.Pieces.{page_of_number}
 use Rattle.nv_core.specs.log.InFlight.{IsFlying}
-use Rattle.nv_core.specs.crash.CommutingWrites.{after_calls}
-use Rattle.nv_core.specs.log.LivePieces.{rising, call_if, piece_write, piece_call, is_ready, is_cleaned, is_live, live_pieces, is_waiting, to_place, calls_of, store_bytes, store_files}
+use Rattle.nv_core.specs.log.LivePieces.{rising, call_if, piece_write, piece_call, is_ready, is_cleaned, is_live, live_pieces, is_waiting, to_place, store_bytes, store_files}
 use Rattle.nv_core.specs.log.Leaders.{Leaders}
 use Rattle.nv_core.specs.log.LogContent.{LogContent}
 use Rattle.nv_core.specs.content.PatchedPages.{patched_by_number, patched_where, IsStill, IsPatched, PagesArePatched}
@@ -161,10 +160,6 @@ piece_page plain sizes (Read file at len) files i page write allowed there low =
 piece_page plain sizes (Sync file) files i page write allowed there low = absurd (true≢false (sym write))
 
 -- ---- the history, and what is to be placed
-
-pub history_after : (history : List Answered) (files : Files) → after_calls (calls_of history) files ≡ after history files
-history_after [] files = refl
-history_after (answered ∷ later) files = history_after later (files_after answered.call files)
 
 -- calls that aren't on a page leave it
 abbrev pub IsOff : Sizes → (page : ℕ) → List FileCall → Type 0
@@ -318,20 +313,20 @@ module _ (plain : PlainLaws) (sizes : Sizes) (first : Values) (opened : Files) (
     (sound : Sound sizes first core) (content : LogContent sizes first opened tails log placed core) (still : IsStill sizes core page) where
   count : length opened.contents ≡ sizes.files
   count =
-      sym (after_length (calls_of core.history ++ to_place core) opened)
+      sym (after_length (made_calls opened core.history ++ to_place core) opened)
       ∙ ap (λ f. length f.contents) content.live.files
       ∙ after_length (live_pieces sizes log core) (store_files sizes core.values)
       ∙ stores_length sizes core.values
 
   -- no write that is to be placed is on the page
-  history_page : page_now sizes opened core page ≡ page_in sizes (after_calls (calls_of core.history ++ to_place core) opened) page
+  history_page : page_now sizes opened core page ≡ page_in sizes (after_calls (made_calls opened core.history ++ to_place core) opened) page
   history_page =
-      sym (ap (λ f. page_in sizes f page) (history_after core.history opened))
-      ∙ sym (off_page plain sizes page (to_place core) (after_calls (calls_of core.history) opened) (after_length (calls_of core.history) opened ∙ count)
+      sym (ap (λ f. page_in sizes f page) (plain.made_histories core.history opened))
+      ∙ sym (off_page plain sizes page (to_place core) (after_calls (made_calls opened core.history) opened) (after_length (made_calls opened core.history) opened ∙ count)
       (off_rising sizes page (λ by. call_if (is_waiting (core.passes by) (core.passes by).control) (core.passes by).call) 0 (core.made + 1)
       (λ by low high. off_if sizes page (is_waiting (core.passes by) (core.passes by).control) (core.passes by).call
       (λ is. let waits = waiting_flies (core.passes by) (core.passes by).control is in ((sound.control_facts by).allowed waits.1, still by waits.0)))))
-      ∙ sym (ap (λ f. page_in sizes f page) (after_both (calls_of core.history) (to_place core) opened))
+      ∙ sym (ap (λ f. page_in sizes f page) (after_both (made_calls opened core.history) (to_place core) opened))
 
   pub page_is_patched : IsPatched sizes opened log core page (page_in sizes (store_files sizes core.values) page)
   page_is_patched = record {

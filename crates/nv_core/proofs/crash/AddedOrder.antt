@@ -6,6 +6,7 @@ use Rattle.nv_plain.specs.Images.{Image, entry_of}
 use Rattle.nv_plain.specs.Calls.{files_after}
 use Rattle.nv_plain.specs.declared.call.FileCall.{FileCall}
 use Rattle.nv_plain.specs.declared.call.FileCall.TheVariants.{Read, Write, Sync}
+use Rattle.nv_plain.specs.Made.{after_calls, made_calls}
 use Rattle.nv_pmem.specs.Laws.{LoadsAreAnImage}
 use Rattle.nv_entry.specs.Commits.{GroupsAreAtomic, GroupsBecomeWhole, GroupsEndQuiet, GroupsStoreNothingElse}
 use Rattle.nv_core.specs.state.Words.{Sizes, HEAD, TAIL, slot_of_entry}
@@ -21,8 +22,8 @@ use Rattle.nv_core.specs.log.StaleWords.{StaleWords}
 use Rattle.nv_core.specs.log.InFlight.{IsFlying}
 use Rattle.nv_core.specs.log.Unready.{IsUnready}
 use Rattle.nv_core.specs.invariant.ForbiddenSteps.{IsInFlight}
-use Rattle.nv_core.specs.crash.CommutingWrites.{Commute, IsReordered, after_calls}
-use Rattle.nv_core.specs.log.LivePieces.{rising, call_if, is_ready, is_waiting, to_place, calls_of}
+use Rattle.nv_core.specs.crash.CommutingWrites.{Commute, IsReordered}
+use Rattle.nv_core.specs.log.LivePieces.{rising, call_if, is_ready, is_waiting, to_place}
 use Rattle.nv_core.specs.log.LogContent.{LogContent}
 use Rattle.nv_core.specs.crash.CrashImages.{is_in_flight, is_committed, is_added, added_unready, added_writes, HasRegion, AddedInAnyOrder}
 use Rattle.nv_core.specs.invariant.Sound.{Sound}
@@ -203,10 +204,10 @@ pub added_in_any_order : LoadsAreAnImage → GroupsAreAtomic → GroupsBecomeWho
 added_in_any_order loads atomic becomes ends only plain sizes first opened names tails log placed core image others sound content region is same =
     let some = some_entries sizes names (image 0 1 0) image (region.header image is) in
     let added_ = added_writes sizes log placed core image in
-    after_both (calls_of core.history) others opened
-    ∙ in_any_order plain added_ others (after_calls (calls_of core.history) opened)
+    after_both (made_calls opened core.history) others opened
+    ∙ in_any_order plain added_ others (after_calls (made_calls opened core.history) opened)
     (each_apart plain sizes first opened names tails log placed core sound content region
     (entry_images loads atomic becomes ends sizes first tails log core some sound content.groups content.written content.retired)
     (stale_words loads only sizes first tails.least log core some sound content.groups content.written)
     image is (which_tail sizes first names tails log core content.header region image is)) same
-    ∙ sym (after_both (calls_of core.history) added_ opened)
+    ∙ sym (after_both (made_calls opened core.history) added_ opened)

@@ -7,7 +7,8 @@ use Rattle.nv_plain.specs.declared.call.FileCall.{FileCall}
 use Rattle.nv_plain.specs.declared.call.FileCall.TheVariants.{Read, Write, Sync}
 use Rattle.nv_plain.specs.Files.{Files, overwritten}
 use Rattle.nv_plain.specs.Calls.{files_after}
-use Rattle.nv_core.specs.crash.CommutingWrites.{AreDisjoint, Commute, after_calls}
+use Rattle.nv_plain.specs.Made.{after_calls}
+use Rattle.nv_core.specs.crash.CommutingWrites.{AreDisjoint, Commute}
 use Rattle.nv_core.specs.content.PlainLaws.{PlainLaws}
 
 -- ---- two that don't meet, in either order

@@ -6,7 +6,7 @@ use Rattle.nv_plain.specs.declared.call.FileCall.{FileCall}
 use Rattle.nv_plain.specs.declared.call.FileCall.TheVariants.{Read, Write, Sync}
 use Rattle.nv_plain.specs.Files.{Files, contents_of, with_contents, overwritten}
 use Rattle.nv_plain.specs.Calls.{files_after}
-use Rattle.nv_core.specs.crash.CommutingWrites.{after_calls}
+use Rattle.nv_plain.specs.Made.{after_calls}
 use Rattle.nv_core.specs.crash.PersistentTail.{Touches}
 use Rattle.nv_core.specs.content.PlainLaws.{PlainLaws}
 use Rattle.nv_core.proofs.crash.CommutingLaws.{in_or_out}

@@ -14,6 +14,7 @@ use Rattle.nv_plain.specs.Pieces.{pages_touched, piece_of}
 use Rattle.nv_plain.specs.Recovered.{IsFollower, IsPiece, GoesOn, IsGroup, Fits, group_numbers, with_entry}
 use Rattle.nv_plain.specs.declared.call.FileCall.{FileCall}
 use Rattle.nv_plain.specs.declared.call.FileCall.TheVariants.{Read, Write, Sync}
+use Rattle.nv_plain.specs.Made.{after_calls}
 use Rattle.nv_header.specs.Heads.{first_names}
 use Rattle.nv_header.specs.Regions.{ReadsAs}
 use Rattle.nv_entry.specs.Group.{HoldsEntry, count_at}
@@ -27,7 +28,6 @@ use Rattle.nv_core.specs.log.Tails.{Tails}
 use Rattle.nv_core.specs.log.EntryImages.{IsRegionImage, ReadsWhole, ReadsOpenOrWhole, EntryImages}
 use Rattle.nv_core.specs.log.StaleWords.{LeadsGroup, StaleWords}
 use Rattle.nv_core.specs.log.LivePieces.{rising, call_if, piece_write}
-use Rattle.nv_core.specs.crash.CommutingWrites.{after_calls}
 use Rattle.nv_core.specs.log.LogContent.{LogContent}
 use Rattle.nv_core.specs.crash.CrashImages.{HasRegion, is_committed}
 use Rattle.nv_core.specs.invariant.Sound.{Sound}

@@ -8,6 +8,7 @@ use Rattle.nv_plain.specs.Files.{Files}
 use Rattle.nv_plain.specs.Images.{Image, header_of, entry_of, entry_at as image_entry}
 use Rattle.nv_plain.specs.Recovered.{committed, group_numbers, with_entry, recovered}
 use Rattle.nv_plain.specs.declared.call.FileCall.{FileCall}
+use Rattle.nv_plain.specs.Made.{after_calls, made_calls}
 use Rattle.nv_pmem.specs.Laws as lines
 use Rattle.nv_entry.specs.Commits.{GroupsAreAtomic, GroupsBecomeWhole, GroupsEndQuiet, GroupsStoreNothingElse}
 use Rattle.nv_core.specs.state.Words.{Sizes, HEAD, TAIL, ready, cleaned, slot_of_entry}
@@ -25,8 +26,7 @@ use Rattle.nv_core.specs.log.EntryImages.{IsRegionImage, EntryImages}
 use Rattle.nv_core.specs.log.StaleWords.{StaleWords}
 use Rattle.nv_core.specs.log.InFlight.{IsWaiting}
 use Rattle.nv_core.specs.log.Unready.{IsUnready}
-use Rattle.nv_core.specs.log.LivePieces.{rising, call_if, is_ready, to_place, calls_of}
-use Rattle.nv_core.specs.crash.CommutingWrites.{after_calls}
+use Rattle.nv_core.specs.log.LivePieces.{rising, call_if, is_ready, to_place}
 use Rattle.nv_core.specs.log.LogContent.{LogContent}
 use Rattle.nv_core.specs.crash.CrashImages.{AreImagesOfStores, is_in_flight, is_committed, is_added, added_unready, added_writes, IsFated, KeptInImage, Stored, Survives, HasRegion, StatesSurviveCrashes}
 use Rattle.nv_core.specs.invariant.Sound.{Sound}
@@ -162,7 +162,7 @@ module _ (plain : PlainLaws) (sizes : Sizes) (first : Values) (opened : Files) (
       (rising_none (λ n. call_if (is_added sizes log placed core image n && not (is_ready sizes core n)) (log.group n).call) (core.words TAIL) (tail - core.words TAIL) (λ n low high. added_none n (omega (arith, high, l)))) start
       ∙ rising_same (λ n. call_if (is_added sizes log placed core image n && not (is_ready sizes core n)) (log.group n).call) others tail span (λ n low high. added_if n (inside n low high) low)
 
-  files_are : (bytes : Files) → AreImagesOfStores sizes core.values bytes → (recovered image bytes).files ≡ after_calls (calls_of core.history ++ added_writes sizes log placed core image) opened
+  files_are : (bytes : Files) → AreImagesOfStores sizes core.values bytes → (recovered image bytes).files ≡ after_calls (made_calls opened core.history ++ added_writes sizes log placed core image) opened
   files_are bytes are =
       let reads = region.header image is in
       let behind = rising others tail span in
@@ -176,9 +176,9 @@ module _ (plain : PlainLaws) (sizes : Sizes) (first : Values) (opened : Files) (
       ∙ after_both (rising readies tail span) behind bytes
       ∙ ap (after_calls behind) (sym (live_are_ready sizes log core content.groups content.pieces plain page_some tail from_low tail_leads unfreed bytes are.count)
       ∙ pieces_leave plain sizes first opened names tails log placed core sound content region tail from_low to_next bytes are)
-      ∙ sym (after_both (calls_of core.history ++ to_place core) behind opened)
-      ∙ ap (λ c. after_calls c opened) (append_assoc (calls_of core.history) (to_place core) behind)
-      ∙ ap (λ c. after_calls (calls_of core.history ++ (to_place core ++ c)) opened) (sym added_same)
+      ∙ sym (after_both (made_calls opened core.history ++ to_place core) behind opened)
+      ∙ ap (λ c. after_calls c opened) (append_assoc (made_calls opened core.history) (to_place core) behind)
+      ∙ ap (λ c. after_calls (made_calls opened core.history ++ (to_place core ++ c)) opened) (sym added_same)
 
   -- ---- which numbers
 

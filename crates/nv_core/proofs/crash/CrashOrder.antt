@@ -4,6 +4,7 @@ use Rattle.std.proofs.lemmas.Bool.{cases_lt, cases_eq, eqb-true, eq-eqb, ne_eqb}
 use Rattle.std.proofs.lemmas.List.{append-nil}
 use Rattle.nv_plain.specs.Files.{Files}
 use Rattle.nv_plain.specs.declared.call.FileCall.{FileCall}
+use Rattle.nv_plain.specs.Made.{after_calls}
 use Rattle.nv_core.specs.state.Words.{Sizes, HEAD, TAIL, kind_of, cleaned, was_readied}
 use Rattle.nv_core.specs.state.Passes.{IsAmong, is_write, first_page}
 use Rattle.nv_core.specs.invariant.ControlFacts.{IsPage}
@@ -13,7 +14,7 @@ use Rattle.nv_core.specs.invariant.LogWindow.{InWindow, entry_word_at}
 use Rattle.nv_core.specs.log.Groups.{Log, Groups}
 use Rattle.nv_core.specs.log.Pieces.{page_of_number, Pieces}
 use Rattle.nv_core.specs.log.Unready.{IsUnready, Unready}
-use Rattle.nv_core.specs.crash.CommutingWrites.{Commute, after_calls}
+use Rattle.nv_core.specs.crash.CommutingWrites.{Commute}
 use Rattle.nv_core.specs.log.LivePieces.{rising, call_if, piece_write, piece_call, is_ready, is_cleaned, is_live}
 use Rattle.nv_core.specs.content.PlainLaws.{PlainLaws}
 use Rattle.nv_core.proofs.crash.CommutingLaws.{IsApartFrom, after_both}

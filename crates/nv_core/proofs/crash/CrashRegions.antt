@@ -14,7 +14,7 @@ use Rattle.nv_header.specs.Regions.{ReadsAs}
 use Rattle.nv_core.specs.state.Words.{Sizes, HEAD, TAIL, HEADER, ENTRY}
 use Rattle.nv_core.specs.state.Values.{Value, Bare, APart, AStore, ABuffer, Job, PartStep, CallEnding, Made, Failed, called, has_come, part_after}
 use Rattle.nv_core.specs.state.Cleaner.{Batch, MoveHeaderTail, AdvanceTail, MoveTail}
-use Rattle.nv_core.specs.state.Passes.{Control, TakePage, LoadStop, Cleaning, Pass, page_count, first_page}
+use Rattle.nv_core.specs.state.Passes.{Control, TakePage, LoadStop, Cleaning, Pass, page_count, first_page, plain_call}
 use Rattle.nv_core.specs.steps.Ops.{Op, ByCleaner}
 use Rattle.nv_core.specs.steps.PassSteps.{begun}
 use Rattle.nv_core.specs.steps.Order.{Values}
@@ -170,7 +170,7 @@ IsNoBatch (Cleaning batch inner) = ⊥
 IsNoBatch control = Unit {0}
 
 pub begun_none : (sizes : Sizes) (call : FileCall) (pass : Pass) → IsNoBatch (begun sizes call pass).control
-begun_none sizes call pass = if_both IsNoBatch (page_count sizes call == 0) LoadStop (TakePage (first_page sizes call)) (λ _. tt) (λ _. tt)
+begun_none sizes call pass = if_both IsNoBatch (page_count sizes (plain_call call) == 0) LoadStop (TakePage (first_page sizes (plain_call call))) (λ _. tt) (λ _. tt)
 
 module _ (laws : LogLaws) (sizes : Sizes) (first : Values) (opened : Files) (names : List (List ℕ)) (tails : Tails) (log : Log) (placed : ℕ → Bool) (core : Core)
     (sound : Sound sizes first core) (content : LogContent sizes first opened tails log placed core) (region : HasRegion sizes names tails log core) where

@@ -5,6 +5,7 @@ use Rattle.std.proofs.lemmas.List.{get_or_past}
 use Rattle.std.proofs.lemmas.List.FromFn.{length-map-range_with_len}
 use Rattle.nv_plain.specs.Files.{Files, contents_of}
 use Rattle.nv_plain.specs.declared.call.FileCall.{FileCall}
+use Rattle.nv_plain.specs.Made.{after_calls, made_calls}
 use Rattle.nv_store.specs.Store.{is_unsynced}
 use Rattle.nv_store.specs.Images.{IsStoreImage}
 use Rattle.nv_core.specs.state.Words.{Sizes, HEAD, TAIL, STORE, kind_of, cleaned, was_readied}
@@ -14,8 +15,7 @@ use Rattle.nv_core.specs.content.StorePages.{store_of_value}
 use Rattle.nv_core.specs.invariant.LogWindow.{InWindow, entry_word_at}
 use Rattle.nv_core.specs.log.Groups.{Log}
 use Rattle.nv_core.specs.log.Tails.{Tails}
-use Rattle.nv_core.specs.crash.CommutingWrites.{after_calls}
-use Rattle.nv_core.specs.log.LivePieces.{rising, call_if, piece_call, is_ready, is_cleaned, is_live, uncleaned_pieces, to_place, calls_of, store_bytes, store_files}
+use Rattle.nv_core.specs.log.LivePieces.{rising, call_if, piece_call, is_ready, is_cleaned, is_live, uncleaned_pieces, to_place, store_bytes, store_files}
 use Rattle.nv_core.specs.crash.PersistentTail.{IsInAPiece, LiesInPieces}
 use Rattle.nv_core.specs.log.LogContent.{LogContent}
 use Rattle.nv_core.specs.crash.CrashImages.{AreImagesOfStores, HasRegion}
@@ -154,7 +154,7 @@ module _ (plain : PlainLaws) (sizes : Sizes) (first : Values) (opened : Files) (
   -- ---- both
 
   -- Over an image of the stores the live pieces from its tail on leave the files after the history and the writes that are to be placed.
-  pub pieces_leave : (bytes : Files) → AreImagesOfStores sizes core.values bytes → after_calls (pieces_from tail) bytes ≡ after_calls (calls_of core.history ++ to_place core) opened
+  pub pieces_leave : (bytes : Files) → AreImagesOfStores sizes core.values bytes → after_calls (pieces_from tail) bytes ≡ after_calls (made_calls opened core.history ++ to_place core) opened
   pieces_leave bytes are =
       let e : core.words TAIL + (tail - core.words TAIL) ≡ tail = omega (arith, low_tail) in
       images_alike bytes are

@@ -7,6 +7,7 @@ use Rattle.std.proofs.lemmas.Nat.{mod_below}
 use Rattle.std.proofs.lemmas.List.{ext_get_or}
 use Rattle.nv_plain.specs.Images.{Entry, entry_at as image_entry}
 use Rattle.nv_plain.specs.Recovered.{committed}
+use Rattle.nv_plain.specs.Made.{after_calls}
 use Rattle.nv_pmem.specs.Images.{IsQuietPart}
 use Rattle.nv_header.specs.Laws.{after_some_tail}
 use Rattle.nv_store.specs.Store.{Store, IsQuietStore, is_unsynced}
@@ -18,7 +19,6 @@ use Rattle.nv_core.specs.state.Core.{Core}
 use Rattle.nv_core.specs.invariant.LogWindow.{InWindow}
 use Rattle.nv_core.specs.log.Groups.{Log}
 use Rattle.nv_core.specs.invariant.Rooms.{IsMoving}
-use Rattle.nv_core.specs.crash.CommutingWrites.{after_calls}
 use Rattle.nv_core.specs.log.LivePieces.{rising, call_if, piece_call, is_live, live_pieces, store_files}
 use Rattle.nv_core.specs.crash.PersistentTail.{LiesInPieces}
 use Rattle.nv_core.specs.log.Written.{IsBlankEntry}

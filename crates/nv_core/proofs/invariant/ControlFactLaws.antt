@@ -4,7 +4,7 @@ use Rattle.std.proofs.lemmas.Bool.{true≢false, and_parts, not-true, eqb-false,
 use Rattle.nv_plain.specs.Histories.{Answered}
 use Rattle.nv_plain.specs.declared.call.FileCall.{FileCall}
 use Rattle.nv_core.specs.state.Words.{Sizes, Word, STOP, ORDER, HEAD, TAIL, SIZE, LENGTH, STORE, ENTRY, HINT, PAGE, DIRTY, CLEANUP, ready, is_entry_of, slot_of_entry}
-use Rattle.nv_core.specs.state.Passes.{Control, Idle, TakePage, LoadLength, TakeSize, LoadStop, LoadOrder, VisitPage, TakeStore, ReadStore, GiveStore, TakeCleanup, Search, LoadHint, TakeVictim, GiveVictim, VictimGiven, NotFound, Searching, WriteLoadHead, WriteLoadTail, DrawNumbers, SeizeEntry, CommitGroup, PledgePage, ReadyEntry, TakePlace, GrowLength, GiveSize, GivePage, GiveBack, SetStopAfterRead, SetStopAfterCommit, BreakEntry, Pass, is_read, is_write, page_count, first_page, end_page, without, IsAmong, IsAllowed, ReadLoadHead, LoadEntry, HoldEntry, ReadPiece, GiveCleanup, SetStopAfterPiece, Cleaning}
+use Rattle.nv_core.specs.state.Passes.{Control, Idle, TakePage, LoadLength, TakeSize, LoadStop, LoadOrder, VisitPage, TakeStore, ReadStore, GiveStore, TakeCleanup, Search, LoadHint, TakeVictim, GiveVictim, VictimGiven, NotFound, Searching, WriteLoadHead, WriteLoadTail, DrawNumbers, SeizeEntry, CommitGroup, PledgePage, ReadyEntry, TakePlace, GrowLength, GiveSize, GivePage, GiveBack, SetStopAfterRead, SetStopAfterCommit, BreakEntry, Pass, is_read, is_write, page_count, first_page, end_page, without, IsAmong, IsAllowed, ReadLoadHead, LoadEntry, HoldEntry, ReadPiece, GiveCleanup, SetStopAfterPiece, Cleaning, plain_call}
 use Rattle.nv_core.specs.state.Cleaner.{Batch, CleanerControl, TakeHeader, CleanerOp, TakeCleaner}
 use Rattle.nv_core.specs.steps.CleanerSteps.{after_cleaner_op, after_cleaner_work, new_batch}
 use Rattle.nv_core.specs.log.Progress.{HasLoadedTail}
@@ -276,10 +276,10 @@ control_facts_steps sizes values pass op found number history stands tail_loaded
 
 -- ---- a call that begins
 
-pub control_facts_begins : (sizes : Sizes) (call : FileCall) (pass : Pass) → IsAllowed sizes call → ControlFacts sizes (begun sizes call pass)
+pub control_facts_begins : (sizes : Sizes) (call : FileCall) (pass : Pass) → IsAllowed sizes (plain_call call) → ControlFacts sizes (begun sizes call pass)
 control_facts_begins sizes call pass allowed = record {
-  at = if_both (FactsAt sizes (begun sizes call pass)) (page_count sizes call == 0) LoadStop (TakePage (first_page sizes call)) (λ e. tt)
-      (λ e. let ne = eqb-false (page_count sizes call) 0 e in let within : IsPage sizes call (first_page sizes call) = (omega arith, omega arith) in (within, refl));
+  at = if_both (FactsAt sizes (begun sizes call pass)) (page_count sizes (plain_call call) == 0) LoadStop (TakePage (first_page sizes (plain_call call))) (λ e. tt)
+      (λ e. let ne = eqb-false (page_count sizes (plain_call call)) 0 e in let within : IsPage sizes (plain_call call) (first_page sizes (plain_call call)) = (omega arith, omega arith) in (within, refl));
   allowed = λ _. allowed;
 }
 

@@ -7,10 +7,10 @@ use Rattle.nv_plain.specs.declared.call.FileCall.TheVariants.{Read, Write, Sync}
 use Rattle.nv_plain.specs.declared.call.Reply.{Reply}
 use Rattle.nv_core.specs.state.Words.{Sizes, Word, ENTRY, slot_of_entry}
 use Rattle.nv_core.specs.state.Values.{CallEnding, Made, Failed, Refused}
-use Rattle.nv_core.specs.state.Passes.{Control, Idle, TakePage, LoadStop, VisitPage, ReadStore, ReadPiece, DrawNumbers, SeizeEntry, CommitGroup, PledgePage, ReadyEntry, TakePlace, GrowLength, SetStopAfterRead, SetStopAfterPiece, SetStopAfterCommit, BreakEntry, Cleaning, Pass, is_write, is_read, page_count, first_page, end_page, without}
+use Rattle.nv_core.specs.state.Passes.{Control, Idle, TakePage, LoadStop, VisitPage, ReadStore, ReadPiece, DrawNumbers, SeizeEntry, CommitGroup, PledgePage, ReadyEntry, TakePlace, GrowLength, SetStopAfterRead, SetStopAfterPiece, SetStopAfterCommit, BreakEntry, Cleaning, Pass, is_write, is_read, page_count, first_page, end_page, without, plain_call}
 use Rattle.nv_core.specs.steps.Ops.{Op, Load, Take, Give, Place, Stop, Draw, Seize, Pledge, Ready, Grow, Break, Turn, Hint, Hold, Return, ByCleaner}
 use Rattle.nv_core.specs.steps.ControlSteps.{control_after, after_stop, leaving, ending, exceeds}
-use Rattle.nv_core.specs.steps.PassSteps.{stepped, begun}
+use Rattle.nv_core.specs.steps.PassSteps.{stepped, begun, as_answered}
 use Rattle.nv_core.specs.steps.Order.{Values, Work, CallEnabled, CallDue, IsFailing, commit_steps}
 use Rattle.nv_core.specs.steps.StepKinds.{MayPlace, EnabledByKind}
 use Rattle.nv_core.specs.state.Core.{worked, control_worked}
@@ -43,7 +43,7 @@ reads_none sizes (Read file at len) is = refl
 reads_none sizes (Write file at bytes) is = absurd (true≢false (sym is))
 reads_none sizes (Sync file) is = refl
 
-placed_more : (sizes : Sizes) (calls : List Answered) (one : Answered) → placed_entries sizes (calls ++ one ∷ []) ≡ placed_entries sizes calls + entries_of sizes one.call
+placed_more : (sizes : Sizes) (calls : List Answered) (one : Answered) → placed_entries sizes (calls ++ one ∷ []) ≡ placed_entries sizes calls + entries_of sizes (plain_call one.call)
 placed_more sizes [] one = omega arith
 placed_more sizes (first ∷ rest) one = let again = placed_more sizes rest one in omega (arith, again)
 
@@ -149,16 +149,17 @@ module _ (sizes : Sizes) (values : Values) (pass : Pass) (found : ℕ) where
   open_kept op no_place no_draw ne may = absurd may
 
 -- a step but a draw leaves what its pass has drawn
-pub undrawn : (sizes : Sizes) (values : Values) (pass : Pass) (found number : ℕ) (history : List Answered) (op : Op) → is_draw op ≡ false → ControlFacts sizes pass → EnabledByKind sizes values pass op
+pub undrawn : (sizes : Sizes) (values : Values) (pass : Pass) (found number : ℕ) (history : List Answered) (op : Op) → is_draw op ≡ false → ControlFacts sizes pass → pass.call ≡ plain_call pass.asked → EnabledByKind sizes values pass op
     → drawn_of sizes (stepped sizes number history op found pass) ≡ drawn_of sizes pass
-undrawn sizes values pass found number history (Place reply) no_draw facts may =
+undrawn sizes values pass found number history (Place reply) no_draw facts made may =
     let before = placing_open sizes values pass found reply pass.control may facts.at in
     let after = placed_open sizes values pass found reply may in
-    let more = placed_more sizes pass.mine record { caller = number; call = pass.call; reply = reply } in
-    omega (arith, before, after, more)
-undrawn sizes values pass found number history Stop no_draw facts may = let moved = faulting sizes values pass found pass.control may facts.at in omega (arith, moved)
-undrawn sizes values pass found number history Draw no_draw facts may = absurd (not_both refl no_draw)
-undrawn sizes values pass found number history op no_draw facts may = let same = open_kept sizes values pass found op refl refl (λ e. cc) may in omega (arith, same)
+    let more = placed_more sizes pass.mine (as_answered number pass reply) in
+    let same = ap (entries_of sizes) made in
+    omega (arith, before, after, more, same)
+undrawn sizes values pass found number history Stop no_draw facts made may = let moved = faulting sizes values pass found pass.control may facts.at in omega (arith, moved)
+undrawn sizes values pass found number history Draw no_draw facts made may = absurd (not_both refl no_draw)
+undrawn sizes values pass found number history op no_draw facts made may = let same = open_kept sizes values pass found op refl refl (λ e. cc) may in omega (arith, same)
 
 -- and a draw adds the entries of its write, where it is won
 pub drew : (sizes : Sizes) (pass : Pass) (found number : ℕ) (history : List Answered) → ControlFacts sizes pass → pass.control ≡ DrawNumbers
@@ -180,7 +181,7 @@ drew sizes pass found number history facts at =
 pub begun_undrawn : (sizes : Sizes) (call : FileCall) (pass : Pass) → pass.control ≡ Idle → drawn_of sizes (begun sizes call pass) ≡ drawn_of sizes pass
 begun_undrawn sizes call pass idle =
     let before : open_entries sizes pass.call pass.control ≡ 0 = ap (open_entries sizes pass.call) idle in
-    let after = if_both (λ s. open_entries sizes call s ≡ 0) (page_count sizes call == 0) LoadStop (TakePage (first_page sizes call)) (λ _. refl) (λ _. refl) in
+    let after = if_both (λ s. open_entries sizes (plain_call call) s ≡ 0) (page_count sizes (plain_call call) == 0) LoadStop (TakePage (first_page sizes (plain_call call))) (λ _. refl) (λ _. refl) in
     omega (arith, before, after)
 
 pub worked_undrawn : (sizes : Sizes) (values : Values) (pass : Pass) (work : Work) → CallEnabled sizes values pass work → drawn_of sizes (worked sizes work pass) ≡ drawn_of sizes pass

@@ -5,7 +5,7 @@ use Rattle.nv_plain.specs.declared.call.FileCall.{FileCall}
 use Rattle.nv_plain.specs.declared.call.Reply.{Reply}
 use Rattle.nv_core.specs.state.Words.{Sizes, Word, STOP, ORDER, HEAD, TAIL, SIZE, LENGTH, STORE, ENTRY, PAGE, DIRTY, same, HINT, CLEANUP, slot_of_entry}
 use Rattle.nv_core.specs.state.Cleaner.{CleanerOp}
-use Rattle.nv_core.specs.state.Passes.{Control, TakePage, LoadLength, TakeSize, LoadStop, LoadOrder, VisitPage, TakeStore, ReadStore, GiveStore, WriteLoadHead, WriteLoadTail, DrawNumbers, SeizeEntry, CommitGroup, PledgePage, ReadyEntry, TakePlace, GrowLength, GiveSize, GivePage, GiveBack, SetStopAfterRead, SetStopAfterCommit, BreakEntry, Fault, Pass, IsOneOf, page_count, first_page, end_page, without, times, Searching, LoadHint, TakeVictim, GiveVictim, VictimGiven, NotFound, HintSet, Search, TakeCleanup, ReadLoadHead, ReadLoadTail, LoadEntry, HoldEntry, ReadPiece, ReturnEntry, GiveCleanup, SetStopAfterPiece, Cleaning}
+use Rattle.nv_core.specs.state.Passes.{Control, TakePage, LoadLength, TakeSize, LoadStop, LoadOrder, VisitPage, TakeStore, ReadStore, GiveStore, WriteLoadHead, WriteLoadTail, DrawNumbers, SeizeEntry, CommitGroup, PledgePage, ReadyEntry, TakePlace, GrowLength, GiveSize, GivePage, GiveBack, SetStopAfterRead, SetStopAfterCommit, BreakEntry, Fault, Pass, IsOneOf, page_count, first_page, end_page, without, times, Searching, LoadHint, TakeVictim, GiveVictim, VictimGiven, NotFound, HintSet, Search, TakeCleanup, ReadLoadHead, ReadLoadTail, LoadEntry, HoldEntry, ReadPiece, ReturnEntry, GiveCleanup, SetStopAfterPiece, Cleaning, plain_call}
 use Rattle.nv_core.specs.steps.Ops.{Op, moved, move_of, Comes, Stays, Load, Take, Give, Place, Stop, Draw, Seize, Pledge, Ready, Grow, Break, Split, PutBack, Join, Turn, Hint, Hold, Return, ByCleaner, cleaner_move}
 use Rattle.nv_core.specs.steps.ControlSteps.{IsInPhases, control_after, after_load, after_give, after_stop, leaving, exceeds, after_return}
 use Rattle.nv_core.specs.steps.PassSteps.{fault_of, begun}
@@ -378,7 +378,7 @@ module _ (Bars : Fault → Word → Type 0) (early : (fault : Fault) (cell : Wor
           (λ checked. let same = ap (times cell) (stays checked).1 in let old = was n by cell fault is at (stays checked).0 in let none = (stays checked).2 cell in omega (arith, same, old, none)) (λ m ne. was n m cell fault is at) m
 
   pub off_limits_begin : (sizes : Sizes) (by : ℕ) (core : Core) (call : FileCall) → AreOffLimits core → AreOffLimits (after_begin sizes by call core)
-  off_limits_begin sizes by core call = off_limits_one core by (begun sizes call (core.passes by)) core.values refl (λ checked. absurd (first_unchecked sizes call checked))
+  off_limits_begin sizes by core call = off_limits_one core by (begun sizes call (core.passes by)) core.values refl (λ checked. absurd (first_unchecked sizes (plain_call call) checked))
 
   pub off_limits_work : (sizes : Sizes) (by : ℕ) (core : Core) (work : Work) → CallEnabled sizes core.values (core.passes by) work → AreOffLimits core → AreOffLimits (after_work sizes by work core)
   off_limits_work sizes by core work may = off_limits_one core by (worked sizes work (core.passes by)) (values_worked (core.passes by) work core.values) refl (λ checked. (worked_checked sizes core.values (core.passes by) work may.due checked, refl, worked_lent sizes core.values (core.passes by) work (core.passes by).control may.due))

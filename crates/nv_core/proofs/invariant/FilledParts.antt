@@ -12,7 +12,7 @@ use Rattle.nv_core.specs.state.Cleaner as cleaner
 use Rattle.nv_core.specs.steps.CleanerSteps.{group_file}
 use Rattle.nv_core.specs.state.Spares.{Spares}
 use Rattle.nv_core.specs.state.Values.{Value, PartStep, CallEnding, Made, Failed, Refused, called, PieceRead}
-use Rattle.nv_core.specs.state.Passes.{Control, TakePage, LoadStop, ReadStore, SeizeEntry, CommitGroup, PledgePage, ReadyEntry, TakePlace, SetStopAfterRead, SetStopAfterPiece, SetStopAfterCommit, BreakEntry, Pass, IsFilling, IsAmong, file_of, page_count, first_page, end_page, without, times, ReadPiece, Cleaning}
+use Rattle.nv_core.specs.state.Passes.{Control, TakePage, LoadStop, ReadStore, SeizeEntry, CommitGroup, PledgePage, ReadyEntry, TakePlace, SetStopAfterRead, SetStopAfterPiece, SetStopAfterCommit, BreakEntry, Pass, IsFilling, IsAmong, file_of, page_count, first_page, end_page, without, times, ReadPiece, Cleaning, plain_call}
 use Rattle.nv_core.specs.steps.Ops.{Op, Stop, Draw, Seize, Pledge, Ready, Break, Split, PutBack, Join}
 use Rattle.nv_core.specs.steps.ControlSteps.{after_stop, leaving}
 use Rattle.nv_core.specs.steps.PassSteps.{begun}
@@ -80,7 +80,7 @@ module _ (Says : Saying) (sizes : Sizes) (core : Core) (said : AreSaid Says size
 
   pub said_begin : (call : FileCall) → AreSaid Says sizes (after_begin sizes by call core)
   said_begin call n number = by_number (λ n (p : Pass). Fills p number → Says p p.control number (core.values (ENTRY (slot_of_entry sizes number)))) core.passes by (begun sizes call (core.passes by))
-      (if_both (λ s. IsFilling s 0 0 number → Says (begun sizes call (core.passes by)) s number (core.values (ENTRY (slot_of_entry sizes number)))) (page_count sizes call == 0) LoadStop (TakePage (first_page sizes call)) (λ _ is. absurd is) (λ _ is. absurd is))
+      (if_both (λ s. IsFilling s 0 0 number → Says (begun sizes call (core.passes by)) s number (core.values (ENTRY (slot_of_entry sizes number)))) (page_count sizes (plain_call call) == 0) LoadStop (TakePage (first_page sizes (plain_call call))) (λ _ is. absurd is) (λ _ is. absurd is))
       (λ n ne. said n number) n
 
 -- ---- steps

@@ -17,7 +17,7 @@ use Rattle.nv_core.specs.state.Cleaner as cleaner
 use Rattle.nv_core.specs.steps.CleanerSteps.{next_cleaner_op, after_cleaner_op, after_cleaner_work, withdrawing, discharging, rising_files, cleaner_word, new_batch, group_file}
 use Rattle.nv_core.specs.state.Spares.{Spares, room_of_spares}
 use Rattle.nv_core.specs.state.Values.{Value, Bare, APart, AStore, ABuffer, PartStep, CallEnding, Made, Failed, Refused, called}
-use Rattle.nv_core.specs.state.Passes.{Control, Idle, TakePage, LoadStop, CommitGroup, ReadStore, ReadPiece, PledgePage, Cleaning, Pass, page_count, first_page, file_of}
+use Rattle.nv_core.specs.state.Passes.{Control, Idle, TakePage, LoadStop, CommitGroup, ReadStore, ReadPiece, PledgePage, Cleaning, Pass, page_count, first_page, file_of, plain_call}
 use Rattle.nv_core.specs.steps.Ops.{Op, Stop, ByCleaner, Split, PutBack, Join, cleaner_move, moved}
 use Rattle.nv_core.specs.steps.ControlSteps.{control_after, after_by_cleaner}
 use Rattle.nv_core.specs.steps.PassSteps.{begun}
@@ -207,7 +207,7 @@ header_room_begin sizes by core call rooms may zero_ none = rooms.header zero_ (
 
 pub moving_room_begin : (sizes : Sizes) (by : ℕ) (core : Core) (call : FileCall) → Rooms sizes core → (n : ℕ) → MovesRoomy ((after_begin sizes by call core).passes n).control (core.values HEADER)
 moving_room_begin sizes by core call rooms = by_number (λ n (p : Pass). MovesRoomy p.control (core.values HEADER)) core.passes by (begun sizes call (core.passes by))
-    (if_both (λ s. MovesRoomy s (core.values HEADER)) (page_count sizes call == 0) LoadStop (TakePage (first_page sizes call)) (λ _. tt) (λ _. tt)) (λ n ne. rooms.moving n)
+    (if_both (λ s. MovesRoomy s (core.values HEADER)) (page_count sizes (plain_call call) == 0) LoadStop (TakePage (first_page sizes (plain_call call))) (λ _. tt) (λ _. tt)) (λ n ne. rooms.moving n)
 
 -- ---- a device call
 

@@ -7,7 +7,7 @@ use Rattle.nv_core.specs.state.Words.{Sizes, Word, HEAD, TAIL, ENTRY, PAGE, kind
 use Rattle.nv_core.specs.state.Values.{CallEnding, Made, Failed, Refused}
 use Rattle.nv_core.specs.state.Cleaner.{Clean, Free}
 use Rattle.nv_core.specs.state.Cleaner as cleaner
-use Rattle.nv_core.specs.state.Passes.{Control, TakePage, LoadStop, ReadLoadTail, LoadEntry, HoldEntry, ReadPiece, ReturnEntry, GiveCleanup, SetStopAfterPiece, SetStopAfterRead, SetStopAfterCommit, ReadStore, CommitGroup, Cleaning, WriteLoadHead, WriteLoadTail, DrawNumbers, Pass, IsAmong, page_count, first_page, without, times}
+use Rattle.nv_core.specs.state.Passes.{Control, TakePage, LoadStop, ReadLoadTail, LoadEntry, HoldEntry, ReadPiece, ReturnEntry, GiveCleanup, SetStopAfterPiece, SetStopAfterRead, SetStopAfterCommit, ReadStore, CommitGroup, Cleaning, WriteLoadHead, WriteLoadTail, DrawNumbers, Pass, IsAmong, page_count, first_page, without, times, plain_call}
 use Rattle.nv_core.specs.steps.Ops.{Op, Load, Take, Stop, Draw, Seize, Ready, Break, Hold, Return, ByCleaner, Split, PutBack, Join, page_at, ready_word}
 use Rattle.nv_core.specs.steps.ControlSteps.{control_after, scanning, after_head, after_tail, after_look, after_load, after_stop, after_hold, after_return, leaving}
 use Rattle.nv_core.specs.steps.PassSteps.{begun}
@@ -272,7 +272,7 @@ bounds_step sizes first by core op found sound may = by_number (λ n (p : Pass).
 pub bounds_begin : (sizes : Sizes) (first : Values) (by : ℕ) (core : Core) (call : FileCall) → Sound sizes first core
     → (n : ℕ) → Bounds sizes (after_begin sizes by call core) ((after_begin sizes by call core).passes n) ((after_begin sizes by call core).passes n).control
 bounds_begin sizes first by core call sound = by_number (λ n (p : Pass). Bounds sizes (after_begin sizes by call core) p p.control) core.passes by (begun sizes call (core.passes by))
-    (if_both (Bounds sizes (after_begin sizes by call core) (begun sizes call (core.passes by))) (page_count sizes call == 0) LoadStop (TakePage (first_page sizes call)) (λ _. tt) (λ _. tt))
+    (if_both (Bounds sizes (after_begin sizes by call core) (begun sizes call (core.passes by))) (page_count sizes (plain_call call) == 0) LoadStop (TakePage (first_page sizes (plain_call call))) (λ _. tt) (λ _. tt))
     (λ n ne. bounds_kept sizes core (after_begin sizes by call core) (core.passes n) (core.passes n).control (omega arith) (λ page is none. none) (sound.loaded.bounds n))
 
 pub bounds_work : (sizes : Sizes) (first : Values) (by : ℕ) (core : Core) (work : Work) → Sound sizes first core → CallEnabled sizes core.values (core.passes by) work

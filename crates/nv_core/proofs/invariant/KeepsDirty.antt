@@ -3,7 +3,7 @@ use Rattle.std.proofs.Common.{◌≡◌, ◌≢◌, ◌⊎◌, ◌↔◌, ℕ, �
 use Rattle.std.proofs.lemmas.Bool.{eqb-true, eqb-false, eq-eqb, ne_eqb, le-leb, lt-ltb, leb-true, ltb-true, and_parts, and_from, and_left, or_cases, cases_eq, cases_lt, cases_Bool}
 use Rattle.nv_plain.specs.declared.call.FileCall.{FileCall}
 use Rattle.nv_core.specs.state.Words.{Sizes, Word, PAGE, ENTRY, DIRTY, index, kind_of, page_of, ready, held, filling, broken, entry_word, is_entry_of, slot_of_entry}
-use Rattle.nv_core.specs.state.Passes.{Control, TakePage, LoadStop, ReadStore, SeizeEntry, CommitGroup, PledgePage, ReadyEntry, TakePlace, SetStopAfterRead, SetStopAfterCommit, BreakEntry, Pass, without, IsUnseized, IsFilling, IsAmong, IsAllowed, page_count, first_page, end_page, times, ReadPiece, SetStopAfterPiece, Cleaning, Idle}
+use Rattle.nv_core.specs.state.Passes.{Control, TakePage, LoadStop, ReadStore, SeizeEntry, CommitGroup, PledgePage, ReadyEntry, TakePlace, SetStopAfterRead, SetStopAfterCommit, BreakEntry, Pass, without, IsUnseized, IsFilling, IsAmong, IsAllowed, page_count, first_page, end_page, times, ReadPiece, SetStopAfterPiece, Cleaning, Idle, plain_call}
 use Rattle.nv_core.specs.steps.Ops.{Op, page_at, ready_word, Load, Take, Give, Place, Stop, Draw, Seize, Pledge, Ready, Grow, Break, Split, PutBack, Join, Turn, Hint, Hold, Return, ByCleaner, cleaner_move, moved}
 use Rattle.nv_core.specs.state.Values.{CallEnding, Made, Failed, Refused}
 use Rattle.nv_core.specs.steps.ControlSteps.{control_after, after_by_cleaner, leaving, after_stop}
@@ -692,9 +692,9 @@ pub dirty_begin : (sizes : Sizes) (first : Values) (by : ℕ) (core : Core) (cal
 dirty_begin sizes first by core call dirty may = dirty_still sizes core (after_begin sizes by call core) dirty (λ word. refl)
     (by_number (λ n (p : Pass). p.owned ≡ (core.passes n).owned) core.passes by (begun sizes call (core.passes by)) refl (λ n ne. refl))
     (λ n page. by_number (λ n (p : Pass). pledged sizes p p.control page ≡ pledged sizes (core.passes n) (core.passes n).control page) core.passes by (begun sizes call (core.passes by))
-    (if_both (λ s. pledged sizes (begun sizes call (core.passes by)) s page ≡ pledged sizes (core.passes by) (core.passes by).control page) (page_count sizes call == 0) LoadStop (TakePage (first_page sizes call)) (λ _. idle page) (λ _. idle page)) (λ n ne. refl) n)
+    (if_both (λ s. pledged sizes (begun sizes call (core.passes by)) s page ≡ pledged sizes (core.passes by) (core.passes by).control page) (page_count sizes (plain_call call) == 0) LoadStop (TakePage (first_page sizes (plain_call call))) (λ _. idle page) (λ _. idle page)) (λ n ne. refl) n)
     (λ page. owed_same core (after_begin sizes by call core) page refl (by_number (λ n (p : Pass). owed p.control page ≡ owed (core.passes n).control page) core.passes by (begun sizes call (core.passes by))
-    (if_both (λ s. owed s page ≡ owed (core.passes by).control page) (page_count sizes call == 0) LoadStop (TakePage (first_page sizes call)) (λ _. none_owed page) (λ _. none_owed page)) (λ n ne. refl)))
+    (if_both (λ s. owed s page ≡ owed (core.passes by).control page) (page_count sizes (plain_call call) == 0) LoadStop (TakePage (first_page sizes (plain_call call))) (λ _. none_owed page) (λ _. none_owed page)) (λ n ne. refl)))
   where
     none_owed : (page : ℕ) → 0 ≡ owed (core.passes by).control page
     none_owed page = sym (ap (λ s. owed s page) may.idle)

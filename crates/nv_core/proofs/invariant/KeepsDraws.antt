@@ -71,7 +71,7 @@ gains sizes first by core Draw found sound may = record {
 gains sizes first by core op found sound may = record {
   many = 0;
   head = let same = untouched sizes by core op found may HEAD refl in omega (arith, same);
-  now = let same = undrawn sizes core.values (core.passes by) found by core.history op refl (sound.control_facts by) may.may in omega (arith, same);
+  now = let same = undrawn sizes core.values (core.passes by) found by core.history op refl (sound.control_facts by) (sound.made.each by) may.may in omega (arith, same);
 }
 
 -- a pass changes

@@ -3,7 +3,7 @@ use Rattle.std.proofs.Common.{◌≡◌, ◌≢◌, ℕ, ◌≤◌, ◌==◌, Bo
 use Rattle.std.proofs.lemmas.Bool.{true≢false}
 use Rattle.nv_plain.specs.declared.call.FileCall.{FileCall}
 use Rattle.nv_core.specs.state.Words.{Sizes, Word, STOP, STORE, ENTRY, PAGE, CLEANUP, index}
-use Rattle.nv_core.specs.state.Passes.{Control, SetStopAfterRead, SetStopAfterCommit, Fault, Pass, IsOneOf, times, SetStopAfterPiece}
+use Rattle.nv_core.specs.state.Passes.{Control, SetStopAfterRead, SetStopAfterCommit, Fault, Pass, IsOneOf, times, SetStopAfterPiece, plain_call}
 use Rattle.nv_core.specs.steps.Ops.{Op, Load, Stop, Split, PutBack, Join, ByCleaner}
 use Rattle.nv_core.specs.state.Cleaner as cleaner
 use Rattle.nv_core.specs.steps.PassSteps.{stopped_after, begun}
@@ -119,7 +119,7 @@ pub broken_begin : (sizes : Sizes) (first : Values) (by : ℕ) (core : Core) (ca
 broken_begin sizes first by core call sound broken may = record {
   stopped = by_number (λ n (p : Pass). p.faulted ≢ [] → p.stopped ≡ true) core.passes by (begun sizes call (core.passes by)) (broken.stopped by) (λ n ne. broken.stopped n);
   once = by_number (λ n (p : Pass). length p.faulted ≤ 1) core.passes by (begun sizes call (core.passes by)) (broken.once by) (λ n ne. broken.once n);
-  passed = by_number (λ n (p : Pass). HasChecked p.control → p.faulted ≡ []) core.passes by (begun sizes call (core.passes by)) (λ is. absurd (first_unchecked sizes call is)) (λ n ne. broken.passed n);
+  passed = by_number (λ n (p : Pass). HasChecked p.control → p.faulted ≡ []) core.passes by (begun sizes call (core.passes by)) (λ is. absurd (first_unchecked sizes (plain_call call) is)) (λ n ne. broken.passed n);
   pages = λ n m page fault is at. off_limits_begin (Bars sizes) (early sizes) sizes by core call (were_off_limits sizes core broken) n m (PAGE page) fault is (page, refl, at);
   one = pages_once sizes (after_begin sizes by call core) (sole_begin (Bars sizes) (early sizes) sizes by core call (were_sole sizes core broken));
 }

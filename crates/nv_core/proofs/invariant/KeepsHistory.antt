@@ -5,12 +5,13 @@ use Rattle.std.proofs.lemmas.Bool.{ne_eqb, ltb-true}
 use Rattle.nv_plain.specs.Histories.{Answered}
 use Rattle.nv_plain.specs.declared.call.FileCall.{FileCall}
 use Rattle.nv_plain.specs.declared.call.Reply.{Reply}
+use Rattle.nv_plain.specs.Made.{reply_from}
 use Rattle.nv_core.specs.state.Totals.{total}
 use Rattle.nv_core.specs.state.Words.{Sizes, Word, STOP, ORDER, HEAD, TAIL, SIZE, LENGTH, STORE, ENTRY, PAGE, DIRTY, HINT, CLEANUP, slot_of_entry}
-use Rattle.nv_core.specs.state.Passes.{Control, Idle, TakePage, LoadLength, TakeSize, LoadStop, LoadOrder, VisitPage, TakeStore, ReadStore, GiveStore, WriteLoadHead, WriteLoadTail, DrawNumbers, SeizeEntry, CommitGroup, PledgePage, ReadyEntry, TakePlace, GrowLength, GiveSize, GivePage, GiveBack, SetStopAfterRead, SetStopAfterCommit, BreakEntry, Pass, is_write, page_count, first_page, end_page, without, Searching, LoadHint, TakeVictim, TakeCleanup, ReadLoadHead, ReadLoadTail, LoadEntry, HoldEntry, ReadPiece, ReturnEntry, GiveCleanup, SetStopAfterPiece, Cleaning}
+use Rattle.nv_core.specs.state.Passes.{Control, Idle, TakePage, LoadLength, TakeSize, LoadStop, LoadOrder, VisitPage, TakeStore, ReadStore, GiveStore, WriteLoadHead, WriteLoadTail, DrawNumbers, SeizeEntry, CommitGroup, PledgePage, ReadyEntry, TakePlace, GrowLength, GiveSize, GivePage, GiveBack, SetStopAfterRead, SetStopAfterCommit, BreakEntry, Pass, is_write, page_count, first_page, end_page, without, Searching, LoadHint, TakeVictim, TakeCleanup, ReadLoadHead, ReadLoadTail, LoadEntry, HoldEntry, ReadPiece, ReturnEntry, GiveCleanup, SetStopAfterPiece, Cleaning, plain_call}
 use Rattle.nv_core.specs.steps.Ops.{Op, Load, Take, Give, Place, Stop, Draw, Seize, Pledge, Ready, Grow, Break, Split, PutBack, Join, Turn, Hint, Hold, Return, ByCleaner, cleaner_move, moved}
 use Rattle.nv_core.specs.steps.ControlSteps.{control_after, after_load, after_give, after_stop, leaving, giving, ending, exceeds, ordered, after_return}
-use Rattle.nv_core.specs.steps.PassSteps.{stepped, added, begun}
+use Rattle.nv_core.specs.steps.PassSteps.{stepped, added, begun, as_answered}
 use Rattle.nv_core.specs.steps.Order.{Values, Work, CallEnabled, CallDue, IsFailing}
 use Rattle.nv_core.specs.steps.StepKinds.{MayLoad, MayTake, MayPlace, EnabledByKind}
 use Rattle.nv_core.specs.state.Core.{Core, changes, changed_pass, made_stepped, after_step, after_begin, after_work, worked, control_worked, with_number}
@@ -256,18 +257,18 @@ calls_other number by history call reply ne = filter-append (λ one. one.caller 
     ∙ ap (λ l. calls_by number history ++ l) (when_false (by == number) (record { caller = by; call = call; reply = reply } ∷ []) [] (ne_eqb by number (λ e. ne (sym e)))) ∙ append-nil (calls_by number history)
 
 mine_here : (sizes : Sizes) (first : Values) (by : ℕ) (core : Core) (found : ℕ) (op : Op) → OneHistory core → Sound sizes first core → (changed_pass sizes by core op found).mine ≡ calls_by (changes by core.made op) (core.history ++ added by (core.passes by) op)
-mine_here sizes first by core found (Place reply) one sound = ap (λ l. l ++ record { caller = by; call = (core.passes by).call; reply = reply } ∷ []) (one.mine by) ∙ sym (calls_own by core.history (core.passes by).call reply)
+mine_here sizes first by core found (Place reply) one sound = ap (λ l. l ++ as_answered by (core.passes by) reply ∷ []) (one.mine by) ∙ sym (calls_own by core.history (core.passes by).asked (reply_from (core.passes by).asked reply))
 mine_here sizes first by core found Split one sound = sym (sound.numbers.unborn (core.made + 1) (omega arith)).mine ∙ one.mine (core.made + 1) ∙ ap (calls_by (core.made + 1)) (sym (append-nil core.history))
 mine_here sizes first by core found op one sound = one.mine by ∙ ap (calls_by by) (sym (append-nil core.history))
 
 mine_else : (sizes : Sizes) (by : ℕ) (core : Core) (n : ℕ) (op : Op) → OneHistory core → n ≢ changes by core.made op → (core.passes n).mine ≡ calls_by n (core.history ++ added by (core.passes by) op)
-mine_else sizes by core n (Place reply) one ne = one.mine n ∙ sym (calls_other n by core.history (core.passes by).call reply ne)
+mine_else sizes by core n (Place reply) one ne = one.mine n ∙ sym (calls_other n by core.history (core.passes by).asked (reply_from (core.passes by).asked reply) ne)
 mine_else sizes by core n op one ne = one.mine n ∙ ap (calls_by n) (sym (append-nil core.history))
 
 order_step : (sizes : Sizes) (by : ℕ) (core : Core) (found : ℕ) (op : Op) → OneHistory core → FoundEnabledByKind sizes by core op found → (after_step sizes by op found core).words ORDER ≡ length (core.history ++ added by (core.passes by) op)
 order_step sizes by core found (Place reply) one may =
     let w = word_here core.words ORDER (found + 1) in let f = may.is in let o = one.order in
-    let l = length-append core.history (record { caller = by; call = (core.passes by).call; reply = reply } ∷ []) in omega (arith, w, f, o, l)
+    let l = length-append core.history (as_answered by (core.passes by) reply ∷ []) in omega (arith, w, f, o, l)
 order_step sizes by core found (Take cell) one may = untouched sizes by core (Take cell) found may ORDER refl ∙ one.order ∙ ap length (sym (append-nil core.history))
 order_step sizes by core found (Give cell) one may = untouched sizes by core (Give cell) found may ORDER refl ∙ one.order ∙ ap length (sym (append-nil core.history))
 order_step sizes by core found op one may = untouched sizes by core op found may ORDER refl ∙ one.order ∙ ap length (sym (append-nil core.history))
@@ -299,7 +300,7 @@ history_still core by now values one made seen mine less = record {
 
 pub history_begin : (sizes : Sizes) (by : ℕ) (core : Core) (call : FileCall) → OneHistory core → by ≤ core.made → CallMayBegin sizes call (core.passes by) → OneHistory (after_begin sizes by call core)
 history_begin sizes by core call one made may = history_still core by (begun sizes call (core.passes by)) core.values one made refl refl
-    (let a = if_both (λ s. control_open s ≡ 0) (page_count sizes call == 0) LoadStop (TakePage (first_page sizes call)) (λ _. refl) (λ _. refl) in omega (arith, a))
+    (let a = if_both (λ s. control_open s ≡ 0) (page_count sizes (plain_call call) == 0) LoadStop (TakePage (first_page sizes (plain_call call))) (λ _. refl) (λ _. refl) in omega (arith, a))
 
 pub history_work : (sizes : Sizes) (by : ℕ) (core : Core) (work : Work) → OneHistory core → by ≤ core.made → CallEnabled sizes core.values (core.passes by) work → OneHistory (after_work sizes by work core)
 history_work sizes by core work one made may = history_still core by (worked sizes work (core.passes by)) _ one made refl refl

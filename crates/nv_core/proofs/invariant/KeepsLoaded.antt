@@ -7,7 +7,7 @@ use Rattle.nv_core.specs.state.Words.{Sizes, Word, STOP, ORDER, HEAD, TAIL, SIZE
 use Rattle.nv_core.specs.state.Values.{CallEnding, Made, Failed, Refused}
 use Rattle.nv_core.specs.state.Cleaner.{Subtract, MoveTail}
 use Rattle.nv_core.specs.state.Cleaner as cleaner
-use Rattle.nv_core.specs.state.Passes.{Control, Idle, TakePage, LoadLength, TakeSize, LoadStop, LoadOrder, VisitPage, TakeStore, ReadStore, GiveStore, TakeCleanup, WriteLoadHead, WriteLoadTail, DrawNumbers, SeizeEntry, CommitGroup, PledgePage, ReadyEntry, TakePlace, GrowLength, GiveSize, GivePage, GiveBack, SetStopAfterRead, SetStopAfterCommit, BreakEntry, Cleaning, Pass, file_of, at_of, len_of, is_write, is_read, page_count, first_page, end_page, without, times, Searching, TakeVictim, ReadLoadHead, ReadLoadTail, LoadEntry, HoldEntry, ReadPiece, ReturnEntry, GiveCleanup, SetStopAfterPiece}
+use Rattle.nv_core.specs.state.Passes.{Control, Idle, TakePage, LoadLength, TakeSize, LoadStop, LoadOrder, VisitPage, TakeStore, ReadStore, GiveStore, TakeCleanup, WriteLoadHead, WriteLoadTail, DrawNumbers, SeizeEntry, CommitGroup, PledgePage, ReadyEntry, TakePlace, GrowLength, GiveSize, GivePage, GiveBack, SetStopAfterRead, SetStopAfterCommit, BreakEntry, Cleaning, Pass, file_of, at_of, len_of, is_write, is_read, page_count, first_page, end_page, without, times, Searching, TakeVictim, ReadLoadHead, ReadLoadTail, LoadEntry, HoldEntry, ReadPiece, ReturnEntry, GiveCleanup, SetStopAfterPiece, plain_call}
 use Rattle.nv_core.specs.steps.Ops.{Op, Load, Take, Give, Place, Stop, Draw, Seize, Pledge, Ready, Grow, Break, Split, PutBack, Join, value_after, Turn, Hint, Hold, Return, ByCleaner, moved, cleaner_move}
 use Rattle.nv_core.specs.steps.ControlSteps.{control_after, after_load, after_give, after_stop, leaving, giving, ending, ordered, copying, exceeds, first_control, scanning, after_head, after_tail, after_look, after_hold, after_return}
 use Rattle.nv_core.specs.steps.PassSteps.{begun, length_after, sized_after}
@@ -528,11 +528,11 @@ loaded_begin sizes first by core call sound may bounds looks = record {
   head_is = let saw = sound.loaded.head_is in (saw.0, saw.1, by_number (λ n (p : Pass). (core.passes n).head ≡ core.words HEAD → p.head ≡ core.words HEAD) core.passes by (begun sizes call (core.passes by)) (λ is. is) (λ n ne is. is) saw.0 saw.2);
   tail_is = let saw = sound.loaded.tail_is in (saw.0, saw.1, by_number (λ n (p : Pass). (core.passes n).tail ≡ core.words TAIL → p.tail ≡ core.words TAIL) core.passes by (begun sizes call (core.passes by)) (λ is. is) (λ n ne is. is) saw.0 saw.2);
   sized = by_number (λ n (p : Pass). HasMeasured p.control → exceeds p p.length ≡ true → p.sized ≡ true) core.passes by (begun sizes call (core.passes by))
-      (λ measured more. absurd (not_both (and_parts (nat_lt 0 (len_of call)) (nat_lt 0 (at_of call + len_of call)) more).0 (no_bytes sizes call (first_measured sizes call measured)))) (λ n ne. sound.loaded.sized n);
+      (λ measured more. absurd (not_both (and_parts (nat_lt 0 (len_of (plain_call call))) (nat_lt 0 (at_of (plain_call call) + len_of (plain_call call))) more).0 (no_bytes sizes (plain_call call) (first_measured sizes (plain_call call) measured)))) (λ n ne. sound.loaded.sized n);
   length_is = by_number (λ n (p : Pass). HasMeasured p.control → p.sized ≡ true → p.length ≡ core.words (LENGTH (file_of p.call))) core.passes by (begun sizes call (core.passes by))
       (λ measured sized. absurd (not_both sized refl)) (λ n ne. sound.loaded.length_is n);
   clean = by_number (λ n (p : Pass). (page : ℕ) → SawClean p.control page → core.words (DIRTY page) ≡ 0) core.passes by (begun sizes call (core.passes by))
-      (λ page. if_both (λ s. SawClean s page → core.words (DIRTY page) ≡ 0) (page_count sizes call == 0) LoadStop (TakePage (first_page sizes call)) (λ _ z. absurd z) (λ _ z. absurd z)) (λ n ne. sound.loaded.clean n);
+      (λ page. if_both (λ s. SawClean s page → core.words (DIRTY page) ≡ 0) (page_count sizes (plain_call call) == 0) LoadStop (TakePage (first_page sizes (plain_call call))) (λ _ z. absurd z) (λ _ z. absurd z)) (λ n ne. sound.loaded.clean n);
   bounds = bounds;
   looks = looks;
 }

@@ -6,7 +6,7 @@ use Rattle.nv_plain.specs.declared.call.FileCall.TheVariants.{Read, Write, Sync}
 use Rattle.nv_core.specs.state.Totals.{total}
 use Rattle.nv_core.specs.state.Words.{Sizes, Word, STOP, ORDER, HEAD, TAIL, SIZE, LENGTH, STORE, ENTRY, HINT, PAGE, CLEANUP, DIRTY, page_total, index, ready, is_entry_of, slot_of_entry}
 use Rattle.nv_core.specs.state.Values.{Value, ABuffer, Job, PageRead, CallEnding, Made, Failed, Refused, called, filled, buffers_in, lacks_buffer, emptied, received}
-use Rattle.nv_core.specs.state.Passes.{Control, Idle, TakePage, LoadLength, TakeSize, LoadStop, LoadOrder, VisitPage, TakeCleanup, TakeStore, ReadStore, GiveStore, ReadLoadHead, LoadEntry, HoldEntry, ReadPiece, GiveCleanup, Search, LoadHint, TakeVictim, GiveVictim, VictimGiven, NotFound, HintSet, Searching, WriteLoadHead, WriteLoadTail, DrawNumbers, SeizeEntry, CommitGroup, PledgePage, ReadyEntry, TakePlace, GrowLength, GiveSize, GivePage, GiveBack, SetStopAfterRead, SetStopAfterPiece, SetStopAfterCommit, BreakEntry, Pass, fetched_bytes, len_of, is_write, is_read, page_count, first_page, end_page, without, times, Cleaning}
+use Rattle.nv_core.specs.state.Passes.{Control, Idle, TakePage, LoadLength, TakeSize, LoadStop, LoadOrder, VisitPage, TakeCleanup, TakeStore, ReadStore, GiveStore, ReadLoadHead, LoadEntry, HoldEntry, ReadPiece, GiveCleanup, Search, LoadHint, TakeVictim, GiveVictim, VictimGiven, NotFound, HintSet, Searching, WriteLoadHead, WriteLoadTail, DrawNumbers, SeizeEntry, CommitGroup, PledgePage, ReadyEntry, TakePlace, GrowLength, GiveSize, GivePage, GiveBack, SetStopAfterRead, SetStopAfterPiece, SetStopAfterCommit, BreakEntry, Pass, fetched_bytes, len_of, is_write, is_read, page_count, first_page, end_page, without, times, Cleaning, plain_call}
 use Rattle.nv_core.specs.steps.Ops.{Op, Load, Take, Give, Place, Stop, Draw, Seize, Pledge, Ready, Grow, Break, Turn, Hint, Hold, Return, Split, PutBack, Join, patched_by, ByCleaner, cleaner_move, moved}
 use Rattle.nv_core.specs.steps.ControlSteps.{control_after, after_load, after_give, after_stop, leaving, giving, ending, ordered, copying, exceeds, scanning, after_head, after_tail, after_look, after_hold, after_return}
 use Rattle.nv_core.specs.steps.PassSteps.{begun}
@@ -334,7 +334,7 @@ pub searches_begin : (sizes : Sizes) (by : ℕ) (core : Core) (call : FileCall) 
 searches_begin sizes by core call was = record {
   hints = was.hints;
   each = by_number (λ n (p : Pass). KnowsAt sizes core.values p.control) core.passes by (begun sizes call (core.passes by))
-      (if_both (KnowsAt sizes core.values) (page_count sizes call == 0) LoadStop (TakePage (first_page sizes call)) (λ _. tt) (λ _. tt)) (λ n ne. was.each n);
+      (if_both (KnowsAt sizes core.values) (page_count sizes (plain_call call) == 0) LoadStop (TakePage (first_page sizes (plain_call call))) (λ _. tt) (λ _. tt)) (λ n ne. was.each n);
 }
 
 pub searches_work : (sizes : Sizes) (by : ℕ) (core : Core) (work : Work) → CallEnabled sizes core.values (core.passes by) work → Searches sizes core → Searches sizes (after_work sizes by work core)

@@ -9,7 +9,7 @@ use Rattle.nv_core.specs.state.Cleaner.{Batch, CleanerControl, WriteBack, CleanE
 use Rattle.nv_core.specs.state.Cleaner as cleaner
 use Rattle.nv_core.specs.steps.CleanerSteps.{after_cleaner_work}
 use Rattle.nv_header.specs.HeaderSteps.{tail_steps}
-use Rattle.nv_core.specs.state.Passes.{Control, TakePage, LoadStop, ReadStore, SeizeEntry, CommitGroup, PledgePage, ReadyEntry, TakePlace, SetStopAfterRead, SetStopAfterCommit, BreakEntry, Pass, page_count, first_page, end_page, without, SetStopAfterPiece, ReadPiece, Cleaning}
+use Rattle.nv_core.specs.state.Passes.{Control, TakePage, LoadStop, ReadStore, SeizeEntry, CommitGroup, PledgePage, ReadyEntry, TakePlace, SetStopAfterRead, SetStopAfterCommit, BreakEntry, Pass, page_count, first_page, end_page, without, SetStopAfterPiece, ReadPiece, Cleaning, plain_call}
 use Rattle.nv_core.specs.steps.Ops.{Op, Load, Take, Give, Place, Stop, Draw, Seize, Pledge, Ready, Grow, Break, Split, PutBack, Join, Turn, Hint, Hold, Return, ByCleaner, cleaner_move, moved}
 use Rattle.nv_core.specs.steps.ControlSteps.{control_after, after_stop, after_by_cleaner, leaving}
 use Rattle.nv_core.specs.steps.PassSteps.{stopped_after}
@@ -239,9 +239,9 @@ stop_begin sizes first by core call sound may = record {
   bit = sound.stop.bit;
   stopped = sound.stop.stopped;
   failing = by_number (λ n (p : Pass). IsFailing p.control → HasFailed sizes first core.values) core.passes by _
-      (if_both (λ s. IsFailing s → HasFailed sizes first core.values) (page_count sizes call == 0) LoadStop (TakePage (first_page sizes call)) (λ _ z. absurd z) (λ _ z. absurd z)) (λ n ne is. sound.stop.failing n is);
+      (if_both (λ s. IsFailing s → HasFailed sizes first core.values) (page_count sizes (plain_call call) == 0) LoadStop (TakePage (first_page sizes (plain_call call))) (λ _ z. absurd z) (λ _ z. absurd z)) (λ n ne is. sound.stop.failing n is);
   setting_stop = by_number (λ n (p : Pass). IsSettingStop p.control → HasFailed sizes first core.values) core.passes by _
-      (if_both (λ s. IsSettingStop s → HasFailed sizes first core.values) (page_count sizes call == 0) LoadStop (TakePage (first_page sizes call)) (λ _ z. absurd z) (λ _ z. absurd z)) (λ n ne is. sound.stop.setting_stop n is);
+      (if_both (λ s. IsSettingStop s → HasFailed sizes first core.values) (page_count sizes (plain_call call) == 0) LoadStop (TakePage (first_page sizes (plain_call call))) (λ _ z. absurd z) (λ _ z. absurd z)) (λ n ne is. sound.stop.setting_stop n is);
   never_fell = sound.stop.never_fell;
   stays = by_number (λ n (p : Pass). p.stopped ≡ true → core.words STOP ≡ 1) core.passes by _ (sound.stop.stays by) (λ n ne is. sound.stop.stays n is);
   known = λ is. let k = sound.stop.known is in (k.0, k.1, by_number (λ n (p : Pass). (core.passes n).stopped ≡ true → p.stopped ≡ true) core.passes by _ (λ x. x) (λ n ne x. x) k.0 k.2);

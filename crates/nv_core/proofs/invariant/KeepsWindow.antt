@@ -8,7 +8,7 @@ use Rattle.nv_core.specs.state.Cleaner.{TakeCleaner, Clean, Free, MoveTail}
 use Rattle.nv_core.specs.state.Cleaner as cleaner
 use Rattle.nv_core.specs.steps.CleanerSteps.{after_cleaner_work}
 use Rattle.nv_core.specs.invariant.CleanerNumbers.{IsCleaned, IsFreed}
-use Rattle.nv_core.specs.state.Passes.{Control, TakePage, LoadStop, ReadStore, SeizeEntry, CommitGroup, PledgePage, ReadyEntry, TakePlace, SetStopAfterRead, SetStopAfterCommit, BreakEntry, Pass, IsUnseized, IsFilling, IsAmong, is_write, page_count, first_page, end_page, without, ReadPiece, ReturnEntry, SetStopAfterPiece, Cleaning, GiveStore}
+use Rattle.nv_core.specs.state.Passes.{Control, TakePage, LoadStop, ReadStore, SeizeEntry, CommitGroup, PledgePage, ReadyEntry, TakePlace, SetStopAfterRead, SetStopAfterCommit, BreakEntry, Pass, IsUnseized, IsFilling, IsAmong, is_write, page_count, first_page, end_page, without, ReadPiece, ReturnEntry, SetStopAfterPiece, Cleaning, GiveStore, plain_call}
 use Rattle.nv_core.specs.steps.Ops.{Op, page_at, ready_word, Load, Take, Give, Place, Stop, Draw, Seize, Pledge, Ready, Grow, Break, Split, PutBack, Join, value_after, Turn, Hint, Hold, Return, ByCleaner}
 use Rattle.nv_core.specs.steps.ControlSteps.{control_after, after_stop, leaving}
 use Rattle.nv_core.specs.steps.PassSteps.{stepped, begun}
@@ -418,8 +418,8 @@ window_step sizes first by core (Join number) found sound may = stays sizes firs
 pub window_begin : (sizes : Sizes) (first : Values) (by : ℕ) (core : Core) (call : FileCall) → Sound sizes first core → CallMayBegin sizes call (core.passes by) → LogWindow sizes (after_begin sizes by call core)
 window_begin sizes first by core call sound may = window_same sizes core (after_begin sizes by call core) (λ zero. zero) refl refl (λ slot. refl)
     (alike_all (core.words STOP) core.passes by (begun sizes call (core.passes by)) (clear_alike (core.words STOP) (core.passes by) (begun sizes call (core.passes by)) (subst IsClear (sym may.idle) tt)
-    (if_both IsClear (page_count sizes call == 0) LoadStop (TakePage (first_page sizes call)) (λ _. tt) (λ _. tt)) (subst Unswept (sym may.idle) (λ n. (λ z. z, λ z. z)))
-    (if_both Unswept (page_count sizes call == 0) LoadStop (TakePage (first_page sizes call)) (λ _ n. (λ z. z, λ z. z)) (λ _ n. (λ z. z, λ z. z))))) sound.window
+    (if_both IsClear (page_count sizes (plain_call call) == 0) LoadStop (TakePage (first_page sizes (plain_call call))) (λ _. tt) (λ _. tt)) (subst Unswept (sym may.idle) (λ n. (λ z. z, λ z. z)))
+    (if_both Unswept (page_count sizes (plain_call call) == 0) LoadStop (TakePage (first_page sizes (plain_call call))) (λ _ n. (λ z. z, λ z. z)) (λ _ n. (λ z. z, λ z. z))))) sound.window
 
 -- a device call leaves what is drawn, cleaned and freed
 worked_alike : (sizes : Sizes) (values : Values) (pass : Pass) (work : Work) (stop : ℕ) (control : Control) → pass.control ≡ control → CallDue sizes values pass work control → Alike stop pass (worked sizes work pass)

@@ -5,7 +5,7 @@ use Rattle.nv_plain.specs.Histories.{Answered}
 use Rattle.nv_plain.specs.declared.call.FileCall.{FileCall}
 use Rattle.nv_core.specs.state.Words.{Sizes, Word, SIZE, STORE, ENTRY, PAGE, slot_of_entry}
 use Rattle.nv_core.specs.state.Values.{CallEnding, Made, Failed, Refused}
-use Rattle.nv_core.specs.state.Passes.{Control, Idle, TakePage, LoadStop, ReadStore, DrawNumbers, SeizeEntry, CommitGroup, PledgePage, ReadyEntry, TakePlace, SetStopAfterRead, SetStopAfterCommit, BreakEntry, Pass, IsFilling, IsAllowed, IsAmong, file_of, page_count, first_page, end_page, without, times, HoldEntry, ReadPiece, ReturnEntry, SetStopAfterPiece, IsHeldEntry, Cleaning, IsHeldByCleaner}
+use Rattle.nv_core.specs.state.Passes.{Control, Idle, TakePage, LoadStop, ReadStore, DrawNumbers, SeizeEntry, CommitGroup, PledgePage, ReadyEntry, TakePlace, SetStopAfterRead, SetStopAfterCommit, BreakEntry, Pass, IsFilling, IsAllowed, IsAmong, file_of, page_count, first_page, end_page, without, times, HoldEntry, ReadPiece, ReturnEntry, SetStopAfterPiece, IsHeldEntry, Cleaning, IsHeldByCleaner, plain_call}
 use Rattle.nv_core.specs.state.Cleaner.{Batch, CleanerControl}
 use Rattle.nv_core.specs.steps.Ops.{Op, moved, move_of, Load, Take, Give, Place, Stop, Draw, Seize, Pledge, Ready, Grow, Break, Turn, Hint, Hold, Return, ByCleaner}
 use Rattle.nv_core.specs.steps.ControlSteps.{control_after, after_stop, leaving, scanning, after_hold, after_return}
@@ -246,12 +246,12 @@ ownership_steps sizes values pass op found number history of_call stands ownersh
 
 pub ownership_begins : (sizes : Sizes) (call : FileCall) (pass : Pass) → pass.control ≡ Idle → Ownership sizes pass → Ownership sizes (begun sizes call pass)
 ownership_begins sizes call pass idle ownership = record {
-  locks = if_both (HoldsLocks sizes (begun sizes call pass)) (page_count sizes call == 0) LoadStop (TakePage (first_page sizes call))
-      (λ e cell lock. held cell lock ∙ checking cell (eqb-true (page_count sizes call) 0 e)) (λ _ cell lock. held cell lock ∙ locking cell);
-  filling = λ n at. absurd (clear_filling (if page_count sizes call == 0 then LoadStop else TakePage (first_page sizes call)) 0 0 n
-      (if_both IsClear (page_count sizes call == 0) LoadStop (TakePage (first_page sizes call)) (λ _. tt) (λ _. tt)) at);
-  held = λ n at. absurd (bare_held (if page_count sizes call == 0 then LoadStop else TakePage (first_page sizes call)) n
-      (if_both IsBare (page_count sizes call == 0) LoadStop (TakePage (first_page sizes call)) (λ _. tt) (λ _. tt)) at);
+  locks = if_both (HoldsLocks sizes (begun sizes call pass)) (page_count sizes (plain_call call) == 0) LoadStop (TakePage (first_page sizes (plain_call call)))
+      (λ e cell lock. held cell lock ∙ checking cell (eqb-true (page_count sizes (plain_call call)) 0 e)) (λ _ cell lock. held cell lock ∙ locking cell);
+  filling = λ n at. absurd (clear_filling (if page_count sizes (plain_call call) == 0 then LoadStop else TakePage (first_page sizes (plain_call call))) 0 0 n
+      (if_both IsClear (page_count sizes (plain_call call) == 0) LoadStop (TakePage (first_page sizes (plain_call call))) (λ _. tt) (λ _. tt)) at);
+  held = λ n at. absurd (bare_held (if page_count sizes (plain_call call) == 0 then LoadStop else TakePage (first_page sizes (plain_call call))) n
+      (if_both IsBare (page_count sizes (plain_call call) == 0) LoadStop (TakePage (first_page sizes (plain_call call))) (λ _. tt) (λ _. tt)) at);
   none = λ slot off away. ownership.none slot (λ n at. absurd (clear_filling pass.control pass.first pass.entries n (subst IsClear (sym idle) tt) at))
       (λ n at. absurd (bare_held pass.control n (subst IsBare (sym idle) tt) at));
 }
@@ -259,10 +259,10 @@ ownership_begins sizes call pass idle ownership = record {
     held : (cell : Word) → ((slot : ℕ) → cell ≢ ENTRY slot) → times cell pass.owned ≡ lock_held sizes pass Idle cell
     held = subst (HoldsLocks sizes pass) idle ownership.locks
 
-    row : (end page : ℕ) → end ≡ first_page sizes call → 0 ≡ one_if (is_among (first_page sizes call) end page)
-    row end page same = elim (cases_lt page (first_page sizes call)) [
-      | inl below ↦ sym (among_below (first_page sizes call) end page below)
-      | inr above ↦ sym (among_above (first_page sizes call) end page (omega (arith, same, above)))
+    row : (end page : ℕ) → end ≡ first_page sizes (plain_call call) → 0 ≡ one_if (is_among (first_page sizes (plain_call call)) end page)
+    row end page same = elim (cases_lt page (first_page sizes (plain_call call))) [
+      | inl below ↦ sym (among_below (first_page sizes (plain_call call)) end page below)
+      | inr above ↦ sym (among_above (first_page sizes (plain_call call)) end page (omega (arith, same, above)))
     ]
 
     file_zero : (b c : Bool) → (if b then (let n : ℕ = 0 in n) else 0) ≡ (if c then (let n : ℕ = 0 in n) else 0)
@@ -271,16 +271,16 @@ ownership_begins sizes call pass idle ownership = record {
     file_zero false true = refl
     file_zero false false = refl
 
-    checking : (cell : Word) → page_count sizes call ≡ 0 → lock_held sizes pass Idle cell ≡ lock_held sizes (begun sizes call pass) LoadStop cell
-    checking (PAGE page) none = row (end_page sizes call) page (omega (arith, none))
-    checking (SIZE file) none = file_zero (file == file_of pass.call) (file == file_of call)
-    checking (STORE file) none = file_zero (file == file_of pass.call) (file == file_of call)
+    checking : (cell : Word) → page_count sizes (plain_call call) ≡ 0 → lock_held sizes pass Idle cell ≡ lock_held sizes (begun sizes call pass) LoadStop cell
+    checking (PAGE page) none = row (end_page sizes (plain_call call)) page (omega (arith, none))
+    checking (SIZE file) none = file_zero (file == file_of pass.call) (file == file_of (plain_call call))
+    checking (STORE file) none = file_zero (file == file_of pass.call) (file == file_of (plain_call call))
     checking cell none = refl
 
-    locking : (cell : Word) → lock_held sizes pass Idle cell ≡ lock_held sizes (begun sizes call pass) (TakePage (first_page sizes call)) cell
-    locking (PAGE page) = row (first_page sizes call) page refl
-    locking (SIZE file) = file_zero (file == file_of pass.call) (file == file_of call)
-    locking (STORE file) = file_zero (file == file_of pass.call) (file == file_of call)
+    locking : (cell : Word) → lock_held sizes pass Idle cell ≡ lock_held sizes (begun sizes call pass) (TakePage (first_page sizes (plain_call call))) cell
+    locking (PAGE page) = row (first_page sizes (plain_call call)) page refl
+    locking (SIZE file) = file_zero (file == file_of pass.call) (file == file_of (plain_call call))
+    locking (STORE file) = file_zero (file == file_of pass.call) (file == file_of (plain_call call))
     locking cell = refl
 
 -- those of a cleaner are given

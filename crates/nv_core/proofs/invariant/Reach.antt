@@ -19,6 +19,7 @@ use Rattle.nv_core.proofs.invariant.KeepsControlFacts.{control_facts_step, contr
 use Rattle.nv_core.proofs.invariant.KeepsLocks.{locks_step, locks_begin, locks_work}
 use Rattle.nv_core.proofs.invariant.KeepsWindow.{window_step, window_begin, window_work}
 use Rattle.nv_core.proofs.invariant.KeepsLoaded.{loaded_step, loaded_begin, loaded_work}
+use Rattle.nv_core.proofs.invariant.KeepsMade.{made_step, made_begin, made_work}
 use Rattle.nv_core.specs.state.Totals.{total}
 use Rattle.nv_core.proofs.invariant.KeepsFaultedWrites.{broken_step, broken_begin, broken_work}
 use Rattle.nv_core.proofs.invariant.KeepsFaultedLengths.{broken_lengths_step, broken_lengths_begin, broken_lengths_work}
@@ -56,6 +57,7 @@ sound_step sizes first by core op found sound made may = record {
   stop = stop_step sizes first by core op found sound made may;
   broken = broken_step sizes first by core op found sound sound.broken may;
   broken_lengths = broken_lengths_step sizes first by core op found sound may;
+  made = made_step sizes by core op found sound.made;
   history = history_step sizes first by core op found sound sound.history (broken_step sizes first by core op found sound sound.broken may) made may;
   buffers = buffers_step sizes first by core op sound;
   searches = searches_step sizes first by core op found sound may;
@@ -88,6 +90,7 @@ sound_begin sizes first by core call sound made may = record {
   stop = stop_begin sizes first by core call sound may;
   broken = broken_begin sizes first by core call sound sound.broken may;
   broken_lengths = broken_lengths_begin sizes by core call sound.broken_lengths;
+  made = made_begin sizes by core call sound.made;
   history = history_begin sizes by core call sound.history made may;
   buffers = sound.buffers;
   searches = searches_begin sizes by core call sound.searches;
@@ -119,6 +122,7 @@ sound_work ends sizes first by core work sound made may = record {
   stop = stop_work sizes first by core work sound may;
   broken = broken_work sizes first by core work sound sound.broken may;
   broken_lengths = broken_lengths_work sizes by core work sound.broken_lengths may;
+  made = made_work sizes by core work sound.made;
   history = history_work sizes by core work sound.history made may;
   buffers = buffers_work sizes first by core work sound;
   searches = searches_work sizes by core work may sound.searches;
@@ -225,6 +229,7 @@ opening_is_sound mount is_mount = record {
     whole = (0, omega arith, refl);
     mine = λ n. refl;
   };
+  made = record { each = λ n. refl };
   buffers = is_mount.buffers;
   searches = record { hints = first_hints mount is_mount; each = λ n. tt };
   devices = record { each = λ cell. refl };

@@ -8,7 +8,7 @@ use Rattle.nv_plain.proofs.FileLemmas.{length-padded, length-overwritten_grows}
 use Rattle.nv_store.specs.Store.{Store}
 use Rattle.nv_core.specs.state.Words.{Sizes, Word, PAGE}
 use Rattle.nv_core.specs.state.Values.{Value, Bare, APart, AStore, ABuffer, Buffer, Job, PageRead, CallEnding, Made, Failed, Refused, called, emptied, received, filled, patched}
-use Rattle.nv_core.specs.state.Passes.{Control, TakePage, LoadStop, ReadStore, ReadPiece, GiveStore, ReadLoadHead, ReadLoadTail, LoadEntry, HoldEntry, ReturnEntry, GiveCleanup, SetStopAfterPiece, GiveVictim, Searching, SeizeEntry, CommitGroup, PledgePage, ReadyEntry, Cleaning, Pass, page_count, first_page, end_page, fetched_bytes}
+use Rattle.nv_core.specs.state.Passes.{Control, TakePage, LoadStop, ReadStore, ReadPiece, GiveStore, ReadLoadHead, ReadLoadTail, LoadEntry, HoldEntry, ReturnEntry, GiveCleanup, SetStopAfterPiece, GiveVictim, Searching, SeizeEntry, CommitGroup, PledgePage, ReadyEntry, Cleaning, Pass, page_count, first_page, end_page, fetched_bytes, plain_call}
 use Rattle.nv_core.specs.steps.Ops.{Op, Give, Draw, Seize, Pledge, Split, PutBack, Join, patched_by}
 use Rattle.nv_core.specs.steps.ControlSteps.{leaving}
 use Rattle.nv_core.specs.steps.PassSteps.{begun}
@@ -197,7 +197,7 @@ shaped_begin : (sizes : Sizes) (first : Values) (by : ℕ) (core : Core) (call :
 shaped_begin sizes first by core call is = record {
   shapes = is.shapes;
   full = by_number (λ n p. IsFull sizes.page p) core.passes by (begun sizes call (core.passes by))
-      (if_both (λ s. LongFor sizes.page [] (piece_page s)) (page_count sizes call == 0) LoadStop (TakePage (first_page sizes call)) (λ _. tt) (λ _. tt)) (λ n ne. is.full n);
+      (if_both (λ s. LongFor sizes.page [] (piece_page s)) (page_count sizes (plain_call call) == 0) LoadStop (TakePage (first_page sizes (plain_call call))) (λ _. tt) (λ _. tt)) (λ n ne. is.full n);
 }
 
 shaped_work : (sizes : Sizes) (first : Values) (by : ℕ) (core : Core) (work : Work) → CallEnabled sizes core.values (core.passes by) work → Shaped sizes.page first core → Shaped sizes.page first (after_work sizes by work core)

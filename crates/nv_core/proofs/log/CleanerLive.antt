@@ -5,12 +5,12 @@ use Rattle.nv_plain.specs.Files.{Files}
 use Rattle.nv_plain.specs.Calls.{files_after}
 use Rattle.nv_plain.specs.declared.call.FileCall.{FileCall}
 use Rattle.nv_plain.specs.declared.call.FileCall.TheVariants.{Write}
+use Rattle.nv_plain.specs.Made.{after_calls, made_calls}
 use Rattle.nv_core.specs.state.Words.{Sizes, HEAD, TAIL, STORE}
 use Rattle.nv_core.specs.state.Core.{Core}
 use Rattle.nv_core.specs.invariant.LogWindow.{InWindow}
 use Rattle.nv_core.specs.log.Groups.{Log}
-use Rattle.nv_core.specs.crash.CommutingWrites.{after_calls}
-use Rattle.nv_core.specs.log.LivePieces.{rising, call_if, piece_call, is_ready, is_cleaned, is_live, live_pieces, uncleaned_pieces, to_place, calls_of, store_bytes, store_files, LivePieces}
+use Rattle.nv_core.specs.log.LivePieces.{rising, call_if, piece_call, is_ready, is_cleaned, is_live, live_pieces, uncleaned_pieces, to_place, store_bytes, store_files, LivePieces}
 use Rattle.nv_core.specs.content.PlainLaws.{PlainLaws}
 use Rattle.nv_core.proofs.crash.CoverLaws.{IsTouched, alike_after}
 use Rattle.nv_core.proofs.crash.DropLaws.{dropped, touched_rising, from_rising}
@@ -74,7 +74,7 @@ module _ (sizes : Sizes) (log : Log) (opened : Files) where
     -- ---- a piece is written to its store
 
     -- The stores change where a live and uncleaned piece goes; all else stays.
-    pub writes_back_live : (plain : PlainLaws) → now.words HEAD ≡ core.words HEAD → now.words TAIL ≡ core.words TAIL → calls_of now.history ≡ calls_of core.history
+    pub writes_back_live : (plain : PlainLaws) → now.words HEAD ≡ core.words HEAD → now.words TAIL ≡ core.words TAIL → made_calls opened now.history ≡ made_calls opened core.history
         → ((n : ℕ) → live_at now n ≡ live_at core n) → ((n : ℕ) → uncleaned_at now n ≡ uncleaned_at core n) → to_place now ≡ to_place core
         → (n file at : ℕ) (bytes : List ℕ) → InWindow core n → is_live sizes log core n ≡ true → is_cleaned sizes core n ≡ false → piece_call sizes (log.group n) n ≡ Write file at bytes
         → ((other : ℕ) → other ≢ file → store_bytes (now.values (STORE other)) ≡ store_bytes (core.values (STORE other)))
@@ -95,7 +95,7 @@ module _ (sizes : Sizes) (log : Log) (opened : Files) where
         rows : (f g : ℕ → List FileCall) → ((m : ℕ) → f m ≡ g m) → rising f (now.words TAIL) (now.words HEAD - now.words TAIL) ≡ rising g (core.words TAIL) span
         rows f g same = ap₂ (λ t h. rising f t (h - t)) tail head ∙ rising_same f g (core.words TAIL) span (λ m l h. same m)
 
-        same_left : after_calls (calls_of now.history ++ to_place now) opened ≡ after_calls (calls_of core.history ++ to_place core) opened
+        same_left : after_calls (made_calls opened now.history ++ to_place now) opened ≡ after_calls (made_calls opened core.history ++ to_place core) opened
         same_left = ap₂ (λ h p. after_calls (h ++ p) opened) history place
 
         same_live : after_calls (live_pieces sizes log now) (store_files sizes now.values) ≡ after_calls (rising (live_at core) (core.words TAIL) span) (store_files sizes now.values)
@@ -115,7 +115,7 @@ module _ (sizes : Sizes) (log : Log) (opened : Files) where
     -- ---- an entry is cleaned
 
     -- The least uncleaned entry is cleaned, whose piece is written to its store.
-    pub cleans_live : now.words HEAD ≡ core.words HEAD → now.words TAIL ≡ core.words TAIL → calls_of now.history ≡ calls_of core.history → store_files sizes now.values ≡ store_files sizes core.values
+    pub cleans_live : now.words HEAD ≡ core.words HEAD → now.words TAIL ≡ core.words TAIL → made_calls opened now.history ≡ made_calls opened core.history → store_files sizes now.values ≡ store_files sizes core.values
         → ((n : ℕ) → InWindow core n → live_at now n ≡ live_at core n) → to_place now ≡ to_place core
         → (n : ℕ) → InWindow core n → uncleaned_at core n ≡ piece_call sizes (log.group n) n ∷ [] → uncleaned_at now n ≡ [] → ((m : ℕ) → InWindow core m → m ≢ n → uncleaned_at now m ≡ uncleaned_at core m)
         → ((m : ℕ) → core.words TAIL ≤ m → m < n → uncleaned_at core m ≡ []) → files_after (piece_call sizes (log.group n) n) (store_files sizes core.values) ≡ store_files sizes core.values
@@ -139,13 +139,13 @@ module _ (sizes : Sizes) (log : Log) (opened : Files) where
         rows : (f g : ℕ → List FileCall) → ((m : ℕ) → core.words TAIL ≤ m → m < core.words TAIL + span → f m ≡ g m) → rising f (now.words TAIL) (now.words HEAD - now.words TAIL) ≡ rising g (core.words TAIL) span
         rows f g same = ap₂ (λ t h. rising f t (h - t)) tail head ∙ rising_same f g (core.words TAIL) span same
 
-        same_left : after_calls (calls_of now.history ++ to_place now) opened ≡ after_calls (calls_of core.history ++ to_place core) opened
+        same_left : after_calls (made_calls opened now.history ++ to_place now) opened ≡ after_calls (made_calls opened core.history ++ to_place core) opened
         same_left = ap₂ (λ h p. after_calls (h ++ p) opened) history place
 
     -- ---- an entry is freed
 
     -- The least live entry, which is cleaned, is freed.
-    pub frees_live : (plain : PlainLaws) → now.words HEAD ≡ core.words HEAD → now.words TAIL ≡ core.words TAIL → calls_of now.history ≡ calls_of core.history → store_files sizes now.values ≡ store_files sizes core.values
+    pub frees_live : (plain : PlainLaws) → now.words HEAD ≡ core.words HEAD → now.words TAIL ≡ core.words TAIL → made_calls opened now.history ≡ made_calls opened core.history → store_files sizes now.values ≡ store_files sizes core.values
         → ((m : ℕ) → InWindow core m → uncleaned_at now m ≡ uncleaned_at core m) → to_place now ≡ to_place core
         → (n : ℕ) → InWindow core n → live_at core n ≡ piece_call sizes (log.group n) n ∷ [] → is_cleaned sizes core n ≡ true → live_at now n ≡ [] → ((m : ℕ) → InWindow core m → m ≢ n → live_at now m ≡ live_at core m)
         → ((m : ℕ) → core.words TAIL ≤ m → m < n → live_at core m ≡ []) → LivePieces sizes log opened core → LivePieces sizes log opened now
@@ -167,7 +167,7 @@ module _ (sizes : Sizes) (log : Log) (opened : Files) where
         rows : (f g : ℕ → List FileCall) → ((m : ℕ) → core.words TAIL ≤ m → m < core.words TAIL + span → f m ≡ g m) → rising f (now.words TAIL) (now.words HEAD - now.words TAIL) ≡ rising g (core.words TAIL) span
         rows f g same = ap₂ (λ t h. rising f t (h - t)) tail head ∙ rising_same f g (core.words TAIL) span same
 
-        same_left : after_calls (calls_of now.history ++ to_place now) opened ≡ after_calls (calls_of core.history ++ to_place core) opened
+        same_left : after_calls (made_calls opened now.history ++ to_place now) opened ≡ after_calls (made_calls opened core.history ++ to_place core) opened
         same_left = ap₂ (λ h p. after_calls (h ++ p) opened) history place
 
         -- what an uncleaned piece touches a later live one does
@@ -190,7 +190,7 @@ module _ (sizes : Sizes) (log : Log) (opened : Files) where
     -- ---- TAIL moves
 
     -- TAIL moves past numbers that have no piece.
-    pub retires_live : now.words HEAD ≡ core.words HEAD → core.words TAIL ≤ now.words TAIL → now.words TAIL ≤ core.words HEAD → calls_of now.history ≡ calls_of core.history → store_files sizes now.values ≡ store_files sizes core.values
+    pub retires_live : now.words HEAD ≡ core.words HEAD → core.words TAIL ≤ now.words TAIL → now.words TAIL ≤ core.words HEAD → made_calls opened now.history ≡ made_calls opened core.history → store_files sizes now.values ≡ store_files sizes core.values
         → ((m : ℕ) → live_at now m ≡ live_at core m) → ((m : ℕ) → uncleaned_at now m ≡ uncleaned_at core m) → to_place now ≡ to_place core
         → ((m : ℕ) → core.words TAIL ≤ m → m < now.words TAIL → is_ready sizes core m ≡ false) → LivePieces sizes log opened core → LivePieces sizes log opened now
     retires_live head low most history stores live uncleaned place none pieces = record {
@@ -210,5 +210,5 @@ module _ (sizes : Sizes) (log : Log) (opened : Files) where
             ap (rising f (now.words TAIL)) c ∙ rising_same f g (now.words TAIL) (core.words TAIL + span - now.words TAIL) (λ m l h. same m)
             ∙ sym (rising_behind g (core.words TAIL) span (now.words TAIL) low (omega (arith, most, order)) empty)
 
-        same_left : after_calls (calls_of now.history ++ to_place now) opened ≡ after_calls (calls_of core.history ++ to_place core) opened
+        same_left : after_calls (made_calls opened now.history ++ to_place now) opened ≡ after_calls (made_calls opened core.history ++ to_place core) opened
         same_left = ap₂ (λ h p. after_calls (h ++ p) opened) history place

@@ -4,7 +4,7 @@ use Rattle.std.proofs.lemmas.Bool.{cases_lt}
 use Rattle.nv_plain.specs.declared.call.Reply.{Reply}
 use Rattle.nv_core.specs.state.Words.{Sizes, HEAD, TAIL, was_readied}
 use Rattle.nv_core.specs.steps.Order.{Values, IsFailing, Work, CallEnabled}
-use Rattle.nv_core.specs.state.Passes.{Control, Fault, IsOneOf, is_write, page_count, Pass, first_page, SetStopAfterRead, SetStopAfterPiece, SetStopAfterCommit, SeizeEntry, CommitGroup, PledgePage, ReadyEntry, TakePlace, IsAmong, IsFilling, LoadStop, TakePage}
+use Rattle.nv_core.specs.state.Passes.{Control, Fault, IsOneOf, is_write, page_count, Pass, first_page, SetStopAfterRead, SetStopAfterPiece, SetStopAfterCommit, SeizeEntry, CommitGroup, PledgePage, ReadyEntry, TakePlace, IsAmong, IsFilling, LoadStop, TakePage, plain_call}
 use Rattle.nv_core.specs.steps.Ops.{Op, Load, Take, Give, Place, Stop, Draw, Seize, Pledge, Ready, Grow, Break, Split, PutBack, Join, Turn, Hint, Hold, Return, ByCleaner}
 use Rattle.nv_core.specs.steps.ControlSteps.{leaving}
 use Rattle.nv_core.specs.steps.PassSteps.{begun}
@@ -289,7 +289,7 @@ faults_begin sizes log placed by core call may faults = record {
 }
   where
     none : IsFlying (begun sizes call (core.passes by)) (begun sizes call (core.passes by)).control → ⊥
-    none = if_both (λ s. IsFlying (begun sizes call (core.passes by)) s → ⊥) (page_count sizes call == 0) LoadStop (TakePage (first_page sizes call)) (λ _ z. z) (λ _ z. z)
+    none = if_both (λ s. IsFlying (begun sizes call (core.passes by)) s → ⊥) (page_count sizes (plain_call call) == 0) LoadStop (TakePage (first_page sizes (plain_call call))) (λ _ z. z) (λ _ z. z)
 
     here : (fault : Fault) → IsRecorded sizes log placed core fault → IsRecorded sizes log placed (after_begin sizes by call core) fault
     here = record_kept sizes log log placed placed core (after_begin sizes by call core) (omega arith)

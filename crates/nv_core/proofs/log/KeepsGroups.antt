@@ -4,7 +4,7 @@ use Rattle.std.proofs.lemmas.Bool.{cases_lt}
 use Rattle.nv_plain.specs.declared.call.FileCall.{FileCall}
 use Rattle.nv_core.specs.state.Words.{Sizes, HEAD, TAIL}
 use Rattle.nv_core.specs.state.Values.{CallEnding, Made, Failed, Refused}
-use Rattle.nv_core.specs.state.Passes.{Control, TakePage, LoadStop, ReadStore, SeizeEntry, CommitGroup, PledgePage, ReadyEntry, SetStopAfterRead, SetStopAfterCommit, BreakEntry, Pass, IsAllowed, IsAmong, page_count, first_page, SetStopAfterPiece, ReadPiece, Cleaning, IsUnseized, IsFilling}
+use Rattle.nv_core.specs.state.Passes.{Control, TakePage, LoadStop, ReadStore, SeizeEntry, CommitGroup, PledgePage, ReadyEntry, SetStopAfterRead, SetStopAfterCommit, BreakEntry, Pass, IsAllowed, IsAmong, page_count, first_page, SetStopAfterPiece, ReadPiece, Cleaning, IsUnseized, IsFilling, plain_call}
 use Rattle.nv_core.specs.steps.Ops.{Op, Load, Take, Give, Place, Stop, Draw, Seize, Pledge, Ready, Grow, Break, Split, PutBack, Join, Turn, Hint, Hold, Return, ByCleaner}
 use Rattle.nv_core.specs.steps.ControlSteps.{control_after, after_stop, leaving}
 use Rattle.nv_core.specs.steps.PassSteps.{begun}
@@ -293,7 +293,7 @@ groups_step sizes first by core log (Break next) found sound groups progress may
 pub groups_begin : (sizes : Sizes) (by : ℕ) (core : Core) (log : Log) (call : FileCall) → Groups sizes core log → Groups sizes (after_begin sizes by call core) log
 groups_begin sizes by core log call groups = groups_same sizes core (after_begin sizes by call core) log refl refl groups log refl
     (by_number (λ n (p : Pass). HasGroup p.control → HasGroup (core.passes n).control × (group_of p ≡ group_of (core.passes n))) core.passes by (begun sizes call (core.passes by))
-    (if_both (λ s. HasGroup s → HasGroup (core.passes by).control × (group_of (begun sizes call (core.passes by)) ≡ group_of (core.passes by))) (page_count sizes call == 0) LoadStop (TakePage (first_page sizes call)) (λ _ z. absurd z) (λ _ z. absurd z))
+    (if_both (λ s. HasGroup s → HasGroup (core.passes by).control × (group_of (begun sizes call (core.passes by)) ≡ group_of (core.passes by))) (page_count sizes (plain_call call) == 0) LoadStop (TakePage (first_page sizes (plain_call call))) (λ _ z. absurd z) (λ _ z. absurd z))
     (λ n ne is. (is, refl)))
 
 worked_had : (sizes : Sizes) (values : Values) (pass : Pass) (work : Work) (control : Control) (how : CallEnding) → CallDue sizes values pass work control → HasGroup (control_worked sizes pass how control) → HasGroup control

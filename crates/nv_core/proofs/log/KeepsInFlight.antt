@@ -8,7 +8,7 @@ use Rattle.nv_core.specs.state.Words.{Sizes, Word, STOP, ORDER, HEAD, TAIL, LENG
 use Rattle.nv_core.specs.state.Values.{CallEnding, Made, Failed, Refused}
 use Rattle.nv_core.specs.state.Cleaner.{CleanerOp, MoveTail}
 use Rattle.nv_core.specs.invariant.CleanerNumbers.{IsFreed}
-use Rattle.nv_core.specs.state.Passes.{Control, Cleaning, Idle, TakePage, LoadLength, TakeSize, LoadStop, LoadOrder, VisitPage, WriteLoadHead, WriteLoadTail, DrawNumbers, TakeStore, TakeCleanup, ReadStore, SeizeEntry, CommitGroup, PledgePage, ReadyEntry, TakePlace, GrowLength, GiveSize, GivePage, GiveBack, GiveStore, SetStopAfterRead, SetStopAfterCommit, BreakEntry, Pass, IsFilling, IsAmong, is_write, is_read, page_count, first_page, end_page, without, times, Searching, ReadLoadHead, LoadEntry, HoldEntry, ReadPiece, ReturnEntry, GiveCleanup, SetStopAfterPiece}
+use Rattle.nv_core.specs.state.Passes.{Control, Cleaning, Idle, TakePage, LoadLength, TakeSize, LoadStop, LoadOrder, VisitPage, WriteLoadHead, WriteLoadTail, DrawNumbers, TakeStore, TakeCleanup, ReadStore, SeizeEntry, CommitGroup, PledgePage, ReadyEntry, TakePlace, GrowLength, GiveSize, GivePage, GiveBack, GiveStore, SetStopAfterRead, SetStopAfterCommit, BreakEntry, Pass, IsFilling, IsAmong, is_write, is_read, page_count, first_page, end_page, without, times, Searching, ReadLoadHead, LoadEntry, HoldEntry, ReadPiece, ReturnEntry, GiveCleanup, SetStopAfterPiece, plain_call}
 use Rattle.nv_core.specs.steps.Ops.{Op, page_at, ready_word, Load, Take, Give, Place, Stop, Draw, Seize, Pledge, Ready, Grow, Break, Split, PutBack, Join, Turn, Hint, Hold, Return, ByCleaner, moved, cleaner_move}
 use Rattle.nv_core.specs.steps.ControlSteps.{control_after, after_load, after_give, after_stop, leaving, giving, ending, ordered, copying, exceeds, scanning, after_head, after_tail, after_look, after_hold, after_return}
 use Rattle.nv_core.specs.steps.PassSteps.{begun}
@@ -610,7 +610,7 @@ flight_begin sizes log placed by core call flight may = flight_kept sizes log pl
     flight
   where
     none : IsFlying (begun sizes call (core.passes by)) (begun sizes call (core.passes by)).control → ⊥
-    none = if_both (λ s. IsFlying (begun sizes call (core.passes by)) s → ⊥) (page_count sizes call == 0) LoadStop (TakePage (first_page sizes call)) (λ _ z. z) (λ _ z. z)
+    none = if_both (λ s. IsFlying (begun sizes call (core.passes by)) s → ⊥) (page_count sizes (plain_call call) == 0) LoadStop (TakePage (first_page sizes (plain_call call))) (λ _ z. z) (λ _ z. z)
 
 pub worked_flew : (sizes : Sizes) (values : Values) (pass one : Pass) (work : Work) (control : Control) (how : CallEnding) → CallDue sizes values pass work control → IsFlying one (control_worked sizes pass how control) → IsFlying pass control
 worked_flew sizes values pass one work (CommitGroup calls) how due is = tt

@@ -6,16 +6,17 @@ use Rattle.std.proofs.lemmas.Bool.{true≢false, eqb-true, eq-eqb, ne_eqb, cases
 use Rattle.std.proofs.lemmas.List.{append-nil, length-set, set-get_or}
 use Rattle.nv_plain.specs.Files.{Files}
 use Rattle.nv_plain.specs.Calls.{files_after}
-use Rattle.nv_plain.specs.Histories.{Answered}
 use Rattle.nv_plain.specs.declared.call.FileCall.{FileCall}
 use Rattle.nv_plain.specs.declared.call.FileCall.TheVariants.{Read, Write, Sync}
 use Rattle.nv_plain.specs.declared.call.Reply.{Reply}
+use Rattle.nv_plain.specs.Made.{after_calls, made_calls, as_made}
+use Rattle.nv_core.proofs.content.MadeLaws.{made_now}
 use Rattle.nv_core.specs.state.Words.{Sizes, Word, HEAD, TAIL, STORE, ENTRY, kind_of, free, filling, ready, cleaned, broken, index, was_readied, slot_of_entry}
 use Rattle.nv_core.specs.state.Values.{Value, Bare, APart, AStore, ABuffer, Job, CallEnding, called}
-use Rattle.nv_core.specs.state.Passes.{Control, Idle, TakePage, LoadStop, VisitPage, SeizeEntry, CommitGroup, PledgePage, ReadyEntry, TakePlace, SetStopAfterRead, SetStopAfterPiece, SetStopAfterCommit, Pass, IsAmong, IsFilling, file_of, is_write, page_count, first_page, end_page}
+use Rattle.nv_core.specs.state.Passes.{Control, Idle, TakePage, LoadStop, VisitPage, SeizeEntry, CommitGroup, PledgePage, ReadyEntry, TakePlace, SetStopAfterRead, SetStopAfterPiece, SetStopAfterCommit, Pass, IsAmong, IsFilling, file_of, is_write, page_count, first_page, end_page, plain_call}
 use Rattle.nv_core.specs.steps.Ops.{Op, page_at, ready_word, Load, Take, Give, Place, Stop, Draw, Seize, Pledge, Ready, Grow, Break, Turn, Hint, Hold, Return, ByCleaner, Split, PutBack, Join, moved, cleaner_move}
 use Rattle.nv_core.specs.steps.ControlSteps.{control_after, after_hold, after_return, leaving}
-use Rattle.nv_core.specs.steps.PassSteps.{added, begun}
+use Rattle.nv_core.specs.steps.PassSteps.{added, begun, as_answered}
 use Rattle.nv_core.specs.steps.Order.{Values, Work, IsFailing}
 use Rattle.nv_core.specs.steps.StepKinds.{MayPlace, EnabledByKind}
 use Rattle.nv_core.specs.state.Core.{Core, changes, changed_pass, with_value, after_step, after_begin, values_worked}
@@ -27,9 +28,9 @@ use Rattle.nv_core.specs.invariant.LogWindow.{InWindow, WasReadied, entry_word_a
 use Rattle.nv_core.specs.log.Groups.{Group, Log, group_of, with_group, log_stepped, Groups}
 use Rattle.nv_core.specs.log.Pieces.{page_of_number, IsReadied, Pieces}
 use Rattle.nv_core.specs.log.InFlight.{IsFlying, InFlight}
-use Rattle.nv_core.specs.crash.CommutingWrites.{Commute, after_calls}
+use Rattle.nv_core.specs.crash.CommutingWrites.{Commute}
 use Rattle.nv_core.specs.content.StorePages.{store_of_value}
-use Rattle.nv_core.specs.log.LivePieces.{rising, call_if, piece_write, piece_call, is_ready, is_cleaned, is_live, is_waiting, to_place, calls_of, told_bytes, store_bytes, store_files, LivePieces}
+use Rattle.nv_core.specs.log.LivePieces.{rising, call_if, piece_write, piece_call, is_ready, is_cleaned, is_live, is_waiting, to_place, told_bytes, store_bytes, store_files, LivePieces}
 use Rattle.nv_core.specs.invariant.Sound.{Sound}
 use Rattle.nv_core.specs.content.PlainLaws.{PlainLaws}
 use Rattle.nv_core.proofs.state.Changes.{by_number, by_word, number_here, number_else, word_here, word_else, differ}
@@ -163,7 +164,7 @@ kept_pieces sizes log keep core = rising (λ n. call_if (is_live sizes log core 
 
 -- they make the files of the stores
 pub record LiveBy (sizes : Sizes) (log : Log) (keep : ℕ → Bool) (opened : Files) (core : Core) : Type 0 where
-  pub files : after_calls (calls_of core.history ++ to_place core) opened ≡ after_calls (kept_pieces sizes log keep core) (store_files sizes core.values)
+  pub files : after_calls (made_calls opened core.history ++ to_place core) opened ≡ after_calls (kept_pieces sizes log keep core) (store_files sizes core.values)
 
 -- whether an entry is live rests on its own kind and on its leader's
 pub live_is : (sizes : Sizes) (log : Log) (core now : Core) (n : ℕ) → is_ready sizes now n ≡ is_ready sizes core n → is_ready sizes now (log.group n).first ≡ is_ready sizes core (log.group n).first → is_cleaned sizes now n ≡ is_cleaned sizes core n
@@ -181,7 +182,7 @@ module _ (sizes : Sizes) (log : Log) (keep : ℕ → Bool) (opened : Files) (cor
       ∙ rising_same (λ n. call_if (is_live sizes log now n && keep n) (piece_call sizes (log.group n) n)) (λ n. call_if (is_live sizes log core n && keep n) (piece_call sizes (log.group n) n)) (core.words TAIL) (core.words HEAD - core.words TAIL)
       (λ n low high. ap (λ b. call_if (b && keep n) (piece_call sizes (log.group n) n)) (live n (low, omega (arith, high, order))))
 
-  pub live_kept : calls_of now.history ≡ calls_of core.history → ((n : ℕ) → InWindow core n → is_live sizes log now n ≡ is_live sizes log core n) → to_place now ≡ to_place core
+  pub live_kept : made_calls opened now.history ≡ made_calls opened core.history → ((n : ℕ) → InWindow core n → is_live sizes log now n ≡ is_live sizes log core n) → to_place now ≡ to_place core
       → ((file : ℕ) → store_bytes (now.values (STORE file)) ≡ store_bytes (core.values (STORE file)))
       → core.words TAIL ≤ core.words HEAD → LiveBy sizes log keep opened core → LiveBy sizes log keep opened now
   live_kept history live places stores order pieces = record {
@@ -236,7 +237,7 @@ same_live : (sizes : Sizes) (first : Values) (log : Log) (keep : ℕ → Bool) (
     → core.made ≤ (after_step sizes by op found core).made → added by (core.passes by) op ≡ [] → LiveBy sizes log keep opened (after_step sizes by op found core)
 same_live sizes first log keep opened by core op found sound groups pieces may cleaner_step made place head tail born_ none =
     live_kept sizes log keep opened core (after_step sizes by op found core) head tail
-    (ap (λ a. calls_of (core.history ++ a)) none ∙ ap calls_of (append-nil core.history))
+    (ap (λ a. made_calls opened (core.history ++ a)) none ∙ ap (made_calls opened) (append-nil core.history))
     (λ n is. live_is sizes log core (after_step sizes by op found core) n (ready_step sizes first by core found sound op cleaner_step made may n is)
     (ready_step sizes first by core found sound op cleaner_step made may (log.group n).first (leader_in sizes core log groups n is)) (clean_step sizes first by core found sound op cleaner_step may n))
     (places_same core (after_step sizes by op found core) sound.numbers born_ (waits_step sizes by core op found sound.numbers may (λ next e. absurd (not_made op made next e)) place))
@@ -384,7 +385,7 @@ module _ (plain : PlainLaws) (sizes : Sizes) (first : Values) (log : Log) (keep 
           omega (arith, f, g, same)
 
   follower_live : next ≢ (core.passes by).first → LiveBy sizes log keep opened now
-  follower_live ne = live_kept sizes log keep opened core now head_same tail_same (ap calls_of (append-nil core.history))
+  follower_live ne = live_kept sizes log keep opened core now head_same tail_same (ap (made_calls opened) (append-nil core.history))
       (λ n is. elim (cases_eq n next) [
         | inl same ↦ subst (λ m. is_live sizes log now m ≡ is_live sizes log core m) (sym same)
             (ap₂ (λ b c. is_ready sizes now next && (b || c)) leader_now (clean_same next (within_own next at_next.1) ∙ fresh next at_next.1) ∙ and_false (is_ready sizes now next)
@@ -514,11 +515,11 @@ module _ (plain : PlainLaws) (sizes : Sizes) (first : Values) (log : Log) (keep 
     leader_live : LiveBy sizes log keep opened now
     leader_live = record {
       files =
-          ap₂ (λ h p. after_calls (calls_of h ++ p) opened) (append-nil core.history) (split_places core now by (λ n ne. ap waits_of (number_else core.passes by (changed_pass sizes by core (Ready next) found) n ne)) busy_by refl
+          ap₂ (λ h p. after_calls (made_calls opened h ++ p) opened) (append-nil core.history) (split_places core now by (λ n ne. ap waits_of (number_else core.passes by (changed_pass sizes by core (Ready next) found) n ne)) busy_by refl
           ∙ ap (λ c. before_by core by ++ (c ++ behind_by core by)) call_here)
-          ∙ call_last plain (calls_of core.history) (before_by core by) (behind_by core by) (core.passes by).call opened
+          ∙ call_last plain (made_calls opened core.history) (before_by core by) (behind_by core by) (core.passes by).call opened
           (rising_apart (core.passes by).call (λ n. waits_of (core.passes n)) (by + 1) (core.made + 1 - (by + 1)) (λ n low high. others_apart sizes first core page_is sound by flying at_next.0 n (λ e. omega (arith, e, low))))
-          ∙ ap (files_after (core.passes by).call) (ap (λ p. after_calls (calls_of core.history ++ p) opened) (sym was_places) ∙ live.files)
+          ∙ ap (files_after (core.passes by).call) (ap (λ p. after_calls (made_calls opened core.history ++ p) opened) (sym was_places) ∙ live.files)
           ∙ sym live_files;
     }
       where
@@ -530,10 +531,6 @@ module _ (plain : PlainLaws) (sizes : Sizes) (first : Values) (log : Log) (keep 
             ∙ ap (λ c. before_by core by ++ (c ++ behind_by core by)) (ap (λ s. call_if (is_waiting (core.passes by) s) (core.passes by).call) may.may)
 
 -- ---- a call is placed
-
-calls_both : (one other : List Answered) → calls_of (one ++ other) ≡ calls_of one ++ calls_of other
-calls_both [] other = refl
-calls_both (answered ∷ one) other = ap (λ r. answered.call ∷ r) (calls_both one other)
 
 -- a call that writes no byte leaves the files
 none_written : (call : FileCall) (files : Files) → is_write call ≡ false → files_after call files ≡ files
@@ -554,8 +551,8 @@ module _ (plain : PlainLaws) (sizes : Sizes) (first : Values) (log : Log) (keep 
       place_test : (n : ℕ) → is_ready sizes placed_core n ≡ is_ready sizes core n
       place_test n = ap was_readied (untouched sizes by core (Place reply) found may (ENTRY (slot_of_entry sizes n)) refl)
 
-  place_history : calls_of placed_core.history ≡ calls_of core.history ++ (core.passes by).call ∷ []
-  place_history = calls_both core.history (added by (core.passes by) (Place reply))
+  place_history : made_calls opened placed_core.history ≡ made_calls opened core.history ++ (core.passes by).call ∷ []
+  place_history = plain.made_on as_made core.history (as_answered by (core.passes by) reply) opened ∙ ap (λ call. made_calls opened core.history ++ call ∷ []) (sym (made_now plain opened by core sound))
 
   -- its pass has nothing to place then
   none_now : waits_of (placed_core.passes by) ≡ []
@@ -571,9 +568,9 @@ module _ (plain : PlainLaws) (sizes : Sizes) (first : Values) (log : Log) (keep 
   plain_place none = record {
     files =
         ap₂ (λ h p. after_calls (h ++ p) opened) place_history same
-        ∙ after_both (calls_of core.history ++ (core.passes by).call ∷ []) (to_place core) opened
-        ∙ ap (after_calls (to_place core)) (after_both (calls_of core.history) ((core.passes by).call ∷ []) opened ∙ none_written (core.passes by).call (after_calls (calls_of core.history) opened) none)
-        ∙ sym (after_both (calls_of core.history) (to_place core) opened)
+        ∙ after_both (made_calls opened core.history ++ (core.passes by).call ∷ []) (to_place core) opened
+        ∙ ap (after_calls (to_place core)) (after_both (made_calls opened core.history) ((core.passes by).call ∷ []) opened ∙ none_written (core.passes by).call (after_calls (made_calls opened core.history) opened) none)
+        ∙ sym (after_both (made_calls opened core.history) (to_place core) opened)
         ∙ live.files
         ∙ ap (λ c. after_calls c (store_files sizes core.values)) (sym place_live);
   }
@@ -600,12 +597,12 @@ module _ (plain : PlainLaws) (sizes : Sizes) (first : Values) (log : Log) (keep 
     write_place = record {
       files =
           ap₂ (λ h p. after_calls (h ++ p) opened) place_history then_to_place
-          ∙ after_both (calls_of core.history ++ (core.passes by).call ∷ []) (before_by core by ++ behind_by core by) opened
-          ∙ ap (after_calls (before_by core by ++ behind_by core by)) (after_both (calls_of core.history) ((core.passes by).call ∷ []) opened)
-          ∙ sym (comes_first plain (before_by core by) (core.passes by).call (behind_by core by) (after_calls (calls_of core.history) opened)
+          ∙ after_both (made_calls opened core.history ++ (core.passes by).call ∷ []) (before_by core by ++ behind_by core by) opened
+          ∙ ap (after_calls (before_by core by ++ behind_by core by)) (after_both (made_calls opened core.history) ((core.passes by).call ∷ []) opened)
+          ∙ sym (comes_first plain (before_by core by) (core.passes by).call (behind_by core by) (after_calls (made_calls opened core.history) opened)
           (rising_apart (core.passes by).call (λ n. waits_of (core.passes n)) 0 (by - 0) (λ n low high. others_apart sizes first core page_is sound by (subst (IsFlying (core.passes by)) (sym placing) write) drawn n (λ e. omega (arith, e, high)))))
-          ∙ sym (after_both (calls_of core.history) (before_by core by ++ ((core.passes by).call ∷ behind_by core by)) opened)
-          ∙ ap (λ p. after_calls (calls_of core.history ++ p) opened) (sym was_to_place)
+          ∙ sym (after_both (made_calls opened core.history) (before_by core by ++ ((core.passes by).call ∷ behind_by core by)) opened)
+          ∙ ap (λ p. after_calls (made_calls opened core.history ++ p) opened) (sym was_to_place)
           ∙ live.files
           ∙ ap (λ c. after_calls c (store_files sizes core.values)) (sym place_live);
     }
@@ -664,7 +661,7 @@ module _ (sizes : Sizes) (first : Values) (log : Log) (keep : ℕ → Bool) (ope
   draw_won : LiveBy sizes drawn_log keep opened drawn_core
   draw_won = record {
     files =
-        ap₂ (λ h p. after_calls (calls_of h ++ p) opened) (append-nil core.history) (draw_places sizes by core found sound.numbers may)
+        ap₂ (λ h p. after_calls (made_calls opened h ++ p) opened) (append-nil core.history) (draw_places sizes by core found sound.numbers may)
         ∙ live.files
         ∙ sym (ap (λ c. after_calls c (store_files sizes core.values))
         (grown_window (λ n. call_if (is_live sizes drawn_log drawn_core n && keep n) (piece_call sizes (drawn_log.group n) n)) (λ n. call_if (is_live sizes log core n && keep n) (piece_call sizes (log.group n) n))
@@ -685,7 +682,7 @@ draw_step sizes first log keep opened by core found sound live may = go (found =
     go false e = subst (λ l. LiveBy sizes l keep opened (after_step sizes by Draw found core)) (sym (when_false (found == (core.passes by).head) (with_group group log) log e))
         (live_kept sizes log keep opened core (after_step sizes by Draw found core)
         (lost_head sizes by core found may e) refl
-        (ap calls_of (append-nil core.history)) (λ n is. refl) (draw_places sizes by core found sound.numbers may) (λ file. refl) sound.window.order live)
+        (ap (made_calls opened) (append-nil core.history)) (λ n is. refl) (draw_places sizes by core found sound.numbers may) (λ file. refl) sound.window.order live)
 
 -- ---- all steps
 
@@ -738,12 +735,12 @@ call_live sizes first log placed opened by core op found plain page_is sound gro
 
 pub live_begin : (sizes : Sizes) (log : Log) (opened : Files) (by : ℕ) (core : Core) (call : FileCall) → Numbers core → CallMayBegin sizes call (core.passes by) → LivePieces sizes log opened core → LivePieces sizes log opened (after_begin sizes by call core)
 live_begin sizes log opened by core call numbers may live = record {
-  files = ap (λ p. after_calls (calls_of core.history ++ p) opened) places ∙ live.files;
-  uncleaned = ap (λ p. after_calls (calls_of core.history ++ p) opened) places ∙ live.uncleaned;
+  files = ap (λ p. after_calls (made_calls opened core.history ++ p) opened) places ∙ live.files;
+  uncleaned = ap (λ p. after_calls (made_calls opened core.history ++ p) opened) places ∙ live.uncleaned;
 }
   where
     none : is_waiting (begun sizes call (core.passes by)) (begun sizes call (core.passes by)).control ≡ false
-    none = if_both (λ s. is_waiting (begun sizes call (core.passes by)) s ≡ false) (page_count sizes call == 0) LoadStop (TakePage (first_page sizes call)) (λ _. refl) (λ _. refl)
+    none = if_both (λ s. is_waiting (begun sizes call (core.passes by)) s ≡ false) (page_count sizes (plain_call call) == 0) LoadStop (TakePage (first_page sizes (plain_call call))) (λ _. refl) (λ _. refl)
 
     places : to_place (after_begin sizes by call core) ≡ to_place core
     places = places_same core (after_begin sizes by call core) numbers (omega arith)

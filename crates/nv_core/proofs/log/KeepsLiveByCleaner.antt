@@ -4,6 +4,7 @@ use Rattle.std.specs.Prelude.{Some, None, option_map}
 use Rattle.std.proofs.lemmas.Bool.{cases_eq, cases_lt}
 use Rattle.std.proofs.lemmas.List.{append-nil}
 use Rattle.nv_plain.specs.Files.{Files}
+use Rattle.nv_plain.specs.Made.{after_calls, made_calls}
 use Rattle.nv_entry.specs.Commits.{GroupsBecomeWhole}
 use Rattle.nv_pmem.specs.Laws.{LoadsAreAnImage}
 use Rattle.nv_store.specs.Store.{Store}
@@ -27,8 +28,7 @@ use Rattle.nv_core.specs.log.Progress.{IsBatchUnderWay, Progress}
 use Rattle.nv_core.specs.log.Tails.{Tails}
 use Rattle.nv_core.specs.log.Retiring.{IsWrittenBack, Retired}
 use Rattle.nv_core.specs.log.Written.{Written}
-use Rattle.nv_core.specs.crash.CommutingWrites.{after_calls}
-use Rattle.nv_core.specs.log.LivePieces.{call_if, piece_call, is_ready, is_cleaned, is_live, live_pieces, uncleaned_pieces, to_place, calls_of, told_bytes, store_bytes, store_files, LivePieces}
+use Rattle.nv_core.specs.log.LivePieces.{call_if, piece_call, is_ready, is_cleaned, is_live, live_pieces, uncleaned_pieces, to_place, told_bytes, store_bytes, store_files, LivePieces}
 use Rattle.nv_core.specs.invariant.Sound.{Sound}
 use Rattle.nv_core.specs.content.PlainLaws.{PlainLaws}
 use Rattle.nv_core.proofs.state.Changes.{by_number, by_word, word_here, word_else}
@@ -69,8 +69,8 @@ module _ (sizes : Sizes) (first : Values) (tails : Tails) (log : Log) (opened : 
   places : (cleaner_op : CleanerOp) → FoundEnabledByKind sizes by core (ByCleaner cleaner_op) found → to_place (after_step sizes by (ByCleaner cleaner_op) found core) ≡ to_place core
   places cleaner_op may = places_same core (after_step sizes by (ByCleaner cleaner_op) found core) sound.numbers (omega arith) (waits_step sizes by core (ByCleaner cleaner_op) found sound.numbers may (λ next e. absurd (not_made (ByCleaner cleaner_op) refl next e)) refl)
 
-  history : (cleaner_op : CleanerOp) → calls_of (after_step sizes by (ByCleaner cleaner_op) found core).history ≡ calls_of core.history
-  history cleaner_op = ap calls_of (append-nil core.history)
+  history : (cleaner_op : CleanerOp) → made_calls opened (after_step sizes by (ByCleaner cleaner_op) found core).history ≡ made_calls opened core.history
+  history cleaner_op = ap (made_calls opened) (append-nil core.history)
 
   -- an entry that isn't freed stays made ready
   ready_still : (cleaner_op : CleanerOp) → is_freeing cleaner_op ≡ false → FoundEnabledByKind sizes by core (ByCleaner cleaner_op) found → (n : ℕ) → InWindow core n → is_ready sizes (after_step sizes by (ByCleaner cleaner_op) found core) n ≡ is_ready sizes core n
@@ -343,8 +343,8 @@ module _ (sizes : Sizes) (by : ℕ) (core : Core) (work : Work) (may : CallEnabl
   -- one that writes to no store
   quiet_live : (first : Values) (log : Log) (opened : Files) → Sound sizes first core → is_write_back work.job ≡ false → LivePieces sizes log opened core → LivePieces sizes log opened (after_work sizes by work core)
   quiet_live first log opened sound quiet live = record {
-    files = ap (λ p. after_calls (calls_of core.history ++ p) opened) (work_places first sound) ∙ live.files ∙ sym (ap (after_calls (live_pieces sizes log core)) stores);
-    uncleaned = ap (λ p. after_calls (calls_of core.history ++ p) opened) (work_places first sound) ∙ live.uncleaned ∙ sym (ap (after_calls (uncleaned_pieces sizes log core)) stores);
+    files = ap (λ p. after_calls (made_calls opened core.history ++ p) opened) (work_places first sound) ∙ live.files ∙ sym (ap (after_calls (live_pieces sizes log core)) stores);
+    uncleaned = ap (λ p. after_calls (made_calls opened core.history ++ p) opened) (work_places first sound) ∙ live.uncleaned ∙ sym (ap (after_calls (uncleaned_pieces sizes log core)) stores);
   }
     where
       stores : store_files sizes (after_work sizes by work core).values ≡ store_files sizes core.values

@@ -4,7 +4,7 @@ use Rattle.std.proofs.lemmas.Bool.{eqb-true, eqb-false, cases_eq, cases_lt}
 use Rattle.nv_plain.specs.declared.call.FileCall.{FileCall}
 use Rattle.nv_core.specs.state.Words.{Sizes, Word, HEAD, TAIL, ENTRY, kind_of, free, filling, ready, held, cleaned, broken, index, was_readied, is_entry_of, slot_of_entry}
 use Rattle.nv_core.specs.state.Values.{CallEnding, Made, Failed, Refused}
-use Rattle.nv_core.specs.state.Passes.{Control, TakePage, LoadStop, ReadStore, SeizeEntry, CommitGroup, PledgePage, ReadyEntry, TakePlace, SetStopAfterRead, SetStopAfterCommit, BreakEntry, Pass, IsUnseized, IsFilling, IsAmong, page_count, first_page, end_page, without, SetStopAfterPiece, ReadPiece, Cleaning}
+use Rattle.nv_core.specs.state.Passes.{Control, TakePage, LoadStop, ReadStore, SeizeEntry, CommitGroup, PledgePage, ReadyEntry, TakePlace, SetStopAfterRead, SetStopAfterCommit, BreakEntry, Pass, IsUnseized, IsFilling, IsAmong, page_count, first_page, end_page, without, SetStopAfterPiece, ReadPiece, Cleaning, plain_call}
 use Rattle.nv_core.specs.steps.Ops.{Op, page_at, ready_word, Load, Take, Give, Place, Stop, Draw, Seize, Pledge, Ready, Grow, Break, Split, PutBack, Join, Turn, Hint, Hold, Return, ByCleaner}
 use Rattle.nv_core.specs.steps.ControlSteps.{control_after, after_stop, leaving}
 use Rattle.nv_core.specs.steps.PassSteps.{begun}
@@ -524,7 +524,7 @@ pieces_begin sizes log by core call pieces may =
     said : Said sizes log (after_begin sizes by call core)
     said = pieces_kept sizes log core (after_begin sizes by call core) (λ n is. is) (λ slot _. refl) (λ slot _. refl)
         (by_number (λ other (p : Pass). (n : ℕ) → IsReadied p.control p.first p.entries n → was_readied (entry_word_at sizes core n) ≡ true) core.passes by (begun sizes call (core.passes by))
-        (λ n. if_both (λ s. IsReadied s 0 0 n → was_readied (entry_word_at sizes core n) ≡ true) (page_count sizes call == 0) LoadStop (TakePage (first_page sizes call)) (λ _ z. absurd z) (λ _ z. absurd z))
+        (λ n. if_both (λ s. IsReadied s 0 0 n → was_readied (entry_word_at sizes core n) ≡ true) (page_count sizes (plain_call call) == 0) LoadStop (TakePage (first_page sizes (plain_call call))) (λ _ z. absurd z) (λ _ z. absurd z))
         (λ other ne n is. pieces.readied other n is)) pieces
 
 worked_readied : (sizes : Sizes) (values : Values) (pass : Pass) (work : Work) (control : Control) (how : CallEnding) (from count n : ℕ) → CallDue sizes values pass work control → IsReadied (control_worked sizes pass how control) from count n → ⊥

@@ -11,7 +11,7 @@ use Rattle.nv_core.specs.state.Cleaner as cleaner
 use Rattle.nv_core.specs.steps.CleanerSteps.{next_cleaner_op, cleaner_word, after_cleaner_op, after_cleaner_work, withdrawing, discharging, retreating, each_next, rising_files, group_page, group_file, holds_store, new_batch}
 use Rattle.nv_core.specs.invariant.CleanerOwnership.{of_cleaner_cleanup}
 use Rattle.nv_core.specs.invariant.CleanerNumbers.{IsCleaned}
-use Rattle.nv_core.specs.state.Passes.{Control, Idle, TakePage, LoadStop, Cleaning, Pass, SeizeEntry, CommitGroup, PledgePage, ReadyEntry, TakePlace, BreakEntry, ReadStore, ReadPiece, SetStopAfterRead, SetStopAfterPiece, SetStopAfterCommit, IsUnseized, IsFilling, IsAmong, times, page_count, first_page, end_page, without}
+use Rattle.nv_core.specs.state.Passes.{Control, Idle, TakePage, LoadStop, Cleaning, Pass, SeizeEntry, CommitGroup, PledgePage, ReadyEntry, TakePlace, BreakEntry, ReadStore, ReadPiece, SetStopAfterRead, SetStopAfterPiece, SetStopAfterCommit, IsUnseized, IsFilling, IsAmong, times, page_count, first_page, end_page, without, plain_call}
 use Rattle.nv_core.specs.steps.Ops.{Op, Load, Take, Give, Place, Stop, Draw, Seize, Pledge, Ready, Grow, Break, Hold, Return, Turn, Hint, ByCleaner, Split, PutBack, Join, cleaner_move, moved, ready_word, page_at}
 use Rattle.nv_core.specs.steps.ControlSteps.{control_after, after_stop, after_by_cleaner, after_hold, after_return, leaving, scanning}
 use Rattle.nv_core.specs.steps.PassSteps.{begun}
@@ -506,7 +506,7 @@ module _ (sizes : Sizes) (first : Values) (by : ℕ) (core : Core) (found : ℕ)
 pub progress_begin : (sizes : Sizes) (log : Log) (by : ℕ) (core : Core) (call : FileCall) → Progress sizes log core → Progress sizes log (after_begin sizes by call core)
 progress_begin sizes log by core call progress = from_all sizes log (after_begin sizes by call core)
     (by_number (λ n (p : Pass). At sizes log (after_begin sizes by call core) p.control) core.passes by (begun sizes call (core.passes by))
-    (if_both (At sizes log (after_begin sizes by call core)) (page_count sizes call == 0) LoadStop (TakePage (first_page sizes call)) (λ _. tt) (λ _. tt))
+    (if_both (At sizes log (after_begin sizes by call core)) (page_count sizes (plain_call call) == 0) LoadStop (TakePage (first_page sizes (plain_call call))) (λ _. tt) (λ _. tt))
     (λ n ne. same_at sizes log log core (after_begin sizes by call core) refl refl (λ one. one) (λ slot. refl) refl (core.passes n).control (all_at progress n)))
 
 below_next : (j i : ℕ) → nat_lt j (i + 1) ≡ nat_le j i

@@ -10,7 +10,7 @@ use Rattle.nv_core.specs.state.Cleaner.{Batch, CleanerControl, TakeHeader, Write
 use Rattle.nv_core.specs.state.Cleaner as cleaner
 use Rattle.nv_core.specs.steps.CleanerSteps.{cleaner_word, cleaner_value, next_cleaner_op, new_batch}
 use Rattle.nv_core.specs.invariant.CleanerNumbers.{IsFreed}
-use Rattle.nv_core.specs.state.Passes.{Control, Idle, TakePage, LoadStop, Cleaning, Pass, IsAmong, IsFilling, page_count, first_page}
+use Rattle.nv_core.specs.state.Passes.{Control, Idle, TakePage, LoadStop, Cleaning, Pass, IsAmong, IsFilling, page_count, first_page, plain_call}
 use Rattle.nv_core.specs.steps.Ops.{Op, ready_word, Stop, Draw, Seize, Ready, Break, Split, PutBack, Join, Hold, Return, ByCleaner, moved, cleaner_move}
 use Rattle.nv_core.specs.steps.ControlSteps.{control_after, after_by_cleaner}
 use Rattle.nv_core.specs.steps.PassSteps.{begun}
@@ -273,10 +273,10 @@ module _ (sizes : Sizes) (first : Values) (tails : Tails) (log : Log) (by : ℕ)
 pub retired_begin : (sizes : Sizes) (tails : Tails) (log : Log) (by : ℕ) (core : Core) (call : FileCall) → CallMayBegin sizes call (core.passes by) → Retired sizes tails log core → Retired sizes tails log (after_begin sizes by call core)
 retired_begin sizes tails log by core call may retired = record {
   written = by_number (λ m (p : Pass). (n : ℕ) → IsWrittenBack p.control n → files_after (piece_call sizes (log.group n) n) (store_files sizes core.values) ≡ store_files sizes core.values) core.passes by (begun sizes call (core.passes by))
-      (λ n is. absurd (if_both (λ s. IsWrittenBack s n → ⊥) (page_count sizes call == 0) LoadStop (TakePage (first_page sizes call)) (λ _ z. z) (λ _ z. z) is)) (λ m ne. retired.written m);
+      (λ n is. absurd (if_both (λ s. IsWrittenBack s n → ⊥) (page_count sizes (plain_call call) == 0) LoadStop (TakePage (first_page sizes (plain_call call))) (λ _ z. z) (λ _ z. z) is)) (λ m ne. retired.written m);
   synced = by_number (λ m (p : Pass). (file : ℕ) (store : Store) → IsSynced p.control file → store_of_value (core.values (STORE file)) ≡ Some store → IsQuietStore store) core.passes by (begun sizes call (core.passes by))
-      (λ file store is. absurd (if_both (λ s. IsSynced s file → ⊥) (page_count sizes call == 0) LoadStop (TakePage (first_page sizes call)) (λ _ z. z) (λ _ z. z) is)) (λ m ne. retired.synced m);
-  at = by_number (λ m (p : Pass). TailsAt tails p.control) core.passes by (begun sizes call (core.passes by)) (if_both (TailsAt tails) (page_count sizes call == 0) LoadStop (TakePage (first_page sizes call)) (λ _. tt) (λ _. tt)) (λ m ne. retired.at m);
+      (λ file store is. absurd (if_both (λ s. IsSynced s file → ⊥) (page_count sizes (plain_call call) == 0) LoadStop (TakePage (first_page sizes (plain_call call))) (λ _ z. z) (λ _ z. z) is)) (λ m ne. retired.synced m);
+  at = by_number (λ m (p : Pass). TailsAt tails p.control) core.passes by (begun sizes call (core.passes by)) (if_both (TailsAt tails) (page_count sizes (plain_call call) == 0) LoadStop (TakePage (first_page sizes (plain_call call))) (λ _. tt) (λ _. tt)) (λ m ne. retired.at m);
   begun = λ some. elim (retired.begun some) [
     | inl stop ↦ inl stop
     | inr moving ↦ inr (moving.0, by_number (λ m (p : Pass). IsMoving (core.passes m).control → IsMoving p.control) core.passes by (begun sizes call (core.passes by)) (λ is. absurd (subst IsMoving may.idle is)) (λ m ne is. is) moving.0 moving.1)

@@ -7,7 +7,7 @@ use Rattle.nv_core.specs.state.Words.{Sizes, HEAD, TAIL, PAGE, ENTRY, kind_of, f
 use Rattle.nv_core.specs.state.Values.{CallEnding, Made, Failed, Refused}
 use Rattle.nv_core.specs.state.Cleaner.{Clean, Free, MoveTail}
 use Rattle.nv_core.specs.state.Cleaner as cleaner
-use Rattle.nv_core.specs.state.Passes.{Control, TakePage, LoadStop, ReadStore, DrawNumbers, SeizeEntry, CommitGroup, PledgePage, ReadyEntry, TakePlace, VisitPage, SetStopAfterCommit, BreakEntry, Fault, Pass, IsOneOf, IsUnseized, IsFilling, IsAmong, is_write, page_count, first_page, end_page, times, ReadPiece, Cleaning}
+use Rattle.nv_core.specs.state.Passes.{Control, TakePage, LoadStop, ReadStore, DrawNumbers, SeizeEntry, CommitGroup, PledgePage, ReadyEntry, TakePlace, VisitPage, SetStopAfterCommit, BreakEntry, Fault, Pass, IsOneOf, IsUnseized, IsFilling, IsAmong, is_write, page_count, first_page, end_page, times, ReadPiece, Cleaning, plain_call}
 use Rattle.nv_core.specs.steps.Ops.{Op, page_at, ready_word, Load, Take, Give, Place, Stop, Draw, Seize, Pledge, Ready, Grow, Break, Split, PutBack, Join, Turn, Hint, Hold, Return, ByCleaner}
 use Rattle.nv_core.specs.steps.ControlSteps.{leaving}
 use Rattle.nv_core.specs.steps.PassSteps.{begun, fault_of}
@@ -378,7 +378,7 @@ pub unready_begin : (sizes : Sizes) (log : Log) (placed : ℕ → Bool) (by : �
 unready_begin sizes log placed by core call may unready = unready_kept sizes log placed placed core (after_begin sizes by call core) refl (omega arith)
     (by_number (λ n (p : Pass). (fault : Fault) → IsOneOf (core.passes n).faulted fault → IsOneOf p.faulted fault) core.passes by (begun sizes call (core.passes by)) (λ fault is. is) (λ n ne fault is. is))
     (by_number (λ n (p : Pass). (number : ℕ) → p.control ≡ BreakEntry number → IsOneOf p.faulted (fault_of p)) core.passes by (begun sizes call (core.passes by))
-    (λ number e. absurd (if_both (λ s. s ≡ BreakEntry number → ⊥) (page_count sizes call == 0) LoadStop (TakePage (first_page sizes call)) (λ _. elsewhere _ _ refl refl number) (λ _. elsewhere _ _ refl refl number) e))
+    (λ number e. absurd (if_both (λ s. s ≡ BreakEntry number → ⊥) (page_count sizes (plain_call call) == 0) LoadStop (TakePage (first_page sizes (plain_call call))) (λ _. elsewhere _ _ refl refl number) (λ _. elsewhere _ _ refl refl number) e))
     (λ n ne. unready.breaking n))
     (λ n within e. inl e) (λ n within low e. begun_still sizes by core call may n e) (λ n is e. e) unready
 

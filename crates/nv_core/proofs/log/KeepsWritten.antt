@@ -19,7 +19,7 @@ use Rattle.nv_core.specs.state.Cleaner.{Batch, CleanerControl, WriteBack, SyncSt
 use Rattle.nv_core.specs.state.Cleaner as cleaner
 use Rattle.nv_core.specs.steps.CleanerSteps.{group_file}
 use Rattle.nv_core.specs.invariant.CleanerNumbers.{IsFreed}
-use Rattle.nv_core.specs.state.Passes.{Control, TakePage, LoadStop, ReadStore, SeizeEntry, CommitGroup, PledgePage, ReadyEntry, TakePlace, SetStopAfterRead, SetStopAfterCommit, BreakEntry, Pass, IsUnseized, IsFilling, IsAmong, AreBytes, IsAllowed, file_of, is_write, page_count, first_page, end_page, without, SetStopAfterPiece, ReadPiece, Cleaning}
+use Rattle.nv_core.specs.state.Passes.{Control, TakePage, LoadStop, ReadStore, SeizeEntry, CommitGroup, PledgePage, ReadyEntry, TakePlace, SetStopAfterRead, SetStopAfterCommit, BreakEntry, Pass, IsUnseized, IsFilling, IsAmong, AreBytes, IsAllowed, file_of, is_write, page_count, first_page, end_page, without, SetStopAfterPiece, ReadPiece, Cleaning, plain_call}
 use Rattle.nv_core.specs.steps.Ops.{Op, page_at, ready_word, Load, Take, Give, Place, Stop, Draw, Seize, Pledge, Ready, Grow, Break, Split, PutBack, Join, Turn, Hint, Hold, Return, ByCleaner}
 use Rattle.nv_core.specs.steps.ControlSteps.{control_after, after_stop, leaving}
 use Rattle.nv_core.specs.steps.PassSteps.{stepped, begun}
@@ -315,7 +315,7 @@ module _ (laws : LogLaws) (sizes : Sizes) (first : Values) (tails : Tails) (log 
 pub written_begin : (sizes : Sizes) (tail : ℕ) (log : Log) (by : ℕ) (core : Core) (call : FileCall) → CallMayBegin sizes call (core.passes by) → Written sizes tail log core → Written sizes tail log (after_begin sizes by call core)
 written_begin sizes tail log by core call may written = written_kept sizes tail log core (after_begin sizes by call core) refl (omega arith) (λ slot part is. is) (λ slot less is. inl is) (λ n is leads kind. inl (begun_before sizes by core call may n kind))
     (by_number (λ n (p : Pass). HasCalls sizes log p p.control) core.passes by (begun sizes call (core.passes by))
-    (if_both (HasCalls sizes log (begun sizes call (core.passes by))) (page_count sizes call == 0) LoadStop (TakePage (first_page sizes call)) (λ _. tt) (λ _. tt)) (λ n ne. written.calls n)) written
+    (if_both (HasCalls sizes log (begun sizes call (core.passes by))) (page_count sizes (plain_call call) == 0) LoadStop (TakePage (first_page sizes (plain_call call))) (λ _. tt) (λ _. tt)) (λ n ne. written.calls n)) written
 
 -- ---- a device call of a commit
 

@@ -11,10 +11,11 @@ use Rattle.nv_plain.specs.Calls.{files_after}
 use Rattle.nv_plain.specs.Pieces.{pages_touched, piece_of, piece_bytes, with_piece, with_pieces, WriteIsItsPieces}
 use Rattle.nv_plain.specs.declared.call.FileCall.{FileCall}
 use Rattle.nv_plain.specs.declared.call.FileCall.TheVariants.{Read, Write, Sync}
+use Rattle.nv_plain.specs.Made.{after_calls}
 use Rattle.nv_core.specs.state.Words.{Sizes}
 use Rattle.nv_core.specs.state.Passes.{is_write, file_of, at_of, page_count, first_page}
 use Rattle.nv_core.specs.invariant.ControlFacts.{IsPage}
-use Rattle.nv_core.specs.crash.CommutingWrites.{Commute, after_calls}
+use Rattle.nv_core.specs.crash.CommutingWrites.{Commute}
 use Rattle.nv_core.specs.log.LivePieces.{rising, piece_write}
 use Rattle.nv_core.specs.content.PlainLaws.{PlainLaws}
 use Rattle.nv_core.proofs.crash.CommutingLaws.{IsApartFrom, comes_first}

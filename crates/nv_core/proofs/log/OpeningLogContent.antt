@@ -3,6 +3,7 @@ use Rattle.std.proofs.Common.{◌≡◌, ℕ, zero, suc, ◌+◌, ◌-◌, ◌<�
 use Rattle.std.proofs.lemmas.List.FromFn.{fill_by_all}
 use Rattle.nv_plain.specs.Files.{Files}
 use Rattle.nv_plain.specs.declared.call.FileCall.{FileCall}
+use Rattle.nv_plain.specs.Made.{after_calls, made_calls}
 use Rattle.nv_pmem.specs.Part.{Part, line_of, part_word}
 use Rattle.nv_pmem.specs.Images.{IsQuietLine}
 use Rattle.nv_pmem.specs.Laws.{QuietPartHasOneImage}
@@ -24,8 +25,7 @@ use Rattle.nv_core.specs.log.Groups.{Log, HasGroup, Groups}
 use Rattle.nv_core.specs.log.Written.{IsPart, HasCalls, IsBlankEntry, Written}
 use Rattle.nv_core.specs.log.Pieces.{IsReadied, Pieces}
 use Rattle.nv_core.specs.log.InFlight.{IsFlying, InFlight}
-use Rattle.nv_core.specs.crash.CommutingWrites.{after_calls}
-use Rattle.nv_core.specs.log.LivePieces.{rising, call_if, piece_call, is_cleaned, is_live, is_waiting, to_place, calls_of, told_bytes, store_bytes, store_files, LivePieces}
+use Rattle.nv_core.specs.log.LivePieces.{rising, call_if, piece_call, is_cleaned, is_live, is_waiting, to_place, told_bytes, store_bytes, store_files, LivePieces}
 use Rattle.nv_core.specs.log.Tails.{still}
 use Rattle.nv_core.specs.log.Progress.{Progress}
 use Rattle.nv_core.specs.log.Retiring.{IsWrittenBack, IsSynced, TailsAt, Retired}
@@ -95,8 +95,8 @@ module _ (sizes : Sizes) (log : Log) (placed : ℕ → Bool) (core : Core) (empt
   pub live_opening : core.history ≡ [] → LivePieces sizes log (store_files sizes core.values) core
   live_opening none = record { files = none_left ∙ sym (none_of (λ n. call_if (is_live sizes log core n) (piece_call sizes (log.group n) n))); uncleaned = none_left ∙ sym (none_of (λ n. call_if (is_live sizes log core n && not (is_cleaned sizes core n)) (piece_call sizes (log.group n) n))) }
     where
-      none_left : after_calls (calls_of core.history ++ to_place core) (store_files sizes core.values) ≡ store_files sizes core.values
-      none_left = ap₂ (λ h c. after_calls (calls_of h ++ c) (store_files sizes core.values)) none (none_to_place 0 (core.made + 1))
+      none_left : after_calls (made_calls (store_files sizes core.values) core.history ++ to_place core) (store_files sizes core.values) ≡ store_files sizes core.values
+      none_left = ap₂ (λ h c. after_calls (made_calls (store_files sizes core.values) h ++ c) (store_files sizes core.values)) none (none_to_place 0 (core.made + 1))
 
       none_of : (calls : ℕ → List FileCall) → after_calls (rising calls (core.words TAIL) (core.words HEAD - core.words TAIL)) (store_files sizes core.values) ≡ store_files sizes core.values
       none_of calls = let count : core.words HEAD - core.words TAIL ≡ 0 = omega (arith, empty) in ap (λ c. after_calls (rising calls (core.words TAIL) c) (store_files sizes core.values)) count

@@ -9,7 +9,7 @@ use Rattle.nv_core.specs.state.Cleaner.{TakeHeader, FreeEntry, AdvanceTail, Clea
 use Rattle.nv_core.specs.state.Cleaner as cleaner
 use Rattle.nv_core.specs.steps.CleanerSteps.{cleaner_word, cleaner_value, next_cleaner_op, new_batch}
 use Rattle.nv_core.specs.invariant.CleanerNumbers.{IsFreed}
-use Rattle.nv_core.specs.state.Passes.{Control, Idle, TakePage, LoadStop, ReadStore, CommitGroup, PledgePage, ReadPiece, Cleaning, Pass, IsAmong, IsUnseized, IsFilling, page_count, first_page}
+use Rattle.nv_core.specs.state.Passes.{Control, Idle, TakePage, LoadStop, ReadStore, CommitGroup, PledgePage, ReadPiece, Cleaning, Pass, IsAmong, IsUnseized, IsFilling, page_count, first_page, plain_call}
 use Rattle.nv_core.specs.steps.Ops.{Op, Seize, Ready, Break, Hold, Return, ByCleaner, Split, PutBack, Join, ready_word, page_at, moved, cleaner_move}
 use Rattle.nv_core.specs.steps.ControlSteps.{control_after, after_by_cleaner}
 use Rattle.nv_core.specs.steps.PassSteps.{begun}
@@ -233,7 +233,7 @@ module _ (sizes : Sizes) (core : Core) (by : ℕ) (pass : Pass) (was : FreesNone
   freed_on = by_number (λ m (p : Pass). IsFreed (core.passes m).control n → IsFreed p.control n) core.passes by pass (λ is. absurd (was n is)) (λ m ne is. is)
 
 pub begun_none : (sizes : Sizes) (call : FileCall) (pass : Pass) → FreesNone (begun sizes call pass).control
-begun_none sizes call pass = if_both FreesNone (page_count sizes call == 0) LoadStop (TakePage (first_page sizes call)) (λ _ _ z. z) (λ _ _ z. z)
+begun_none sizes call pass = if_both FreesNone (page_count sizes (plain_call call) == 0) LoadStop (TakePage (first_page sizes (plain_call call))) (λ _ _ z. z) (λ _ _ z. z)
 
 module _ (sizes : Sizes) (by : ℕ) (core : Core) (call : FileCall) (may : CallMayBegin sizes call (core.passes by)) (n : ℕ) where
   idle_none : FreesNone (core.passes by).control

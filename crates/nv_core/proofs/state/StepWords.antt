@@ -8,7 +8,7 @@ use Rattle.nv_core.specs.state.Words.{Sizes, Word, STOP, ORDER, HEAD, TAIL, SIZE
 use Rattle.nv_core.specs.state.Cleaner.{Batch, CleanerControl, CleanEntry, SubtractDirty, RefusedReturnEntry, FailedReturnEntry, FreeEntry, GiveStores, CleanerOp, TakeCleaner}
 use Rattle.nv_core.specs.state.Cleaner as cleaner
 use Rattle.nv_core.specs.steps.CleanerSteps.{cleaner_word, next_cleaner_op, last_taken, group_page}
-use Rattle.nv_core.specs.state.Passes.{Control, TakePage, LoadStop, TakeCleanup, LoadEntry, HoldEntry, ReturnEntry, LoadHint, TakeVictim, VictimGiven, Searching, SeizeEntry, PledgePage, ReadyEntry, BreakEntry, Cleaning, Pass, IsAllowed, file_of, at_of, len_of, page_count, first_page, times}
+use Rattle.nv_core.specs.state.Passes.{Control, TakePage, LoadStop, TakeCleanup, LoadEntry, HoldEntry, ReturnEntry, LoadHint, TakeVictim, VictimGiven, Searching, SeizeEntry, PledgePage, ReadyEntry, BreakEntry, Cleaning, Pass, IsAllowed, file_of, at_of, len_of, page_count, first_page, times, plain_call}
 use Rattle.nv_core.specs.steps.Ops.{Op, Load, Take, Give, Place, Stop, Draw, Seize, Pledge, Ready, Grow, Break, Turn, Hint, Hold, Return, ByCleaner, Split, PutBack, Join, Move, Stays, Comes, Goes, moved, move_of, cleaner_move, word_of}
 use Rattle.nv_core.specs.steps.ControlSteps.{first_control}
 use Rattle.nv_core.specs.steps.PassSteps.{begun}
@@ -120,12 +120,12 @@ do_word sizes by core (Join number) grounds may = tt
 do_word sizes by core op grounds may = step_word sizes core.values (core.passes by) grounds op may
 
 -- a call that begins gives nothing back, and is no batch
-begun_grounds : (sizes : Sizes) (values : Values) (call : FileCall) (pass : Pass) → IsAllowed sizes call → Grounds sizes values (begun sizes call pass)
+begun_grounds : (sizes : Sizes) (values : Values) (call : FileCall) (pass : Pass) → IsAllowed sizes (plain_call call) → Grounds sizes values (begun sizes call pass)
 begun_grounds sizes values call pass allowed = record {
   stands = control_facts_begins sizes call pass allowed;
-  knows = if_both (KnowsAt sizes values) (page_count sizes call == 0) LoadStop (TakePage (first_page sizes call)) (λ _. tt) (λ _. tt);
-  gives = λ cell may. absurd (if_both (λ s. IsGivingBack s → ⊥) (page_count sizes call == 0) LoadStop (TakePage (first_page sizes call)) (λ _ z. z) (λ _ z. z) (gives_back (begun sizes call pass) cell (first_control sizes call) may));
-  by_cleaner = λ cleaner_op may. absurd (if_both (λ s. CleanerEnabled sizes (begun sizes call pass) cleaner_op s → ⊥) (page_count sizes call == 0) LoadStop (TakePage (first_page sizes call)) (λ _ z. z) (λ _ z. z) may);
+  knows = if_both (KnowsAt sizes values) (page_count sizes (plain_call call) == 0) LoadStop (TakePage (first_page sizes (plain_call call))) (λ _. tt) (λ _. tt);
+  gives = λ cell may. absurd (if_both (λ s. IsGivingBack s → ⊥) (page_count sizes (plain_call call) == 0) LoadStop (TakePage (first_page sizes (plain_call call))) (λ _ z. z) (λ _ z. z) (gives_back (begun sizes call pass) cell (first_control sizes (plain_call call)) may));
+  by_cleaner = λ cleaner_op may. absurd (if_both (λ s. CleanerEnabled sizes (begun sizes call pass) cleaner_op s → ⊥) (page_count sizes (plain_call call) == 0) LoadStop (TakePage (first_page sizes (plain_call call))) (λ _ z. z) (λ _ z. z) may);
 }
 
 -- ---- a cleaner's

@@ -10,7 +10,7 @@ use Rattle.nv_pmem.specs.Steps.{LineStep, Fence}
 use Rattle.nv_core.specs.state.Words.{Sizes, Word, ENTRY, slot_of_entry}
 use Rattle.nv_core.specs.state.Spares.{Spares, room_of_spares}
 use Rattle.nv_core.specs.state.Values.{Value, APart, Job, PartStep, CallEnding, Made}
-use Rattle.nv_core.specs.state.Passes.{Control, Idle, CommitGroup, Pass, IsOneOf, IsAllowed, times}
+use Rattle.nv_core.specs.state.Passes.{Control, Idle, CommitGroup, Pass, IsOneOf, IsAllowed, times, plain_call}
 use Rattle.nv_core.specs.state.Cleaner.{TakeCleaner}
 use Rattle.nv_core.specs.steps.Ops.{Op, ByCleaner, Split, PutBack, Join, word_of}
 use Rattle.nv_core.specs.steps.Order.{next_step, IsBatchEntry, Work, commit_steps, Enabled, CallMayLeave, CallDue, IsNextCall}
@@ -103,7 +103,7 @@ owed_work sizes by core work job ending control rest = EventEnabled sizes (acts 
 
 -- that a call may be begun, and all of a step between passes and of any other device call
 abbrev pub owed_by : Sizes → (by : ℕ) → Core → Act → (rest : Type 0) → Type 0
-owed_by sizes by core (BeginsCall call op found) rest = IsAllowed sizes call × rest
+owed_by sizes by core (BeginsCall call op found) rest = IsAllowed sizes (plain_call call) × rest
 owed_by sizes by core (TakesStep Split found) rest = EventEnabled sizes (acts by (TakesStep Split found)) core × rest
 owed_by sizes by core (TakesStep (PutBack cell) found) rest = EventEnabled sizes (acts by (TakesStep (PutBack cell) found)) core × rest
 owed_by sizes by core (TakesStep (Join number) found) rest = EventEnabled sizes (acts by (TakesStep (Join number) found)) core × rest
@@ -227,7 +227,7 @@ module _ (sizes : Sizes) (by : ℕ) (core : Core) where
         is = step_found next op word found (may_act core by) e;
       }
 
-  begins_on : (call : FileCall) (op : Op) (found : ℕ) → IsAllowed sizes call → row_of sizes by core (BeginsCall call op found) ≡ Steps (Some op) found true
+  begins_on : (call : FileCall) (op : Op) (found : ℕ) → IsAllowed sizes (plain_call call) → row_of sizes by core (BeginsCall call op found) ≡ Steps (Some op) found true
       → EventEnabled sizes (acts by (BeginsCall call op found)) core
   begins_on call op found allowed e =
       let begun = after_begin sizes by call core in

@@ -6,6 +6,7 @@ use Rattle.nv_plain.specs.Images.{Image, Entry, entry_of, PartImage}
 use Rattle.nv_plain.specs.Recovered.{recovered}
 use Rattle.nv_plain.specs.declared.call.FileCall.{FileCall}
 use Rattle.nv_plain.specs.declared.call.FileCall.TheVariants.{Read, Write, Sync}
+use Rattle.nv_plain.specs.Made.{after_calls, made_calls}
 use Rattle.nv_pmem.specs.Part.{Part, word_of, line_of, part_word, word_at, newest, stored, flushed, fenced}
 use Rattle.nv_pmem.specs.Images.{IsPartImage, PowerMayLeave}
 use Rattle.nv_pmem.specs.Laws as lines
@@ -19,8 +20,7 @@ use Rattle.nv_core.specs.steps.Opening.{opening}
 use Rattle.nv_core.specs.content.StorePages.{store_of_value}
 use Rattle.nv_core.specs.log.Groups.{Log}
 use Rattle.nv_core.specs.log.EntryImages.{IsRegionImage}
-use Rattle.nv_core.specs.log.LivePieces.{call_if, calls_of}
-use Rattle.nv_core.specs.crash.CommutingWrites.{after_calls}
+use Rattle.nv_core.specs.log.LivePieces.{call_if}
 use Rattle.nv_core.specs.log.LogContent.{log_after_run, placed_after_run}
 use Rattle.nv_core.specs.crash.CrashImages.{AreImagesOfStores, is_committed, added_writes, RunsSurviveCrashes}
 use Rattle.nv_core.specs.walks.Walks.{walk_sizes, walk_mount, walk_bytes, walk_read, walk_write}
@@ -61,7 +61,7 @@ hand_words : map hand_core.words (TAIL ∷ HEAD ∷ ENTRY 0 ∷ ENTRY 1 ∷ ENTR
 unfolding group_steps pieces_steps piece_steps data_steps entry_field_steps line_stores durable_store
 hand_words = refl
 
-hand_history : calls_of hand_core.history ≡ Read 0 0 16 ∷ Write 0 0 walk_bytes ∷ []
+hand_history : made_calls walk_files hand_core.history ≡ Read 0 0 16 ∷ Write 0 0 walk_bytes ∷ []
 unfolding group_steps pieces_steps piece_steps data_steps entry_field_steps line_stores durable_store
 hand_history = refl
 
@@ -124,7 +124,7 @@ hand_log = log_after_run walk_sizes (opening walk_mount) hand_events any_log
 abbrev hand_placed : ℕ → Bool
 hand_placed = placed_after_run walk_sizes (opening walk_mount) hand_events none_placed
 
-hand_added : (image : Image) → calls_of hand_core.history ++ added_writes walk_sizes hand_log hand_placed hand_core image ≡ hand_calls_left (is_committed walk_sizes image 2)
+hand_added : (image : Image) → made_calls walk_files hand_core.history ++ added_writes walk_sizes hand_log hand_placed hand_core image ≡ hand_calls_left (is_committed walk_sizes image 2)
 unfolding group_steps pieces_steps piece_steps data_steps entry_field_steps line_stores durable_store
 hand_added image = refl
 

@@ -2,8 +2,6 @@
 use Rattle.std.specs.Prelude.{◌≡◌, ◌≢◌, ◌⊎◌, ℕ, ◌+◌, ◌≤◌, List, [], ◌∷◌, ◌++◌, length}
 use Rattle.nv_plain.specs.declared.call.FileCall.{FileCall}
 use Rattle.nv_plain.specs.declared.call.FileCall.TheVariants.{Write}
-use Rattle.nv_plain.specs.Files.{Files}
-use Rattle.nv_plain.specs.Calls.{files_after}
 
 -- two runs of bytes that don't meet
 abbrev pub AreDisjoint : (at len from count : ℕ) → Type 0
@@ -13,11 +11,6 @@ AreDisjoint at len from count = (at + len ≤ from) ⊎ (from + count ≤ at)
 abbrev pub Commute : FileCall → FileCall → Type 0
 Commute (Write file at bytes) (Write other from others) = (file ≢ other) ⊎ AreDisjoint at (length bytes) from (length others)
 Commute one other = Unit {0}
-
--- the files after some calls, the first of them first
-abbrev pub after_calls : List FileCall → Files → Files
-after_calls [] files = files
-after_calls (call ∷ later) files = after_calls later (files_after call files)
 
 -- the same calls in another order: each of them stands somewhere, and the others are the same without it
 abbrev pub IsReordered : (calls others : List FileCall) → Type 0

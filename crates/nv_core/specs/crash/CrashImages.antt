@@ -5,6 +5,7 @@ use Rattle.nv_plain.specs.Images.{Image, entry_of}
 use Rattle.nv_plain.specs.Layouts.{mount_layout}
 use Rattle.nv_plain.specs.Recovered.{Fits, recovered}
 use Rattle.nv_plain.specs.declared.call.FileCall.{FileCall}
+use Rattle.nv_plain.specs.Made.{after_calls, made_calls}
 use Rattle.nv_pmem.specs.Part.{Part}
 use Rattle.nv_header.specs.Heads.{header_image}
 use Rattle.nv_header.specs.Regions.{ReadsAs}
@@ -25,8 +26,8 @@ use Rattle.nv_core.specs.log.Written.{IsPart, commit_length}
 use Rattle.nv_core.specs.log.EntryImages.{IsRegionImage, InEachImageOf}
 use Rattle.nv_core.specs.log.InFlight.{IsWaiting}
 use Rattle.nv_core.specs.log.Tails.{Tails, still, tails_after}
-use Rattle.nv_core.specs.log.LivePieces.{rising, call_if, calls_of, is_ready, to_place}
-use Rattle.nv_core.specs.crash.CommutingWrites.{IsReordered, after_calls}
+use Rattle.nv_core.specs.log.LivePieces.{rising, call_if, is_ready, to_place}
+use Rattle.nv_core.specs.crash.CommutingWrites.{IsReordered}
 use Rattle.nv_core.specs.crash.PersistentTail.{PersistentTail}
 use Rattle.nv_core.specs.log.LogContent.{LogContent, OpensLog, tails_after_run, log_after_run, placed_after_run}
 
@@ -73,7 +74,7 @@ pub data IsFated (sizes : Sizes) (log : Log) (placed : ℕ → Bool) (core : Cor
 -- than TAIL, and the next one no higher than HEAD.
 pub record Survives (sizes : Sizes) (opened : Files) (log : Log) (placed : ℕ → Bool) (core : Core) (image : Image) (bytes : Files) : Type 0 where
   pub fits : Fits mount_layout image
-  pub files : (recovered image bytes).files ≡ after_calls (calls_of core.history ++ added_writes sizes log placed core image) opened
+  pub files : (recovered image bytes).files ≡ after_calls (made_calls opened core.history ++ added_writes sizes log placed core image) opened
   pub fates : (number : ℕ) → InWindow core number → is_in_flight log placed number ≡ true
       → IsFated sizes log placed core image (recovered image bytes).first (recovered image bytes).groups number
   pub low : core.words TAIL ≤ (recovered image bytes).first
@@ -131,7 +132,7 @@ AddedInAnyOrder =
     (sizes : Sizes) (first : Values) (opened : Files) (names : List (List ℕ)) (tails : Tails) (log : Log) (placed : ℕ → Bool) (core : Core) (image : Image) (others : List FileCall)
     → Sound sizes first core → LogContent sizes first opened tails log placed core → HasRegion sizes names tails log core → IsRegionImage sizes core.values image
     → IsReordered (added_writes sizes log placed core image) others
-    → after_calls (calls_of core.history ++ others) opened ≡ after_calls (calls_of core.history ++ added_writes sizes log placed core image) opened
+    → after_calls (made_calls opened core.history ++ others) opened ≡ after_calls (made_calls opened core.history ++ added_writes sizes log placed core image) opened
 
 -- Every event keeps the region.
 abbrev pub EventsKeepRegion : Type 0

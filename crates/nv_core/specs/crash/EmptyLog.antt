@@ -2,6 +2,7 @@
 use Rattle.std.specs.Prelude.{◌≡◌, ℕ, ◌<◌, Bool, List, [], ◌++◌, Some}
 use Rattle.nv_plain.specs.Files.{Files}
 use Rattle.nv_plain.specs.Recovered.{committed}
+use Rattle.nv_plain.specs.Made.{after_calls, made_calls}
 use Rattle.nv_pmem.specs.Part.{Part}
 use Rattle.nv_pmem.specs.Images.{IsQuietPart}
 use Rattle.nv_store.specs.Store.{Store, IsQuietStore}
@@ -9,8 +10,7 @@ use Rattle.nv_core.specs.state.Words.{Sizes, STOP, HEAD, TAIL, HEADER, STORE, EN
 use Rattle.nv_core.specs.steps.Order.{Values}
 use Rattle.nv_core.specs.state.Core.{Core}
 use Rattle.nv_core.specs.content.StorePages.{store_of_value}
-use Rattle.nv_core.specs.crash.CommutingWrites.{after_calls}
-use Rattle.nv_core.specs.log.LivePieces.{calls_of, to_place, store_files}
+use Rattle.nv_core.specs.log.LivePieces.{to_place, store_files}
 use Rattle.nv_core.specs.log.Tails.{Tails}
 use Rattle.nv_core.specs.log.Groups.{Log}
 use Rattle.nv_core.specs.log.Written.{IsPart, IsBlankEntry}
@@ -24,7 +24,7 @@ abbrev pub EmptyLogsAreStored : Type 0
 EmptyLogsAreStored =
     (sizes : Sizes) (first : Values) (opened : Files) (tails : Tails) (log : Log) (placed : ℕ → Bool) (core : Core)
     → LogContent sizes first opened tails log placed core → core.words TAIL ≡ core.words HEAD
-    → after_calls (calls_of core.history ++ to_place core) opened ≡ store_files sizes core.values
+    → after_calls (made_calls opened core.history ++ to_place core) opened ≡ store_files sizes core.values
 
 -- the log is empty, nothing has failed, and no pass holds a cell
 pub record IsLogEmpty (core : Core) : Type 0 where
@@ -35,7 +35,7 @@ pub record IsLogEmpty (core : Core) : Type 0 where
 -- The stores read as the files after the history, and are durable. The header's part is quiet, with one tail; and so is the part of each
 -- entry, in which no commit word counts. So no image of the region has a committed number.
 pub record HasAllInStores (sizes : Sizes) (opened : Files) (tails : Tails) (core : Core) : Type 0 where
-  pub files : after_calls (calls_of core.history ++ to_place core) opened ≡ store_files sizes core.values
+  pub files : after_calls (made_calls opened core.history ++ to_place core) opened ≡ store_files sizes core.values
   pub stores : (file : ℕ) (store : Store) → file < sizes.files → store_of_value (core.values (STORE file)) ≡ Some store → IsQuietStore store
   pub header : (part : Part) → IsPart (core.values HEADER) part → IsQuietPart part
   pub tail : tails.next ≡ tails.least

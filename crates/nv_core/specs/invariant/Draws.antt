@@ -6,7 +6,7 @@ use Rattle.nv_plain.specs.declared.call.FileCall.{FileCall}
 use Rattle.nv_plain.specs.declared.call.FileCall.TheVariants.{Write}
 use Rattle.nv_core.specs.state.Totals.{total}
 use Rattle.nv_core.specs.state.Words.{Sizes, HEAD}
-use Rattle.nv_core.specs.state.Passes.{Control, Idle, SeizeEntry, CommitGroup, PledgePage, ReadyEntry, TakePlace, SetStopAfterCommit, Fault, Pass}
+use Rattle.nv_core.specs.state.Passes.{Control, Idle, SeizeEntry, CommitGroup, PledgePage, ReadyEntry, TakePlace, SetStopAfterCommit, Fault, Pass, plain_call}
 use Rattle.nv_core.specs.steps.Order.{Values}
 use Rattle.nv_core.specs.state.Core.{Core}
 use Rattle.nv_core.specs.steps.Events.{Event, EventEnabled, after_event, after_run, IsRun, own}
@@ -23,7 +23,7 @@ entries_of sizes call = 0
 -- the entries of the calls that have their place
 abbrev pub placed_entries : Sizes → List Answered → ℕ
 placed_entries sizes [] = 0
-placed_entries sizes (answered ∷ rest) = entries_of sizes answered.call + placed_entries sizes rest
+placed_entries sizes (answered ∷ rest) = entries_of sizes (plain_call answered.call) + placed_entries sizes rest
 
 -- and of those that a fault ended: a write meets one only when it has drawn its numbers
 abbrev pub faulted_entries : Sizes → List Fault → ℕ

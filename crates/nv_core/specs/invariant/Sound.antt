@@ -15,6 +15,7 @@ use Rattle.nv_core.specs.invariant.StopWord.{StopWord}
 use Rattle.nv_core.specs.invariant.FaultedWrites.{Broken}
 use Rattle.nv_core.specs.invariant.FaultedLengths.{BrokenLengths}
 use Rattle.nv_core.specs.invariant.OneHistory.{OneHistory}
+use Rattle.nv_core.specs.invariant.Made.{Made}
 use Rattle.nv_core.specs.invariant.BuffersKept.{BuffersKept}
 use Rattle.nv_core.specs.invariant.Searches.{Searches}
 use Rattle.nv_core.specs.invariant.Devices.{DevicesKept}
@@ -54,6 +55,7 @@ pub record Sound (sizes : Sizes) (first : Values) (core : Core) : Type 0 where
   pub broken : Broken sizes core
   pub broken_lengths : BrokenLengths core
   pub history : OneHistory core
+  pub made : Made core
   pub buffers : BuffersKept sizes core.values
   pub searches : Searches sizes core
   pub devices : DevicesKept first core.values

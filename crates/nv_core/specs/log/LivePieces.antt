@@ -2,7 +2,7 @@
 use Rattle.std.specs.Prelude.{◌≡◌, ℕ, zero, suc, ◌+◌, ◌-◌, ◌==◌, ◌&&◌, ◌||◌, not, Bool, false, if◌then◌else◌, List, [], ◌∷◌, ◌++◌, length, map, Option, Some, None}
 use Rattle.std.specs.List.{range_with_len}
 use Rattle.nv_plain.specs.Files.{Files}
-use Rattle.nv_plain.specs.Histories.{Answered}
+use Rattle.nv_plain.specs.Made.{after_calls, made_calls}
 use Rattle.nv_plain.specs.Pieces.{piece_of, piece_bytes}
 use Rattle.nv_plain.specs.declared.call.FileCall.{FileCall}
 use Rattle.nv_plain.specs.declared.call.FileCall.TheVariants.{Write}
@@ -14,7 +14,6 @@ use Rattle.nv_core.specs.steps.Order.{Values}
 use Rattle.nv_core.specs.state.Core.{Core}
 use Rattle.nv_core.specs.invariant.LogWindow.{entry_word_at}
 use Rattle.nv_core.specs.log.Groups.{Group, Log}
-use Rattle.nv_core.specs.crash.CommutingWrites.{after_calls}
 
 -- the calls that numbers have, so many of them from one on, in rising number
 abbrev pub rising : (ℕ → List FileCall) → (from count : ℕ) → List FileCall
@@ -73,10 +72,6 @@ to_place core = rising (λ by. call_if (is_waiting (core.passes by) (core.passes
 
 -- ---- both
 
--- the calls of a history
-abbrev pub calls_of : List Answered → List FileCall
-calls_of history = map (λ answered. answered.call) history
-
 -- the bytes that a store reads as
 abbrev pub told_bytes : Option Store → List ℕ
 told_bytes (Some store) = store.seen
@@ -93,7 +88,7 @@ store_files sizes values = record { contents = map (λ file. store_bytes (values
 -- From the files at opening, the history and then the writes that are to be placed leave the files that the stores read
 -- as, overwritten by the live pieces in rising number; and so they do by those alone whose entries aren't cleaned.
 pub record LivePieces (sizes : Sizes) (log : Log) (opened : Files) (core : Core) : Type 0 where
-  pub files : after_calls (calls_of core.history ++ to_place core) opened
+  pub files : after_calls (made_calls opened core.history ++ to_place core) opened
       ≡ after_calls (live_pieces sizes log core) (store_files sizes core.values)
-  pub uncleaned : after_calls (calls_of core.history ++ to_place core) opened
+  pub uncleaned : after_calls (made_calls opened core.history ++ to_place core) opened
       ≡ after_calls (uncleaned_pieces sizes log core) (store_files sizes core.values)

@@ -1,7 +1,9 @@
 -- Passes: a thread's view, its call at hand, and where in the order of steps it stands.
 use Rattle.std.specs.Prelude.{◌≡◌, ◌⊎◌, ℕ, ◌+◌, ◌-◌, ◌*◌, ◌/◌, ◌<◌, ◌≤◌, ◌==◌, nat_lt, min, Bool, false, if◌then◌else◌, List, [], ◌∷◌, length, slice_index}
+use Rattle.nv_plain.specs.Files.{empty_files}
 use Rattle.nv_plain.specs.Histories.{Answered}
 use Rattle.nv_plain.specs.Layouts.{mount_layout}
+use Rattle.nv_plain.specs.Made.{as_made}
 use Rattle.nv_plain.specs.Pieces.{pages_touched}
 use Rattle.nv_plain.specs.declared.call.FileCall.{FileCall}
 use Rattle.nv_plain.specs.declared.call.FileCall.TheVariants.{Read, Write, Sync}
@@ -69,7 +71,7 @@ pub data Control : Type 0 where
   -- no call, but a batch of the cleaner
   Cleaning : Batch → CleanerControl → Control
 
--- A call that ended by a fault: its first number and how many it had drawn, and LENGTH as it had loaded it.
+-- A call that ended by a fault, as it was made: its first number and how many it had drawn, and LENGTH as it had loaded it.
 pub record Fault : Type 0 where
   pub call : FileCall
   pub first : ℕ
@@ -79,6 +81,8 @@ pub record Fault : Type 0 where
 -- A pass: where it stands, its call at hand or the last one, the cells that it holds, the last taken first, and what it has seen.
 pub record Pass : Type 0 where
   pub control : Control
+  -- what was asked, and the plain call that it is made as: the history has the first; pages, entries and bytes are those of the second
+  pub asked : FileCall
   pub call : FileCall
   pub owned : List Word
   -- it has taken SIZE in this call
@@ -106,6 +110,10 @@ pub record Pass : Type 0 where
 abbrev pub fetched_bytes : List (ℕ × List ℕ) → (page : ℕ) → List ℕ
 fetched_bytes [] page = []
 fetched_bytes (one ∷ rest) page = if one.0 == page then one.1 else fetched_bytes rest page
+
+-- The plain call that a call is made as, which is known when it begins: whatever the files are, it is the same.
+abbrev pub plain_call : FileCall → FileCall
+plain_call call = as_made (empty_files 0) call
 
 -- ---- a call's place among the pages
 

@@ -27,6 +27,7 @@ opening_word mount word = 0
 abbrev pub opening_pass : Mount → Pass
 opening_pass mount = record {
   control = Idle;
+  asked = Sync 0;
   call = Sync 0;
   owned = [];
   sized = false;

@@ -1,9 +1,11 @@
 -- Pass steps: the pass after a step of each kind, and with a call that it begins.
 use Rattle.std.specs.Prelude.{ℕ, ◌==◌, Bool, true, false, if◌then◌else◌, List, [], ◌∷◌, ◌++◌}
 use Rattle.nv_plain.specs.Histories.{Answered}
+use Rattle.nv_plain.specs.Made.{reply_from}
 use Rattle.nv_plain.specs.declared.call.FileCall.{FileCall}
+use Rattle.nv_plain.specs.declared.call.Reply.{Reply}
 use Rattle.nv_core.specs.state.Words.{Sizes, Word, STOP, HEAD, TAIL, LENGTH, SIZE}
-use Rattle.nv_core.specs.state.Passes.{Fault, Pass, page_count}
+use Rattle.nv_core.specs.state.Passes.{Fault, Pass, page_count, plain_call}
 use Rattle.nv_core.specs.state.Cleaner.{MoveTail}
 use Rattle.nv_core.specs.state.Cleaner as cleaner
 use Rattle.nv_core.specs.steps.Ops.{Op, ByCleaner, value_after, move_of, moved, Load, Take, Place, Stop, Draw, PutBack}
@@ -62,9 +64,13 @@ abbrev pub left_after : Pass → Op → List Word
 left_after pass (PutBack cell) = cell ∷ pass.left
 left_after pass _ = pass.left
 
+-- a pass's call as the history has it: what was asked, with its reply by that of the call as made
+abbrev pub as_answered : (number : ℕ) → Pass → Reply → Answered
+as_answered number pass reply = record { caller = number; call = pass.asked; reply = reply_from pass.asked reply }
+
 -- what a step adds to the history, by its pass's number
 abbrev pub added : (number : ℕ) → Pass → Op → List Answered
-added number pass (Place reply) = record { caller = number; call = pass.call; reply = reply } ∷ []
+added number pass (Place reply) = as_answered number pass reply ∷ []
 added number pass _ = []
 
 -- the history that it has seen
@@ -81,6 +87,7 @@ mine_after number pass _ = pass.mine
 abbrev pub stepped : Sizes → (number : ℕ) → List Answered → Op → (found : ℕ) → Pass → Pass
 stepped sizes number history op found pass = record {
   control = control_after sizes pass op found;
+  asked = pass.asked;
   call = pass.call;
   owned = moved (move_of sizes op found) pass.owned;
   sized = sized_after pass op found;
@@ -99,4 +106,13 @@ stepped sizes number history op found pass = record {
 
 -- the pass with a call at hand that it begins
 abbrev pub begun : Sizes → FileCall → Pass → Pass
-begun sizes call pass = record pass { control = first_control sizes call; call = call; sized = false; length = 0; first = 0; entries = 0; fetched = [] }
+begun sizes call pass = record pass {
+  control = first_control sizes (plain_call call);
+  asked = call;
+  call = plain_call call;
+  sized = false;
+  length = 0;
+  first = 0;
+  entries = 0;
+  fetched = [];
+}

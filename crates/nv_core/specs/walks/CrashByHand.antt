@@ -6,6 +6,7 @@ use Rattle.nv_plain.specs.Files.{Files}
 use Rattle.nv_plain.specs.Images.{Image, Entry, entry_of}
 use Rattle.nv_plain.specs.Recovered.{recovered}
 use Rattle.nv_plain.specs.declared.call.FileCall.TheVariants.{Read, Write}
+use Rattle.nv_plain.specs.Made.{made_calls}
 use Rattle.nv_store.specs.Store.{Store}
 use Rattle.nv_core.specs.state.Words.{STOP, ORDER, HEAD, TAIL, LENGTH, HEADER, STORE, ENTRY, PAGE, CLEANUP}
 use Rattle.nv_core.specs.state.Values.{PieceRead, PieceWrite, Made}
@@ -16,7 +17,6 @@ use Rattle.nv_core.specs.state.Core.{Core}
 use Rattle.nv_core.specs.steps.Events.{BeginsCall, TakesStep, CallsDevice, Event, after_run, IsRun}
 use Rattle.nv_core.specs.steps.Opening.{opening}
 use Rattle.nv_core.specs.log.EntryImages.{IsRegionImage}
-use Rattle.nv_core.specs.log.LivePieces.{calls_of}
 use Rattle.nv_core.specs.crash.CrashImages.{AreImagesOfStores}
 use Rattle.nv_core.specs.walks.Walks.{walk_sizes, walk_mount, walk_bytes, walk_read, walk_write, acts, commits}
 use Rattle.nv_core.specs.walks.DirtyWalks.{walk_second}
@@ -124,7 +124,7 @@ pub record LeavesImages (image : Image) (bytes : Files) (entries : List Entry) (
 pub record ImagesByHand : Type 0 where
   pub is_run : IsRun walk_sizes (opening walk_mount) hand_events
   pub words : map hand_core.words (TAIL ∷ HEAD ∷ ENTRY 0 ∷ ENTRY 1 ∷ ENTRY 2 ∷ []) ≡ 0 ∷ 3 ∷ 12 ∷ 1034 ∷ 1 ∷ []
-  pub unplaced : calls_of hand_core.history ≡ Read 0 0 16 ∷ Write 0 0 walk_bytes ∷ []
+  pub unplaced : made_calls walk_files hand_core.history ≡ Read 0 0 16 ∷ Write 0 0 walk_bytes ∷ []
   pub each : (image : Image) (bytes : Files) → IsRegionImage walk_sizes hand_core.values image → AreImagesOfStores walk_sizes hand_core.values bytes
       → ((recovered image bytes).files ≡ two_files) ⊎ ((recovered image bytes).files ≡ three_files)
   pub old : (image : Image) × LeavesImages image walk_files (hand_entries 0) two_files

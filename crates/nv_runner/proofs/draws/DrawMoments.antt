@@ -14,6 +14,7 @@ use Rattle.nv_core.specs.invariant.OneHistory.{IsPrefix}
 use Rattle.nv_core.proofs.state.Choices.{if_both}
 use Rattle.nv_core.proofs.steps.RunLaws.{after_parts, run_parts}
 use Rattle.nv_core.proofs.invariant.HistoryLaws.{begins_all}
+use Rattle.nv_core.proofs.state.PlainCalls.{itself}
 use Rattle.nv_table.specs.state.Opened.{Opened, IsRunOf, mount_of, state_of}
 use Rattle.nv_table.specs.state.States.{PassState}
 use Rattle.nv_table.specs.state.Views.{pass_of}
@@ -50,7 +51,7 @@ takes_some sizes (Pwrite fd at bytes) file write =
 takes_some sizes (Fsync fd) file write = absurd (true≢false (sym write))
 
 placed_more : (sizes : Sizes) (calls : List Answered) (one : Answered) → placed_entries sizes (calls ++ one ∷ []) ≡ placed_entries sizes calls + entries_of sizes one.call
-placed_more sizes [] one = omega arith
+placed_more sizes [] one = let same = ap (entries_of sizes) (itself one.call) in omega (arith, same)
 placed_more sizes (first ∷ rest) one = let again = placed_more sizes rest one in omega (arith, again)
 
 -- ---- what a call adds to what its pass has ended

@@ -5,11 +5,11 @@ use Rattle.nv_plain.specs.Histories.{Answered}
 use Rattle.nv_plain.specs.declared.call.FileCall.{FileCall}
 use Rattle.nv_plain.specs.declared.call.FileCall.TheVariants.{Read, Write, Sync}
 use Rattle.nv_core.specs.state.Words.{Sizes, HEAD}
-use Rattle.nv_core.specs.state.Passes.{Fault, Idle, Pass, is_write, page_count}
+use Rattle.nv_core.specs.state.Passes.{Fault, Idle, Pass, is_write, page_count, plain_call}
 use Rattle.nv_core.specs.state.Core.{Core, changed_pass, worked, after_begin, after_step}
 use Rattle.nv_core.specs.steps.Ops.{Op, Draw, Join, Place, PutBack, Split, Stop}
 use Rattle.nv_core.specs.steps.Order.{Values}
-use Rattle.nv_core.specs.steps.PassSteps.{begun, stepped}
+use Rattle.nv_core.specs.steps.PassSteps.{begun, stepped, as_answered}
 use Rattle.nv_core.specs.steps.StepKinds.{EnabledByKind}
 use Rattle.nv_core.specs.steps.Events.{Act, BeginsCall, TakesStep, CallsDevice, Event, EventEnabled, after_act, after_event}
 use Rattle.nv_core.specs.invariant.ControlFacts.{ControlFacts}
@@ -92,12 +92,12 @@ stays_so sizes old new head head_then drawn mine faulted first =
       faults = λ _. inl opens;
     }
 
-module _ (sizes : Sizes) (values : Values) (pass : Pass) (found number head head_then : ℕ) (history : List Answered) (facts : ControlFacts sizes pass) where
+module _ (sizes : Sizes) (values : Values) (pass : Pass) (found number head head_then : ℕ) (history : List Answered) (facts : ControlFacts sizes pass) (is_made : pass.call ≡ plain_call pass.asked) where
   placed_step : (op : Op) → is_draw op ≡ false → EnabledByKind sizes values pass op → (one : Answered) → (stepped sizes number history op found pass).mine ≡ pass.mine ++ one ∷ []
       → (stepped sizes number history op found pass).faulted ≡ pass.faulted → PassStep sizes pass (stepped sizes number history op found pass) head head_then
   placed_step op no_draw may one mine faulted =
       let new = stepped sizes number history op found pass in
-      let drawn = undrawn sizes values pass found number history op no_draw facts may in
+      let drawn = undrawn sizes values pass found number history op no_draw facts is_made may in
       let long : length new.mine ≡ length (pass.mine ++ one ∷ []) = ap (λ l. length l) mine in
       let joined = length-append pass.mine (one ∷ []) in
       let opens : open_in new.faulted ≡ open_in pass.faulted = ap open_in faulted in
@@ -121,7 +121,7 @@ module _ (sizes : Sizes) (values : Values) (pass : Pass) (found number head head
       one = record { call = pass.call; first = pass.first }
 
       drawn : drawn_of sizes new ≡ drawn_of sizes pass
-      drawn = undrawn sizes values pass found number history Stop refl facts may
+      drawn = undrawn sizes values pass found number history Stop refl facts is_made may
 
       opened : (write : Bool) → is_write pass.call ≡ write → open_in new.faulted ≡ (if write then one ∷ open_in pass.faulted else open_in pass.faulted)
       opened write is = ap (λ b. if b then one ∷ open_in pass.faulted else open_in pass.faulted) is
@@ -180,15 +180,15 @@ module _ (sizes : Sizes) (values : Values) (pass : Pass) (found number head head
       won false more now same up = absurd (omega (arith, more, up))
 
 -- a step between passes is left to what follows
-step_pass : (sizes : Sizes) (values : Values) (pass : Pass) (found number head head_then : ℕ) (history : List Answered) (op : Op) → ControlFacts sizes pass → EnabledByKind sizes values pass op
+step_pass : (sizes : Sizes) (values : Values) (pass : Pass) (found number head head_then : ℕ) (history : List Answered) (op : Op) → ControlFacts sizes pass → pass.call ≡ plain_call pass.asked → EnabledByKind sizes values pass op
     → (op ≡ Draw → (found ≡ head) × (head_then ≡ (if found == pass.head then found + page_count sizes pass.call else found)))
     → PassStep sizes pass (stepped sizes number history op found pass) head head_then
-step_pass sizes values pass found number head head_then history (Place reply) facts may at_head =
-    placed_step sizes values pass found number head head_then history facts (Place reply) refl may record { caller = number; call = pass.call; reply = reply } refl refl
-step_pass sizes values pass found number head head_then history Stop facts may at_head = stopped_step sizes values pass found number head head_then history facts may
-step_pass sizes values pass found number head head_then history Draw facts may at_head = let at = at_head refl in drawn_step sizes values pass found number head head_then history facts may at.0 at.1
-step_pass sizes values pass found number head head_then history op facts may at_head =
-    stays_so sizes pass (stepped sizes number history op found pass) head head_then (undrawn sizes values pass found number history op refl facts may) refl refl (λ _. refl)
+step_pass sizes values pass found number head head_then history (Place reply) facts is_made may at_head =
+    placed_step sizes values pass found number head head_then history facts is_made (Place reply) refl may (as_answered number pass reply) refl refl
+step_pass sizes values pass found number head head_then history Stop facts is_made may at_head = stopped_step sizes values pass found number head head_then history facts is_made may
+step_pass sizes values pass found number head head_then history Draw facts is_made may at_head = let at = at_head refl in drawn_step sizes values pass found number head head_then history facts is_made may at.0 at.1
+step_pass sizes values pass found number head head_then history op facts is_made may at_head =
+    stays_so sizes pass (stepped sizes number history op found pass) head head_then (undrawn sizes values pass found number history op refl facts is_made may) refl refl (λ _. refl)
 
 -- ---- in the core
 
@@ -211,11 +211,11 @@ step_here sizes first by core (Join number) found sound made may =
 step_here sizes first by core Draw found sound made may =
     let later = after_step sizes by Draw found core in
     subst (λ (p : Pass). PassStep sizes (core.passes by) p (core.words HEAD) (later.words HEAD)) (sym (number_here core.passes by (stepped sizes by core.history Draw found (core.passes by))))
-    (step_pass sizes core.values (core.passes by) found by (core.words HEAD) (later.words HEAD) core.history Draw (sound.control_facts by) may.may (λ _. (sym may.is, word_here core.words HEAD _)))
+    (step_pass sizes core.values (core.passes by) found by (core.words HEAD) (later.words HEAD) core.history Draw (sound.control_facts by) (sound.made.each by) may.may (λ _. (sym may.is, word_here core.words HEAD _)))
 step_here sizes first by core op found sound made may =
     let later = after_step sizes by op found core in
     subst (λ (p : Pass). PassStep sizes (core.passes by) p (core.words HEAD) (later.words HEAD)) (sym (number_here core.passes by (stepped sizes by core.history op found (core.passes by))))
-    (step_pass sizes core.values (core.passes by) found by (core.words HEAD) (later.words HEAD) core.history op (sound.control_facts by) may.may (λ is. absurd (cc)))
+    (step_pass sizes core.values (core.passes by) found by (core.words HEAD) (later.words HEAD) core.history op (sound.control_facts by) (sound.made.each by) may.may (λ is. absurd (cc)))
 
 act_here : (sizes : Sizes) (first : Values) (by : ℕ) (core : Core) (act : Act) → Sound sizes first core → by ≤ core.made → ActEnabledByKind sizes by core act → StepsAt sizes by core (after_act sizes by act core)
 act_here sizes first by core (BeginsCall call op found) sound made may =

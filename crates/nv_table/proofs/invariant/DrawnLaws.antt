@@ -7,7 +7,7 @@ use Rattle.nv_plain.specs.declared.call.FileCall.{FileCall}
 use Rattle.nv_plain.specs.declared.call.FileCall.TheVariants.{Read, Write, Sync}
 use Rattle.nv_core.specs.state.Words.{Sizes, Word, STOP, ORDER, HEAD, TAIL, SIZE, LENGTH, STORE, ENTRY, HINT, PAGE, DIRTY, CLEANUP, ready, is_entry_of, slot_of_entry}
 use Rattle.nv_core.specs.state.Values.{CallEnding, Made, Failed, Refused}
-use Rattle.nv_core.specs.state.Passes.{Control, Idle, TakePage, LoadLength, TakeSize, LoadStop, LoadOrder, VisitPage, TakeCleanup, TakeStore, ReadStore, GiveStore, Searching, WriteLoadHead, WriteLoadTail, DrawNumbers, SeizeEntry, CommitGroup, PledgePage, ReadyEntry, TakePlace, GrowLength, GiveSize, GivePage, GiveBack, SetStopAfterRead, SetStopAfterPiece, SetStopAfterCommit, BreakEntry, ReadLoadHead, LoadEntry, HoldEntry, ReadPiece, GiveCleanup, Cleaning, Pass, is_read, is_write, page_count, first_page, end_page, without}
+use Rattle.nv_core.specs.state.Passes.{Control, Idle, TakePage, LoadLength, TakeSize, LoadStop, LoadOrder, VisitPage, TakeCleanup, TakeStore, ReadStore, GiveStore, Searching, WriteLoadHead, WriteLoadTail, DrawNumbers, SeizeEntry, CommitGroup, PledgePage, ReadyEntry, TakePlace, GrowLength, GiveSize, GivePage, GiveBack, SetStopAfterRead, SetStopAfterPiece, SetStopAfterCommit, BreakEntry, ReadLoadHead, LoadEntry, HoldEntry, ReadPiece, GiveCleanup, Cleaning, Pass, is_read, is_write, page_count, first_page, end_page, without, plain_call}
 use Rattle.nv_core.specs.state.Cleaner.{CleanerOp}
 use Rattle.nv_core.specs.state.Cleaner as cleaner
 use Rattle.nv_core.specs.steps.Ops.{Op, Load, Take, Give, Place, Stop, Draw, Seize, Pledge, Ready, Grow, Break, Hold, Return, Turn, Hint, ByCleaner, cleaner_move, moved}
@@ -302,12 +302,12 @@ first_at sizes call P check lock = if_both P (page_count sizes call == 0) LoadSt
 -- a call that begins has no number yet, and an idle pass has no open write
 pub begins_closed : (sizes : Sizes) (call : FileCall) (pass : Pass) → drawn_of (begun sizes call pass) ≡ lost_of pass.faulted
 begins_closed sizes call pass =
-    if_both (λ s. drawn_at 0 (is_write call) (lost_of pass.faulted) s ≡ lost_of pass.faulted) (page_count sizes call == 0) LoadStop (TakePage (first_page sizes call)) (λ _. refl) (λ _. refl)
+    first_at sizes (plain_call call) (λ s. drawn_at 0 (is_write (plain_call call)) (lost_of pass.faulted) s ≡ lost_of pass.faulted) refl (λ _. refl)
 
 -- and its first step neither draws, nor takes a place, nor ends it
 pub begun_marks : (sizes : Sizes) (values : Values) (call : FileCall) (pass : Pass) (op : Op) → EnabledByKind sizes values (begun sizes call pass) op → marks_of None op ≡ Nothing
-begun_marks sizes values call pass Draw may = absurd (first_at sizes call (λ s. s ≡ DrawNumbers → ⊥) (λ e. cc) (λ page e. cc) may)
-begun_marks sizes values call pass (Place reply) may = absurd (first_at sizes call (λ s. MayPlace sizes values (begun sizes call pass) reply s → ⊥) (λ e. e) (λ page e. e) may)
-begun_marks sizes values call pass Stop may = absurd (first_at sizes call (λ s. IsFailing s → ⊥) (λ e. e) (λ page e. e) may)
-begun_marks sizes values call pass (ByCleaner cleaner_op) may = absurd (first_at sizes call (λ s. CleanerEnabled sizes (begun sizes call pass) cleaner_op s → ⊥) (λ e. e) (λ page e. e) may)
+begun_marks sizes values call pass Draw may = absurd (first_at sizes (plain_call call) (λ s. s ≡ DrawNumbers → ⊥) (λ e. cc) (λ page e. cc) may)
+begun_marks sizes values call pass (Place reply) may = absurd (first_at sizes (plain_call call) (λ s. MayPlace sizes values (begun sizes call pass) reply s → ⊥) (λ e. e) (λ page e. e) may)
+begun_marks sizes values call pass Stop may = absurd (first_at sizes (plain_call call) (λ s. IsFailing s → ⊥) (λ e. e) (λ page e. e) may)
+begun_marks sizes values call pass (ByCleaner cleaner_op) may = absurd (first_at sizes (plain_call call) (λ s. CleanerEnabled sizes (begun sizes call pass) cleaner_op s → ⊥) (λ e. e) (λ page e. e) may)
 begun_marks sizes values call pass op may = refl

@@ -16,7 +16,7 @@ use Rattle.nv_core.specs.state.Words.{Sizes, Word, STOP, ORDER, HEAD, TAIL}
 use Rattle.nv_core.specs.steps.Frames.{Covers, OwnEventsTell}
 use Rattle.nv_core.specs.steps.Opening.{IsMount, opening}
 use Rattle.nv_core.specs.steps.Ops.{Op, Load, Place, Stop, Draw, ByCleaner, Join, value_after}
-use Rattle.nv_core.specs.steps.PassSteps.{stepped, head_after, tail_after, stopped_after, seen_after}
+use Rattle.nv_core.specs.steps.PassSteps.{stepped, head_after, tail_after, stopped_after, seen_after, as_answered}
 use Rattle.nv_core.specs.steps.Order.{Values, Work}
 use Rattle.nv_core.proofs.state.Choices.{if_both}
 use Rattle.nv_core.proofs.steps.ByKind.{FoundEnabledByKind, find_kind}
@@ -207,7 +207,7 @@ stopped_on pass (ByCleaner cleaner.Stop) found set = refl
 stopped_on pass op found set = set
 
 seen_grows : (number : ℕ) (history : List Answered) (pass : Pass) (op : Op) → length pass.seen ≤ length history → length pass.seen ≤ length (seen_after number history pass op)
-seen_grows number history pass (Place reply) less = let whole = length-append history (record { caller = number; call = pass.call; reply = reply } ∷ []) in omega (arith, whole, less)
+seen_grows number history pass (Place reply) less = let whole = length-append history (as_answered number pass reply ∷ []) in omega (arith, whole, less)
 seen_grows number history pass op less = omega arith
 
 -- ---- a step

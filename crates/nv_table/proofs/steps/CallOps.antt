@@ -5,27 +5,28 @@ use Rattle.std.specs.Bool.{then_some}
 use Rattle.std.proofs.lemmas.Nat.{mod_below}
 use Rattle.nv_plain.specs.Histories.{Answered}
 use Rattle.nv_plain.specs.declared.call.FileCall.{FileCall}
+use Rattle.nv_plain.specs.Made.{reply_from}
 use Rattle.nv_core.specs.state.Words.{Sizes, Word, ORDER, SIZE, STORE, PAGE, CLEANUP, is_lock, first_page_word}
-use Rattle.nv_core.specs.state.Passes.{Pass}
+use Rattle.nv_core.specs.state.Passes.{Pass, plain_call}
 use Rattle.nv_core.specs.state.Cleaner as cleaner
 use Rattle.nv_core.specs.steps.Ops.{Op, Load, Take, ByCleaner, word_of, value_after}
 use Rattle.nv_core.specs.steps.Order.{Work}
 use Rattle.nv_core.specs.steps.StepKinds.{MayTake, EnabledByKind}
 use Rattle.nv_core.specs.state.Core.{Core, after_work, after_begin}
-use Rattle.nv_core.specs.steps.Events.{ActEnabled, after_run}
+use Rattle.nv_core.specs.steps.Events.{ActEnabled, after_run, TakesStep, Act}
 use Rattle.nv_core.specs.steps.Opening.{IsMount, opening}
 use Rattle.nv_core.specs.invariant.InvariantLaws.{RunsAreSound}
 use Rattle.nv_core.specs.invariant.Sound.{Sound}
 use Rattle.nv_core.proofs.steps.RunLaws.{run_parts, run_both, after_parts}
 use Rattle.nv_core.proofs.steps.WordLaws.{cleaner_op_locks}
 use prog.Atomic.{either}
-use Rattle.nv_table.specs.steps.SeatSteps.{act_of, events, pass_worked, pass_before, values_before}
+use Rattle.nv_table.specs.steps.SeatSteps.{act_of, events, pass_worked, pass_before, values_before, StepTells}
 use Rattle.nv_table.specs.state.Layout.{of_page, word_of_place, slot_of_cell}
 use Rattle.nv_table.specs.state.Opened.{Opened, mount_of, state_of}
 use Rattle.nv_table.specs.steps.StepContracts.{Postcondition}
-use Rattle.nv_table.specs.state.Views.{PassView, pass_of}
+use Rattle.nv_table.specs.state.Views.{PassView, pass_of, values_of}
 use Rattle.nv_table.specs.state.States.{PassState}
-use Rattle.nv_table.specs.steps.CallSteps.{Precondition, IsTake, IsPlaced, place_op, answered_at}
+use Rattle.nv_table.specs.steps.CallSteps.{Precondition, IsTake, IsPlaced, place_op, answered_at, reply_at}
 use Rattle.nv_table.proofs.invariant.DrawnLaws.{calls_leave}
 use Rattle.nv_table.proofs.state.LayoutLaws.{at_page}
 use Rattle.nv_table.proofs.steps.RunsOn.{calls}
@@ -130,18 +131,28 @@ found_in sound old new opens op found word value mount on stepped =
 
 -- ---- the place of a call
 
+-- what a pass makes behind its step is what it was asked, as made
+made_then : RunsAreSound → (old new : PassView) (works : List Work) (act : Act) → IsMount (mount_of old.opened) → StepTells old works act new → (pass_of new).call ≡ plain_call (pass_of new).asked
+made_then sound old new works act mount told =
+    subst (λ view. (pass_of view).call ≡ plain_call (pass_of view).asked) (sym told.is)
+    ((sound (mount_of old.opened) (told.run ++ events old.number works act) mount told.is_run).made.each old.number)
+
 pub placed : RunsAreSound → (old new : PassState) (found : ℕ) → IsMount (mount_of old.view.opened) → Postcondition old None (place_op old.view) found new
     → IsPlaced old.view new.view found
 placed sound old new found mount stepped =
     let sizes = old.view.opened.sizes in
     let at = found_in sound old new None (place_op old.view) found ORDER (λ n. n + 1) mount (place_on sizes old.view) stepped in
     let history = (state_of old.view.opened stepped.steps.run).history in
-    let call = calls_leave (λ p. p.call) (λ sizes work pass. refl) sizes stepped.works (pass_of old.view) in
+    let reply = reply_at sizes (values_of old.view) (pass_of old.view) (pass_of old.view).control in
+    let asked = calls_leave (λ p. p.asked) (λ sizes work pass. refl) sizes stepped.works (pass_of old.view) in
+    let then_call = ap (λ (p : Pass). p.call) stepped.pass ∙ calls_leave (λ p. p.call) (λ sizes work pass. refl) sizes stepped.works (pass_of old.view) in
+    let then_asked = ap (λ (p : Pass). plain_call p.asked) stepped.pass ∙ ap plain_call asked in
     record {
+      made = sym then_call ∙ made_then sound old.view new.view stepped.works (TakesStep (place_op old.view) found) mount stepped.steps ∙ then_asked;
       before = history;
       count = sym at.word_is ∙ at.sound.history.order ∙ ap length at.history_is;
-      seen = ap (λ (p : Pass). p.seen) stepped.pass ∙ ap (λ c. history ++ record (answered_at old.view) { call = c } ∷ []) call;
+      seen = ap (λ (p : Pass). p.seen) stepped.pass ∙ ap (λ c. history ++ record { caller = old.view.number; call = c; reply = reply_from c reply } ∷ []) asked;
       mine = ap (λ (p : Pass). p.mine) stepped.pass
-          ∙ ap (λ c. (pass_worked sizes stepped.works (pass_of old.view)).mine ++ record (answered_at old.view) { call = c } ∷ []) call
+          ∙ ap (λ c. (pass_worked sizes stepped.works (pass_of old.view)).mine ++ record { caller = old.view.number; call = c; reply = reply_from c reply } ∷ []) asked
           ∙ ap (λ l. l ++ answered_at old.view ∷ []) (calls_leave (λ p. p.mine) (λ sizes work pass. refl) sizes stepped.works (pass_of old.view));
     }

@@ -5,11 +5,12 @@ use Rattle.nv_plain.specs.declared.call.FileCall.{FileCall}
 use Rattle.nv_plain.specs.declared.call.Reply.{Reply}
 use Rattle.nv_plain.specs.declared.call.Reply.TheVariants.{Bytes}
 use Rattle.nv_core.specs.state.Words.{Sizes, Word, IsWord}
-use Rattle.nv_core.specs.state.Passes.{Control, Pass, TakePlace}
+use Rattle.nv_core.specs.state.Passes.{Control, Pass, TakePlace, plain_call}
 use Rattle.nv_core.specs.state.Cleaner as cleaner
 use Rattle.nv_core.specs.invariant.ControlFacts.{ControlFacts}
 use Rattle.nv_core.specs.steps.Ops.{Op, word_of, Take, Place, ByCleaner}
 use Rattle.nv_core.specs.steps.Order.{Values, Work, Enabled, plain_reply, gathered}
+use Rattle.nv_core.specs.steps.PassSteps.{as_answered}
 use Rattle.nv_table.specs.state.Views.{PassView, pass_of, values_of}
 use Rattle.nv_table.specs.steps.SeatSteps.{AreDue, MayOpen, pass_worked, pass_before, values_before}
 use Rattle.nv_table.specs.state.States.{PassState}
@@ -53,14 +54,12 @@ IsTake op cell = (op ≡ Take cell) ⊎ (op ≡ ByCleaner (cleaner.Take cell))
 
 -- the call as it ends the history
 abbrev pub answered_at : PassView → Answered
-answered_at view = record {
-  caller = view.number;
-  call = (pass_of view).call;
-  reply = reply_at view.opened.sizes (values_of view) (pass_of view) (pass_of view).control;
-}
+answered_at view = as_answered view.number (pass_of view) (reply_at view.opened.sizes (values_of view) (pass_of view) (pass_of view).control)
 
--- It has its place behind as many calls as ORDER was found at; the pass has seen the history up to there, and has one more call of its own.
+-- It has its place behind as many calls as ORDER was found at; the pass has seen the history up to there, and has one more call of its own. It
+-- was made as the plain call that was asked.
 pub record IsPlaced (old new : PassView) (found : ℕ) : Type 0 where
+  pub made : (pass_of old).call ≡ plain_call (pass_of old).asked
   pub before : List Answered
   pub count : found ≡ length before
   pub seen : (pass_of new).seen ≡ before ++ answered_at old ∷ []

@@ -9,4 +9,8 @@ returns c = record {
   goes_on = c.history_goes_on.ensures.files;
   legally = c.history_goes_on.ensures.legal;
   count = c.history_goes_on.ensures.count;
+  made = c.calls_are_made_right.ensures.calls;
+  made_histories = c.calls_are_made_right.ensures.histories;
+  made_on = c.calls_are_made_right.ensures.goes_on;
+  alike = c.calls_are_made_right.ensures.alike;
 }

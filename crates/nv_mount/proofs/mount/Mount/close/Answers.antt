@@ -29,21 +29,21 @@ returns-clause-stored g c =
     have g.L.Lines.device g.L.Lines.history g.L.Lines.fault_count g.L.Lines.room g.B.Backing.device g.B.Backing.history g.B.Backing.fault_count
     c.self.inside.board c.args.pass c.close.result.parts.items c.close.result.stores.items c.close.result.placed c.close.result.tail (subst (λ (m : MountState). IsOf m.board c.args.pass) (sym c.self.view_is) c.requires.board) c.close.ensures
     c.runs_are_sound.ensures.runs c.sees_a_run.ensures.mount c.sees_a_run.ensures.run c.requires.zero (c.has_taken_in.ensures c.requires.zero) (omega arith)
-    c.passes_are_left_alone.ensures.own c.runs_keep_the_log.ensures.runs c.crashes_leave_whole_writes.ensures.region c.empty_logs_rest.ensures.rest c.rows_have_states.ensures.each
+    c.calls_are_made_right.ensures.histories c.passes_are_left_alone.ensures.own c.runs_keep_the_log.ensures.runs c.crashes_leave_whole_writes.ensures.region c.empty_logs_rest.ensures.rest c.rows_have_states.ensures.each
 
 pub returns-clause-rest : goal.returns-clause-rest
 returns-clause-rest g c =
     rests g.L.Lines.device g.L.Lines.history g.L.Lines.fault_count g.L.Lines.room g.B.Backing.device g.B.Backing.history g.B.Backing.fault_count
     c.self.inside.board c.args.pass c.close.result.parts.items c.close.result.stores.items c.close.result.placed c.close.result.tail (subst (λ (m : MountState). IsOf m.board c.args.pass) (sym c.self.view_is) c.requires.board) c.close.ensures
     c.runs_are_sound.ensures.runs c.sees_a_run.ensures.mount c.sees_a_run.ensures.run c.requires.zero (c.has_taken_in.ensures c.requires.zero) (omega arith)
-    c.passes_are_left_alone.ensures.own c.runs_keep_the_log.ensures.runs c.crashes_leave_whole_writes.ensures.region c.empty_logs_rest.ensures.rest c.rows_have_states.ensures.each
+    c.calls_are_made_right.ensures.histories c.passes_are_left_alone.ensures.own c.runs_keep_the_log.ensures.runs c.crashes_leave_whole_writes.ensures.region c.empty_logs_rest.ensures.rest c.rows_have_states.ensures.each
 
 pub returns-clause-crash : goal.returns-clause-crash
 returns-clause-crash g c =
     crash g.L.Lines.device g.L.Lines.history g.L.Lines.fault_count g.L.Lines.room g.B.Backing.device g.B.Backing.history g.B.Backing.fault_count
     c.self.inside.board c.args.pass c.close.result.parts.items c.close.result.stores.items c.close.result.placed c.close.result.tail (subst (λ (m : MountState). IsOf m.board c.args.pass) (sym c.self.view_is) c.requires.board) c.close.ensures
     c.runs_are_sound.ensures.runs c.sees_a_run.ensures.mount c.sees_a_run.ensures.run c.requires.zero (c.has_taken_in.ensures c.requires.zero) (omega arith)
-    c.passes_are_left_alone.ensures.own c.runs_keep_the_log.ensures.runs c.runs_keep_the_log.ensures.images c.runs_keep_the_log.ensures.old c.crashes_leave_whole_writes.ensures.region c.crashes_leave_whole_writes.ensures.states
+    c.calls_are_made_right.ensures.histories c.passes_are_left_alone.ensures.own c.runs_keep_the_log.ensures.runs c.runs_keep_the_log.ensures.images c.runs_keep_the_log.ensures.old c.crashes_leave_whole_writes.ensures.region c.crashes_leave_whole_writes.ensures.states
     c.crashes_leave_whole_writes.ensures.faults c.crashes_leave_whole_writes.ensures.order c.writes_in_flight_keep_apart.ensures.numbers c.writes_in_flight_keep_apart.ensures.pages
 
 pub returns-clause-stopped : goal.returns-clause-stopped
