@@ -21,9 +21,13 @@ pub record AreKept (kept : KeptCalls) (placed : List PlacedCall) (refused : List
   pub refused_are : kept.refused_count ≡ length (shown_refusals refused)
   pub open_are : map kept_open_call kept.open_calls.items ≡ open_calls
 
+-- What is kept is that of the calls of these lists: of those that have a place, of the refused ones and of those that were left open.
+abbrev pub AreKeptOf : KeptCalls → SortedCalls → Type 0
+AreKeptOf kept sorted = AreKept kept (map placed_call sorted.placed.items) (map refused_call sorted.refused.items) (map opened_call sorted.open_calls.items)
+
 -- What is kept of a run is of the calls that it is sorted out to, whether or not there is a list of them; or it was ended by this error.
 abbrev pub IsKeptOf : Result KeptCalls RunError → Result SortedCalls RunError → Type 0
-IsKeptOf (Ok kept) (Ok sorted) = AreKept kept (map placed_call sorted.placed.items) (map refused_call sorted.refused.items) (map opened_call sorted.open_calls.items)
+IsKeptOf (Ok kept) (Ok sorted) = AreKeptOf kept sorted
 IsKeptOf (Ok kept) (Err error) = ⊥
 IsKeptOf (Err error) (Ok sorted) = ⊥
 IsKeptOf (Err error) (Err other) = other ≡ error

@@ -32,8 +32,8 @@ pub struct KeptCalls {
 }
 
 impl KeptCalls {
-    /// Nothing, before the first round. Takes no memory.
-    pub(crate) fn new(alloc: Global) -> Self
+    /// What is kept before the first round: nothing. Takes no memory.
+    pub fn new(alloc: Global) -> Self
         ensures { AreKept result [] [] [] }
     {
         KeptCalls {
@@ -44,12 +44,9 @@ impl KeptCalls {
         }
     }
 
-    /// Takes what is to be kept of a round's calls. The lines of those that have a place, behind those of the rounds before.
-    pub(crate) fn take(
-        &mut self,
-        alloc: Global,
-        sorted: SortedCalls<'_>,
-    ) -> Result<Vec<u8>, NoMemory>
+    /// Takes what is to be kept of a round's calls behind those of the rounds before, and gives the lines of those that have a place, counted on from theirs. Takes memory for these lines, for those of the refused
+    /// calls and for a copy of each open call; where it is wanting some of the round's calls may be kept already, and nothing tells which.
+    pub fn take(&mut self, alloc: Global, sorted: SortedCalls<'_>) -> Result<Vec<u8>, NoMemory>
         requires placed { self.old.placed + length sorted.placed.items < 2 ^ 64 }
         requires refused { self.old.refused_count + length sorted.refused.items < 2 ^ 64 }
         ensures lines { IfOk result (λ text. text.items ≡ history_lines self.old.placed (map placed_call sorted.entry.placed.items)) }
