@@ -1,5 +1,5 @@
 //! Where traces come from and reports go.
-ghost use Rattle.std.specs.Prelude.{◌≡◌, ℕ, ◌<◌, ◌≤◌, List, length, take, Option, Some, IfOk, IfSome, OnOk, OnErr};
+ghost use Rattle.std.specs.Prelude.{◌≡◌, ◌≢◌, ℕ, ◌<◌, ◌≤◌, List, [], length, take, Option, Some, IfOk, IfSome, OnOk, OnErr};
 ghost use Rattle.nv_plain.specs.Faults.{HasCause};
 ghost use Rattle.nv_trace.specs.Streams.{HasRead, Appends};
 
@@ -52,10 +52,11 @@ pub trait Sink {
         ensures { result ≡ fault_count self.now };
 }
 
-/// Writes all of the bytes. After `Failed` a front of them is written.
+/// Writes all of the bytes. After `Failed` a front of them is written. No bytes are written without a call of the sink.
 pub fn write_all<O: Sink>(out: &mut O, bytes: &[u8]) -> Result<(), Failed>
     ensures all { OnOk result (Appends (O.written out.old) (O.written out.new) bytes.now) }
     ensures front { OnErr result ((count : ℕ) × Appends (O.written out.old) (O.written out.new) (take count bytes.now)) }
+    ensures wanted { OnErr result (bytes.now ≢ []) }
     ensures cause { HasCause (O.fault_count out.old) (O.fault_count out.new) result }
 {
     let mut rest = bytes;
