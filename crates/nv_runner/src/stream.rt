@@ -1,5 +1,5 @@
 //! Rounds that are run as they are read.
-ghost use Rattle.std.specs.Prelude.{◌≡◌, ◌≢◌, ◌+◌, ◌<◌, ◌≤◌, ◌^◌, [], List, Some, Err, IsErr, IsOk, IfSome, OnErr, OnOk, length, map, sum_by, true};
+ghost use Rattle.std.specs.Prelude.{◌≡◌, ◌≢◌, ◌+◌, ◌<◌, ◌≤◌, ◌^◌, [], List, Some, Err, IsErr, IsOk, IfSome, OnErr, OnOk, length, map, sum_by, false, true};
 ghost use Rattle.nv_plain.specs.Faults.{Rose};
 ghost use Rattle.nv_table.specs.ends.Closing.{IsClosed};
 ghost use Rattle.nv_table.specs.state.SlotValues.{part_value, slot_value, store_value};
@@ -164,6 +164,7 @@ fn run_read<
     ensures still { IsZeroStill zero.old zero.new }
     ensures all_in { length zero.new.view.ended ≡ made_of zero.new.view }
     ensures ran { HasRunRead mount.now.fds batch more trace.old reader.old (I.left src.old) (O.written out.old) (O.written out.new) kept.new zero.new result }
+    ensures unread { more ≡ false → src.new ≡ src.old }
     ensures at_end { IsOk result → more ≡ true → IfSome (I.left src.old) (λ _. I.left src.new ≡ Some []) }
     ensures read_failed { result ≡ Err (errors.Read read_errors.Failed) → Rose (I.fault_count src.old) (I.fault_count src.new) }
     ensures read_kept { result ≢ Err (errors.Read read_errors.Failed) → I.fault_count src.new ≡ I.fault_count src.old }
@@ -200,7 +201,7 @@ fn tell_kept(ran: Result<(), RunError>, kept: KeptCalls) -> Result<KeptCalls, Ru
     Ok(kept)
 }
 
-/// Runs the rounds of an input over a mount, each as soon as it is read: the one at hand first, which `trace` holds and a line ended where `more` says so, and then those that `reader` takes of the source.
+/// Runs the rounds of an input over a mount, each as soon as it is read: the one at hand first, which `trace` holds and a line ended where `more` says so, and then, where one did, those that `reader` takes of the source.
 /// A round has as many threads as its calls ask for, and a cleaner beside them where the plan has a worker. The lines of those of its calls that have a place are written before the next round is read. Where the
 /// run isn't to be stopped the log is cleaned until it is empty, also where a round is refused or a stream has failed. Then the mount is closed. Of the rounds that ended only what is kept stays in memory.
 pub fn run_stream<
@@ -238,6 +239,7 @@ pub fn run_stream<
         (sum_by L.fault_count result.closed.parts.items + sum_by B.fault_count result.closed.stores.items)
         result.closed.placed result.closed.tail }
     ensures memory { result.ended ≡ Err errors.NoMemory → IsErr result.calls }
+    ensures unread { more ≡ false → src.new ≡ src.old }
     ensures at_end { IsOk result.ended → more ≡ true → IfSome (I.left src.old) (λ _. I.left src.new ≡ Some []) }
     ensures read_failed { result.ended ≡ Err (errors.Read read_errors.Failed) → Rose (I.fault_count src.old) (I.fault_count src.new) }
     ensures read_kept { result.ended ≢ Err (errors.Read read_errors.Failed) → I.fault_count src.new ≡ I.fault_count src.old }

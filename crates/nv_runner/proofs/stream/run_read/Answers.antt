@@ -1,6 +1,7 @@
 -- Each round is run behind those before it, and the next one read.
 use Rattle.std.proofs.Common.{◌≡◌, ◌++◌, true, false, length, refl, sym, ap, subst, ◌∙◌, arith}
 use Rattle.std.specs.Prelude.{IfSome, Ok}
+use Rattle.std.proofs.lemmas.Bool.{false≢true}
 use Rattle.std.proofs.lemmas.Result.{err_from_is_err_and}
 use Rattle.nv_trace.specs.NextRound.{IsRoundRefused, ahead}
 use Rattle.nv_runner.proofs.PassLaws.{still_on, still_same}
@@ -17,6 +18,7 @@ loop-trace-init g c = record {
   few = omega (arith, c.requires.none_made);
   few_more = λ _. omega (arith, c.requires.none_made);
   amid = first_amid c.args.mount.now.fds c.args.batch c.args.more c.args.trace.now c.args.reader.now (g.I.Source.left c.args.src.now) (g.O.Sink.written c.args.out.now) c.args.kept.now c.args.zero.now c.requires.first c.requires.none c.requires.new;
+  unread = λ last. (last, refl);
   reads = refl;
   writes = refl;
 }
@@ -125,9 +127,21 @@ loop-trace-preserved g c =
       amid = amid_read c.args.mount.now.fds c.args.batch c.args.more c.in_ok-more.more first c.args.reader.now now c.drop_calls.new.self reader c.next_round.new.trace c.next_round.new.self told left (g.I.Source.left c.next_round.new.src) (g.O.Sink.written c.args.out.now)
           (g.O.Sink.written c.run_written.new.out) c.run_written.new.kept c.run_written.new.zero amid.before (Ok c.in_ok-more.more) refl trace hand run c.run_written.ensures.well_formed c.drop_calls.ensures read.adds read.within read.counts read.further read.numbered c.next_round.ensures.form
           read.onward read.round read.last;
+      unread = λ last. absurd (false≢true (sym (inv.unread last).0 ∙ more));
       reads = read.kept (λ is. absurd (cc)) ∙ inv.reads;
       writes = c.in_ok-run_written.ensures.same (λ is. absurd (cc)) ∙ inv.writes;
     }
+
+pub returns-in_err-run_written-clause-unread : goal.returns-in_err-run_written-clause-unread
+returns-in_err-run_written-clause-unread g c = λ last. (c.loop-trace.invariant.unread last).1
+
+pub returns-then-not-more-clause-unread : goal.returns-then-not-more-clause-unread
+returns-then-not-more-clause-unread g c = λ last. (c.loop-trace.invariant.unread last).1
+
+pub returns-in_err-more-clause-unread : goal.returns-in_err-more-clause-unread
+returns-in_err-more-clause-unread g c =
+    let more : c.loop-trace.more ≡ true = grind (arith, c.if-not-more.false) in
+    λ last. absurd (false≢true (sym (c.loop-trace.invariant.unread last).0 ∙ more))
 
 pub loop-trace-smaller : goal.loop-trace-smaller
 loop-trace-smaller g c =
