@@ -1,5 +1,5 @@
 -- Streams: rounds of an input that are run as they are read, each before the next is read.
-use Rattle.std.specs.Prelude.{◌≡◌, ◌⊎◌, ℕ, ◌<◌, ◌≤◌, Bool, true, false, List, ◌++◌, map, take, All, Option, IfSome, Result, Ok, Err, IfOk}
+use Rattle.std.specs.Prelude.{◌≡◌, ◌⊎◌, ℕ, ◌<◌, ◌≤◌, Bool, true, false, List, ◌++◌, length, map, take, All, Option, IfSome, Result, Ok, Err, IfOk}
 use Rattle.std.specs.List.Sorted.{IsStrictlyIncreasing}
 use Rattle.nv_table.specs.state.States.{PassState}
 use Rattle.nv_mount.specs.declared.fds.Fd.{Fd}
@@ -14,6 +14,7 @@ use Rattle.nv_trace.specs.declared.reader.LineReader.{LineReader}
 use Rattle.nv_runner.specs.declared.kept.KeptCalls.{KeptCalls}
 use Rattle.nv_runner.specs.declared.plan.Plan.{Plan}
 use Rattle.nv_runner.specs.declared.run_error.RunError.{RunError}
+use Rattle.nv_runner.specs.declared.running.TheConstants.{MOST_CALLS}
 use Rattle.nv_runner.specs.declared.sorted.SortedCalls.{SortedCalls}
 use Rattle.nv_runner.specs.declared.stream.StreamError.{StreamError}
 use Rattle.nv_runner.specs.declared.stream.StreamError.TheVariants.{NoMemory, Read, Write}
@@ -71,13 +72,14 @@ abbrev pub IsAllRead : (more : Bool) → (first : Traced) → LineReader → (in
 IsAllRead true first reader input ended all = AreRoundsOf first reader input ended all
 IsAllRead false first reader input ended all = (all ≡ first) × NoneWasRead ended
 
--- The trace of rounds that were read behind a first one has its files and descriptors, and is one that may be run.
+-- The trace of rounds that were read behind a first one has its files and descriptors, and is one that may be run, with no more calls than are run.
 pub record IsTraceFrom (first all : Traced) : Type 0 where
   pub form : all.form ≡ first.form
   pub names : all.names ≡ first.names
   pub descriptors : all.descriptors ≡ first.descriptors
   pub well_formed : IsWellFormed all
   pub lines : IsStrictlyIncreasing (lines_in all)
+  pub few : length all.calls ≤ MOST_CALLS
 
 -- ---- what was written
 

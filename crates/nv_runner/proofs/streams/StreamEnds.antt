@@ -33,7 +33,7 @@ use Rattle.nv_runner.proofs.LifeLaws.{falls_nowhere, sorted_by}
 use Rattle.nv_runner.proofs.streams.StreamLists.{turn_by_place}
 use Rattle.nv_runner.proofs.streams.StreamParts.{parted_so, parts_few, parts_joined, placed_joined}
 use Rattle.nv_runner.proofs.streams.StreamReads.{HandIs, hand_ended, hand_refused}
-use Rattle.nv_runner.proofs.streams.StreamSteps.{HaveRunSoFar, IsTraceSoFar, of_made, trace_few, trace_is}
+use Rattle.nv_runner.proofs.streams.StreamSteps.{HaveRunSoFar, IsTraceSoFar, of_made, trace_is}
 
 -- ---- lines
 
@@ -140,7 +140,7 @@ module _ (more : Bool) (first now : Traced) (reader : LineReader) (before : List
       let both = length-append made run.made in
       let long = length_permutation (calls_made run.made) before run.all in
       let same = length-map run.made (λ (m : MadeCall). m.call) in
-      let most = trace_few first now reader before more trace in
+      let most = trace.few in
       let line = trace.hand.at_line.number in
       let taken = trace.hand.at_line.taken in
       omega (arith, few, both, long, same, most, line, taken)
@@ -244,7 +244,7 @@ module _ (first now : Traced) (reader : LineReader) (before : List TracedCall) (
         (let long = length_permutation (calls_made run.made) (before ++ now.calls) run.all in
         let both = length-append before now.calls in
         let same = length-map run.made (λ (m : MadeCall). m.call) in
-        let most = trace_few first now reader before more trace in
+        let most = trace.few in
         let line = trace.hand.at_line.number in
         let taken = trace.hand.at_line.taken in
         omega (arith, long, both, same, most, line, taken));

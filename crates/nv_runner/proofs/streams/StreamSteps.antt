@@ -58,7 +58,8 @@ pub record IsTraceSoFar (more : Bool) (first now : Traced) (reader : LineReader)
   pub above : All (λ call. call.line < from) before
   pub below : All (λ call. from ≤ call.line) now.calls
   pub reached : from ≤ reader.pending.number
-  pub few : length before ≤ from
+  -- fewer calls than lines
+  pub few : length before + length now.calls < reader.pending.number
   pub lines : IsStrictlyIncreasing (lines_in (behind_calls before now))
   pub formed : IsWellFormed now → IsWellFormed (behind_calls before now)
 
@@ -77,7 +78,7 @@ first_trace more first reader hand = record {
   above = All-nil (λ (call : TracedCall). call.line < 0);
   below = λ k d within. omega arith;
   reached = omega arith;
-  few = omega arith;
+  few = (let few = hand.numbered.few in omega (arith, few));
   lines = hand.numbered.line_order;
   formed = λ formed. formed;
 }
@@ -107,14 +108,6 @@ formed_next before now next first second same rounds all = record {
 }
 
 module _ (first now : Traced) (reader : LineReader) (before : List TracedCall) where
-  -- So many calls are those so far.
-  pub trace_few : (more : Bool) → IsTraceSoFar more first now reader before → length before + length now.calls ≤ reader.pending.number
-  trace_few more trace =
-      let long = length-map now.calls line_of in
-      let few = rising_few (map line_of now.calls) trace.from reader.pending.number trace.hand.numbered.line_order (All-map (λ n. trace.from ≤ n) line_of now.calls trace.below) (All-map (λ n. n < reader.pending.number) line_of now.calls trace.hand.numbered.below) trace.reached in
-      let less = trace.few in
-      omega (arith, long, few, less)
-
   -- Another round was read behind the one at hand, which a line had ended.
   module _ (trace : IsTraceSoFar true first now reader before) (next : Traced) (new : LineReader) (adds : AddsCalls reader.pending.number (without_calls now) next) where
     few_rounds : now.rounds ≤ 67108864
@@ -156,6 +149,15 @@ module _ (first now : Traced) (reader : LineReader) (before : List TracedCall) w
         (All-weaker (λ (call : TracedCall). call.line < trace.from) (λ call. call.line < reader.pending.number) (λ call below. (let reached = trace.reached in omega (arith, below, reached))) before trace.above)
         trace.hand.numbered.below
 
+    -- each call of the next one has a line of its own, behind the others
+    few_calls : (number : ℕ) → IsNumberedBelow number next → reader.pending.number ≤ number → length (before ++ now.calls) + length next.calls < number
+    few_calls number numbered onward =
+        let long = length-map next.calls line_of in
+        let run = rising_few (map line_of next.calls) reader.pending.number number numbered.line_order (All-map (λ n. reader.pending.number ≤ n) line_of next.calls its_lines) (All-map (λ n. n < number) line_of next.calls numbered.below) onward in
+        let both = length-append before now.calls in
+        let few = trace.few in
+        omega (arith, long, run, both, few)
+
     pub trace_next : (more : Bool) → IsWellFormed now → (hand : IsRoundAtHand more next new) → hand.round ≡ now.rounds → next.form ≡ now.form → reader.pending.number ≤ new.pending.number → IsTraceSoFar more first next new (before ++ now.calls)
     trace_next more formed hand round form onward = record {
       hand = hand;
@@ -171,7 +173,7 @@ module _ (first now : Traced) (reader : LineReader) (before : List TracedCall) w
       above = below_number;
       below = its_lines;
       reached = onward;
-      few = (let few = trace_few true trace in omega (arith, few, length-append before now.calls));
+      few = few_calls new.pending.number hand.numbered onward;
       lines =
           subst IsStrictlyIncreasing (sym (map-append line_of (before ++ now.calls) next.calls))
           (rising_joined reader.pending.number (map line_of (before ++ now.calls)) (map line_of next.calls) trace.lines hand.numbered.line_order (All-map (λ n. n < reader.pending.number) line_of (before ++ now.calls) below_number)
@@ -182,8 +184,19 @@ module _ (first now : Traced) (reader : LineReader) (before : List TracedCall) w
 
 -- what they are as one trace
 pub trace_is : (more : Bool) (first now : Traced) (reader : LineReader) (before : List TracedCall) → IsTraceSoFar more first now reader before → IsWellFormed now → IsTraceFrom first (behind_calls before now)
-trace_is more first now reader before trace formed =
-    record { form = trace.form; names = trace.names; descriptors = trace.descriptors; well_formed = trace.formed formed; lines = trace.lines }
+trace_is more first now reader before trace formed = record {
+  form = trace.form;
+  names = trace.names;
+  descriptors = trace.descriptors;
+  well_formed = trace.formed formed;
+  lines = trace.lines;
+  few =
+      (let few = trace.few in
+      let both = length-append before now.calls in
+      let line = trace.hand.at_line.number in
+      let taken = trace.hand.at_line.taken in
+      omega (arith, few, both, line, taken));
+}
 
 -- ---- the run
 
@@ -219,7 +232,7 @@ next_at_hand more first now reader before made trace all = record {
 pub counts_few : (more : Bool) (first now : Traced) (reader : LineReader) (before : List TracedCall) (fds : List Fd) (worker : Option ℕ) (start text : Option (List ℕ)) (kept : KeptCalls) (zero : PassState) → IsTraceSoFar more first now reader before
     → HaveRunSoFar fds worker before start text kept zero → (kept.placed + length now.calls ≤ 67108865) × (kept.refused_count + length now.calls ≤ 67108865)
 counts_few more first now reader before fds worker start text kept zero trace run =
-    let few = trace_few first now reader before more trace in
+    let few = trace.few in
     let line = trace.hand.at_line.number in
     let taken = trace.hand.at_line.taken in
     let parts = parts_few run.made run.placed run.refused run.opened run.parted in
