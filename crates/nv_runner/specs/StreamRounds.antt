@@ -54,6 +54,7 @@ pub record HasKeptRound (calls : List TracedCall) (made : List MadeCall) (before
   pub parted : ArePartedAs made placed refused opened
   pub kept : (p : List PlacedCall) (r : List RefusedCall) (o : List OpenedCall) → AreKept old p r o → AreKept new (p ++ placed) (r ++ refused) (o ++ opened)
   pub written : HasWritten before now ended (history_lines old.placed placed)
+  pub wrote : ended ≡ Err Write → placed ≢ []
 
 -- Where memory was wanting some first ones of each thread's were made, and nothing was written.
 abbrev pub IsRoundEnded : List TracedCall → List MadeCall → (before now : Option (List ℕ)) → (old new : KeptCalls) → Result (Unit {0}) StreamError → Type 0
@@ -93,3 +94,4 @@ pub record HasRunRead (fds : List Fd) (worker : Option ℕ) (more : Bool) (first
   pub parted : ended ≢ Err NoMemory → ArePartedAs made placed refused opened
   pub kept_are : ended ≢ Err NoMemory → AreKept kept placed refused opened
   pub written : HasWritten before now ended (history_lines 0 placed)
+  pub wrote : ended ≡ Err Write → placed ≢ []

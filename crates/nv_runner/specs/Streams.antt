@@ -1,5 +1,5 @@
 -- Streams: rounds of an input that are run as they are read, each before the next is read.
-use Rattle.std.specs.Prelude.{◌≡◌, ◌⊎◌, ℕ, ◌<◌, ◌≤◌, Bool, true, false, List, ◌++◌, length, map, take, All, Option, IfSome, Result, Ok, Err, IfOk}
+use Rattle.std.specs.Prelude.{◌≡◌, ◌≢◌, ◌⊎◌, ℕ, ◌<◌, ◌≤◌, Bool, true, false, List, [], ◌++◌, length, map, take, All, Option, IfSome, Result, Ok, Err, IfOk}
 use Rattle.std.specs.List.Sorted.{IsStrictlyIncreasing}
 use Rattle.nv_table.specs.state.States.{PassState}
 use Rattle.nv_mount.specs.declared.fds.Fd.{Fd}
@@ -105,3 +105,5 @@ pub record HasStreamed (fds : List Fd) (plan : Plan) (start : PassState) (more :
   pub first_shown : AreFirstPlaced ran.made shown
   pub all_shown : IfOk outcome (λ sorted. shown ≡ map placed_call sorted.placed.items)
   pub written : HasWritten before now ended (history_lines 0 shown)
+  -- a sink can fail only where there is a line to write
+  pub wrote : ended ≡ Err Write → shown ≢ []

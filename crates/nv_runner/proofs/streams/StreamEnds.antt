@@ -1,5 +1,5 @@
 -- How a run of rounds ends, as they are read.
-use Rattle.std.proofs.Common.{◌≡◌, ℕ, suc, ◌+◌, ◌<◌, ◌≤◌, Bool, true, false, List, [], ◌∷◌, ◌++◌, length, map, take, inl, inr, refl, sym, ap, subst, ◌∙◌, arith, append_assoc, append-nil, length-append}
+use Rattle.std.proofs.Common.{◌≡◌, ◌≢◌, ℕ, suc, ◌+◌, ◌<◌, ◌≤◌, Bool, true, false, List, [], ◌∷◌, ◌++◌, length, map, take, inl, inr, refl, sym, ap, subst, ◌∙◌, arith, append_assoc, append-nil, length-append}
 use Rattle.std.specs.Prelude.{All, IsPermutation, Option, Some, None, IfSome, Result, Ok, Err}
 use Rattle.std.proofs.lemmas.Bool.{false≢true}
 use Rattle.std.proofs.lemmas.List.{length-map, map-append}
@@ -56,6 +56,10 @@ taken_behind (x ∷ first) n later =
     let same : suc (length first + n) ≡ suc (length first) + n = omega arith in
     ap (λ l. x ∷ l) (taken_behind first n later) ∙ ap (λ m. take m (x ∷ (first ++ later))) same
 
+none_behind : (first later : List PlacedCall) → first ++ later ≡ [] → later ≡ []
+none_behind [] later none = none
+none_behind (p ∷ first) later none = absurd (cc)
+
 -- ---- one round
 
 -- memory was wanting, before anything was written
@@ -66,8 +70,8 @@ round_wanting fds worker calls earlier zero text old new sorted ran = record { m
 -- all of its calls were made, sorted out and kept
 pub round_kept : (calls : List TracedCall) (made : List MadeCall) (before now : Option (List ℕ)) (old new : KeptCalls) (ended : Result (Unit {0}) StreamError) (sorted : SortedCalls) → AreSortedOut made sorted → IsPermutation (calls_made made) calls
     → ((p : List PlacedCall) (r : List RefusedCall) (o : List OpenedCall) → AreKept old p r o → AreKept new (p ++ map placed_call sorted.placed.items) (r ++ map refused_call sorted.refused.items) (o ++ map opened_call sorted.open_calls.items))
-    → HasWritten before now ended (history_lines old.placed (map placed_call sorted.placed.items)) → HasKeptRound calls made before now old new ended
-round_kept calls made before now old new ended sorted out all kept written = record {
+    → HasWritten before now ended (history_lines old.placed (map placed_call sorted.placed.items)) → (ended ≡ Err Write → map placed_call sorted.placed.items ≢ []) → HasKeptRound calls made before now old new ended
+round_kept calls made before now old new ended sorted out all kept written wrote = record {
   all = all;
   placed = map placed_call sorted.placed.items;
   refused = map refused_call sorted.refused.items;
@@ -75,6 +79,7 @@ round_kept calls made before now old new ended sorted out all kept written = rec
   parted = parted_so made sorted out;
   kept = kept;
   written = written;
+  wrote = wrote;
 }
 
 -- no more are listed of a kind than the round has calls
@@ -91,12 +96,17 @@ module _ (fds : List Fd) (worker : Option ℕ) (calls : List TracedCall) (earlie
     (lines : text ≡ history_lines old.placed (map placed_call sorted.placed.items)) where
   -- the sink took all of their lines
   pub round_written : Appends before now text → HasRunWritten fds worker calls earlier zero before now old new (Ok tt)
-  round_written written = record { made = made; ran = ran; ended = round_kept calls made before now old new (Ok tt) sorted out all kept (subst (Appends before now) lines written) }
+  round_written written = record { made = made; ran = ran; ended = round_kept calls made before now old new (Ok tt) sorted out all kept (subst (Appends before now) lines written) (λ is. absurd (cc)) }
 
   -- the sink failed
-  pub round_unwritten : (count : ℕ) × Appends before now (take count text) → HasRunWritten fds worker calls earlier zero before now old new (Err Write)
-  round_unwritten front =
-      record { made = made; ran = ran; ended = round_kept calls made before now old new (Err Write) sorted out all kept (front.0, subst (λ l. Appends before now (take front.0 l)) lines front.1) }
+  pub round_unwritten : text ≢ [] → (count : ℕ) × Appends before now (take count text) → HasRunWritten fds worker calls earlier zero before now old new (Err Write)
+  round_unwritten some front = record {
+    made = made;
+    ran = ran;
+    ended =
+        round_kept calls made before now old new (Err Write) sorted out all kept (front.0, subst (λ l. Appends before now (take front.0 l)) lines front.1)
+        (λ _ none. some (lines ∙ ap (history_lines old.placed) none));
+  }
 
 -- ---- one round more
 
@@ -193,6 +203,7 @@ module _ (more : Bool) (first now : Traced) (reader : LineReader) (before : List
                 (taken_behind (history_lines 0 run.placed) round.written.0 (history_lines kept.placed round.placed) ∙ ap (take (length (history_lines 0 run.placed) + round.written.0)) (sym (lines written.made (Err Write) written.ran.within round)))
                 (appended_twice start text new_text (history_lines 0 run.placed) (take round.written.0 (history_lines kept.placed round.placed)) run.written round.written.1),
           );
+          wrote = λ is none. round.wrote is (none_behind run.placed round.placed none);
         }
 
     -- memory was wanting
@@ -220,6 +231,7 @@ module _ (more : Bool) (first now : Traced) (reader : LineReader) (before : List
           parted = λ differ. absurd (differ refl);
           kept_are = λ differ. absurd (differ refl);
           written = subst (λ t. Appends start t (history_lines 0 run.placed)) (sym written.ended) run.written;
+          wrote = λ is. absurd (cc);
         }
 
     pub ended_here : (error : StreamError) → HasRunWritten fds worker now.calls run.made zero text new_text kept new_kept (Err error) → HasRunRead fds worker first_more first start_reader told start new_text new_kept zero (Err error)
@@ -232,8 +244,8 @@ module _ (more : Bool) (first now : Traced) (reader : LineReader) (before : List
 module _ (first now : Traced) (reader : LineReader) (before : List TracedCall) (fds : List Fd) (worker : Option ℕ) (start text : Option (List ℕ)) (kept : KeptCalls) (zero : PassState) (first_more : Bool) (start_reader : LineReader)
     (told left : Option (List ℕ)) (formed : IsWellFormed now) (run : HaveRunSoFar fds worker (before ++ now.calls) start text kept zero) where
   run_ended : (more : Bool) (ended : Result (Unit {0}) StreamError) → IsTraceSoFar more first now reader before → IfSome told (λ input. IsAllRead first_more first start_reader (ahead start_reader ++ input) ended (behind_calls before now))
-      → HasWritten start text ended (history_lines 0 run.placed) → HasRunRead fds worker first_more first start_reader told start text kept zero ended
-  run_ended more ended trace read written = record {
+      → HasWritten start text ended (history_lines 0 run.placed) → ended ≢ Err Write → HasRunRead fds worker first_more first start_reader told start text kept zero ended
+  run_ended more ended trace read written unfailed = record {
     all = behind_calls before now;
     trace = trace_is more first now reader before trace formed;
     read = read;
@@ -258,11 +270,12 @@ module _ (first now : Traced) (reader : LineReader) (before : List TracedCall) (
     parted = λ _. run.parted;
     kept_are = λ _. run.kept_are;
     written = written;
+    wrote = λ is. absurd (unfailed is);
   }
 
   -- the one at hand was the last
   pub last_here : IsTraceSoFar false first now reader before → HandIs first_more false first start_reader told now reader left before → HasRunRead fds worker first_more first start_reader told start text kept zero (Ok tt)
-  last_here trace hand = run_ended false (Ok tt) trace (hand_ended first start_reader now reader before first_more false told left (Ok tt) trace.hand.at_line hand tt (λ is. absurd (false≢true is))) run.written
+  last_here trace hand = run_ended false (Ok tt) trace (hand_ended first start_reader now reader before first_more false told left (Ok tt) trace.hand.at_line hand tt (λ is. absurd (false≢true is))) run.written (λ is. absurd (cc))
 
   written_as : (error : ReadError) → HasWritten start text (Err (stream_error error)) (history_lines 0 run.placed)
   written_as (read_errors.Bad bad) = run.written
@@ -270,8 +283,14 @@ module _ (first now : Traced) (reader : LineReader) (before : List TracedCall) (
   written_as read_errors.Failed = run.written
   written_as read_errors.NoMemory = run.written
 
+  unfailed_as : (error : ReadError) (ended : Result (Unit {0}) StreamError) → ended ≡ Err (stream_error error) → ended ≢ Err Write
+  unfailed_as (read_errors.Bad bad) ended is fails = absurd (cc)
+  unfailed_as read_errors.InputLong ended is fails = absurd (cc)
+  unfailed_as read_errors.Failed ended is fails = absurd (cc)
+  unfailed_as read_errors.NoMemory ended is fails = absurd (cc)
+
   -- the next one is refused
   pub refused_here : (next : Traced) (error : ReadError) → IsTraceSoFar true first now reader before → HandIs first_more true first start_reader told now reader left before
       → IfSome left (λ rest. IsRoundRefused (without_calls now) reader (ahead reader ++ rest) next error) → HasRunRead fds worker first_more first start_reader told start text kept zero (Err (stream_error error))
   refused_here next error trace hand refused =
-      run_ended true (Err (stream_error error)) trace (hand_refused first start_reader now reader before first_more told left next error trace.hand.at_line hand refused) (written_as error)
+      run_ended true (Err (stream_error error)) trace (hand_refused first start_reader now reader before first_more told left next error trace.hand.at_line hand refused) (written_as error) (unfailed_as error (Err (stream_error error)) refl)

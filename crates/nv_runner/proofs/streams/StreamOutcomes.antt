@@ -98,6 +98,7 @@ module _ (alloc : Global) (fds : List Fd) (plan : Plan) (start zero was : PassSt
         first_shown = first_of (Err error) out.0 out.1;
         all_shown = tt;
         written = read.written;
+        wrote = read.wrote;
       }
 
   -- all was made
@@ -122,6 +123,7 @@ module _ (alloc : Global) (fds : List Fd) (plan : Plan) (start zero was : PassSt
         first_shown = first_of (Ok sorting.sorted) out.0 out.1;
         all_shown = sym sorting.placed_are;
         written = read.written;
+        wrote = read.wrote;
       }
 
   pub streamed : (ran : Result (Unit {0}) RunError) → (IsOk ran → ended ≢ Err NoMemory) → Gives fds plan calls start zero read.made ran → HasStreamed fds plan start more first reader told before now ended (kept_if ran kept) zero

@@ -35,7 +35,7 @@ returns-in_err-write_all-clause-ran g c = λ before next run.
     let ran = c.in_ok-sorted.ensures.ran before next run in
     rw (p.1, p.2)
     (round_unwritten c.args.mount.now.fds c.args.batch c.args.trace.now.calls before ran.made c.run_sorted.new.zero (g.O.Sink.written c.args.out.now) (g.O.Sink.written c.write_all.new.out) c.args.kept.now c.take.new.self c.deref.result.now
-    c.in_ok-sorted.sorted ran.ran ran.sorted.0 ran.sorted.1 c.in_ok-lines.ensures.kept (c.deref.ensures.value ∙ c.in_ok-lines.ensures.lines) c.in_err-write_all.ensures.front)
+    c.in_ok-sorted.sorted ran.ran ran.sorted.0 ran.sorted.1 c.in_ok-lines.ensures.kept (c.deref.ensures.value ∙ c.in_ok-lines.ensures.lines) c.in_err-write_all.ensures.wanted c.in_err-write_all.ensures.front)
 
 pub returns-clause-ran : goal.returns-clause-ran
 returns-clause-ran g c = λ before next run.
