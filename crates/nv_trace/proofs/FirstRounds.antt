@@ -81,7 +81,7 @@ last_behind (line ∷ []) first rest = refl
 last_behind (line ∷ second ∷ lines) first rest = last_behind (second ∷ lines) first rest
 
 module _ (before rest : List ℕ) where
-  lines_of : ended_lines (before ++ 10 ∷ rest) ≡ parts_between 10 before ++ ended_lines rest
+  pub lines_of : ended_lines (before ++ 10 ∷ rest) ≡ parts_between 10 before ++ ended_lines rest
   lines_of =
       let parts = parts_some 10 rest in
       ap but_last (split before rest ∙ ap (λ more. parts_between 10 before ++ more) parts.whole) ∙ but_last_behind (parts_between 10 before) parts.first parts.rest ∙ ap (λ more. parts_between 10 before ++ but_last more) (sym parts.whole)
@@ -115,11 +115,14 @@ nothing_after : (ended_lines [] ≡ []) × (open_line [] ≡ [])
 unfolding parts_between
 nothing_after = (refl, refl)
 
+pub lines_before : (before : List ℕ) → ended_lines (before ++ 10 ∷ []) ≡ parts_between 10 before
+lines_before before = lines_of before [] ∙ ap (λ more. parts_between 10 before ++ more) nothing_after.0 ∙ append-nil (parts_between 10 before)
+
 -- behind these rounds no line names a file
 pub first_rounds_name_all : FirstRoundsNameAll
 first_rounds_name_all form input bytes trace whole rounds first all =
     let before = rounds.before in
-    let lines : ended_lines bytes ≡ parts_between 10 before = ap ended_lines rounds.is ∙ lines_of before [] ∙ ap (λ more. parts_between 10 before ++ more) nothing_after.0 ∙ append-nil (parts_between 10 before) in
+    let lines : ended_lines bytes ≡ parts_between 10 before = ap ended_lines rounds.is ∙ lines_before before in
     let none : open_line bytes ≡ [] = ap open_line rounds.is ∙ open_of before [] ∙ nothing_after.1 in
     let front : after_lines (empty_trace form) 1 (parts_between 10 before) ≡ Whole trace =
     ap (after_lines (empty_trace form) 1) (sym (ap (λ more. ended_lines bytes ++ more) none ∙ append-nil (ended_lines bytes) ∙ lines)) ∙ read_whole form bytes trace first in

@@ -8,6 +8,8 @@ mod NextRounds
 pub mod Numbered
 mod Numbers
 mod Parts
+pub mod ReadEnds
+pub mod ReadFirst
 mod Refusals
 mod RoundCalls
 mod RoundChains

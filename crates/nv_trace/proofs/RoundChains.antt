@@ -16,12 +16,12 @@ use Rattle.nv_trace.specs.declared.trace_call.TracedCall.{TracedCall}
 use Rattle.nv_trace.proofs.Endings.{at_end, ending_at_start, open_ended}
 use Rattle.nv_trace.proofs.Forgotten.{input_behind, round_ends}
 
-behind_twice : (first more : List TracedCall) (ending : Ending) → ends_behind first (ends_behind more ending) ≡ ends_behind (first ++ more) ending
+pub behind_twice : (first more : List TracedCall) (ending : Ending) → ends_behind first (ends_behind more ending) ≡ ends_behind (first ++ more) ending
 behind_twice first more (Whole trace) = ap (λ calls. Whole (record trace { calls = calls })) (sym (append_assoc first more trace.calls))
 behind_twice first more (Bad bad) = refl
 behind_twice first more Long = refl
 
-behind_none : (ending : Ending) → ends_behind [] ending ≡ ending
+pub behind_none : (ending : Ending) → ends_behind [] ending ≡ ending
 behind_none (Whole trace) = refl
 behind_none (Bad bad) = refl
 behind_none Long = refl
@@ -35,6 +35,12 @@ step trace old input next new behind round =
     ∙ ap (λ calls. input_ends (record next { calls = calls }) new behind) (sym (append-nil next.calls))
     ∙ input_behind next.calls (without_calls next) new.pending.number new.pending.line.items new.taken behind (round_ends trace next old.pending.number (ended_lines round.bytes) round.round.ended round.read)
 
+-- whatever follows it
+pub step_before : {trace : Traced} {old : LineReader} {input : List ℕ} {next : Traced} {new : LineReader} {behind : List ℕ} (round : IsNextRound trace old input next new behind) (more : List ℕ)
+    → input_ends trace old (round.bytes ++ more) ≡ ends_behind next.calls (input_ends (without_calls next) new more)
+step_before {trace = trace} {old = old} {next = next} {new = new} round more =
+    step trace old (round.bytes ++ more) next new more (record { bytes = round.bytes; round = round.round; rest = refl; read = round.read; goes_on = round.goes_on })
+
 -- as those of all rounds are
 pub chain : (rounds : List ReadRound) (trace : Traced) (reader : LineReader) (input : List ℕ) (P : Traced → LineReader → List ℕ → Type 0) (ending : Ending) → AreReadFrom trace reader input rounds P
     → ((trace : Traced) (reader : LineReader) (input : List ℕ) → P trace reader input → input_ends trace reader input ≡ ending) → input_ends trace reader input ≡ ends_behind (calls_read rounds) ending
@@ -45,7 +51,7 @@ chain (round ∷ rounds) trace reader input P ending read says =
     ∙ behind_twice round.trace.calls (calls_read rounds) ending
 
 -- before a line nothing more is said
-nothing_more : (trace : Traced) (reader : LineReader) → IsAtLine reader → input_ends trace reader [] ≡ Whole trace
+pub nothing_more : (trace : Traced) (reader : LineReader) → IsAtLine reader → input_ends trace reader [] ≡ Whole trace
 nothing_more trace reader at_line =
     at_end trace reader.pending reader.taken at_line.taken ∙ ap (λ line. ending_after true trace reader.pending.number line []) at_line.bare ∙ open_ended trace reader.pending.number []
 
@@ -55,16 +61,14 @@ fronts : (rounds : List ReadRound) (trace : Traced) (reader : LineReader) (input
 fronts [] trace reader input last read = ([], input, refl, nothing_more trace reader read.0 ∙ ap Whole read.1 ∙ sym (behind_none (Whole last)))
 fronts (round ∷ rounds) trace reader input last read =
     let first = read.0 in
-    let later = fronts rounds (without_calls round.trace) round.reader round.behind last read.1 in
-    let alone : IsNextRound trace reader (first.bytes ++ later.0) round.trace round.reader later.0 =
-    record { bytes = first.bytes; round = first.round; rest = refl; read = first.read; goes_on = first.goes_on } in (
+    let later = fronts rounds (without_calls round.trace) round.reader round.behind last read.1 in (
       first.bytes ++ later.0,
       later.1,
       first.rest ∙ ap (λ behind. first.bytes ++ behind) later.2 ∙ sym (append_assoc first.bytes later.0 later.1),
-      step trace reader (first.bytes ++ later.0) round.trace round.reader later.0 alone ∙ ap (ends_behind round.trace.calls) later.3 ∙ behind_twice round.trace.calls (calls_read rounds) (Whole last),
+      step_before first later.0 ∙ ap (ends_behind round.trace.calls) later.3 ∙ behind_twice round.trace.calls (calls_read rounds) (Whole last),
     )
 
-from_start : (form : Form) (reader : LineReader) (input : List ℕ) → reader.pending.line.items ≡ [] → reader.pending.number ≡ 1 → reader.taken ≡ 0 → input_ends (empty_trace form) reader input ≡ ending_of form input
+pub from_start : (form : Form) (reader : LineReader) (input : List ℕ) → reader.pending.line.items ≡ [] → reader.pending.number ≡ 1 → reader.taken ≡ 0 → input_ends (empty_trace form) reader input ≡ ending_of form input
 from_start form reader input bare number taken =
     ap (λ line. ending_from (empty_trace form) reader.pending.number line reader.taken input) bare
     ∙ ap (λ number. ending_from (empty_trace form) number [] reader.taken input) number

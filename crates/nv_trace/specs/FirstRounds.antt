@@ -1,8 +1,11 @@
 -- The first rounds of an input: what is read of it before its end is known.
 use Rattle.std.specs.Prelude.{◌≡◌, ℕ, List, [], ◌∷◌, ◌++◌, codes}
 use Rattle.nv_trace.specs.Lines.{ended_lines}
+use Rattle.nv_trace.specs.NextRound.{IsAtLine}
+use Rattle.nv_trace.specs.ReadRounds.{AreReadFrom, ReadRound, behind_calls, calls_read}
 use Rattle.nv_trace.specs.Reading.{ending_of, Whole}
-use Rattle.nv_trace.specs.Traced.{Traced}
+use Rattle.nv_trace.specs.Traced.{Traced, empty_trace}
+use Rattle.nv_trace.specs.declared.reader.LineReader.{LineReader}
 use Rattle.nv_trace.specs.declared.trace.Form.{Form}
 
 -- These bytes are some first rounds of an input: its lines up to one of its `round` lines.
@@ -18,3 +21,10 @@ pub record AreFirstRounds (input bytes : List ℕ) : Type 0 where
 abbrev pub FirstRoundsNameAll : Type 0
 FirstRoundsNameAll =
     (form : Form) (input bytes : List ℕ) (first whole : Traced) → AreFirstRounds input bytes → ending_of form bytes ≡ Whole first → ending_of form input ≡ Whole whole → whole.names ≡ first.names
+
+-- Rounds of an input that were read from its start, one at least, are some first rounds of it, and these bytes are a trace of their calls.
+abbrev pub RoundsReadAreFirst : Type 0
+RoundsReadAreFirst =
+    (form : Form) (reader : LineReader) (input : List ℕ) (first : ReadRound) (rounds : List ReadRound) (last : Traced) → IsAtLine reader → reader.pending.number ≡ 1 → reader.taken ≡ 0
+    → AreReadFrom (empty_trace form) reader input (first ∷ rounds) (λ trace reader input. IsAtLine reader × (trace ≡ last))
+    → (bytes : List ℕ) × AreFirstRounds input bytes × (ending_of form bytes ≡ Whole (behind_calls (calls_read (first ∷ rounds)) last))

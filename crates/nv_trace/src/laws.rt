@@ -1,6 +1,6 @@
 //! Laws of the definitions, each the contract of a function that does nothing.
 ghost use Rattle.std.specs.Prelude.{◌≡◌, ℕ, List, [], ◌++◌};
-ghost use Rattle.nv_trace.specs.FirstRounds.{FirstRoundsNameAll};
+ghost use Rattle.nv_trace.specs.FirstRounds.{FirstRoundsNameAll, RoundsReadAreFirst};
 ghost use Rattle.nv_trace.specs.NextRound.{IsAtLine, IsLastRound, IsNextRound, IsRoundRefused, input_ends};
 ghost use Rattle.nv_trace.specs.ReadRounds.{AreReadFrom, ReadRound, behind_calls, calls_read};
 ghost use Rattle.nv_trace.specs.Reading.{Ending, Whole, ending_of};
@@ -43,4 +43,10 @@ pub fn rounds_hold_their_calls()
 /// names all files that the whole one does.
 pub fn first_rounds_name_all_files()
     ensures { FirstRoundsNameAll }
+{}
+
+/// Rounds of an input that were read from its start, one at least, are some first rounds of it: its lines up to
+/// one of its `round` lines. These lines are a trace, of the calls of the rounds, one behind the other.
+pub fn rounds_read_are_first()
+    ensures { RoundsReadAreFirst }
 {}

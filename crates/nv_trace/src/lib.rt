@@ -23,7 +23,10 @@ mod trace_call;
 mod writer_sink;
 
 pub use bad_line::{BadLine, Why};
-pub use laws::{first_rounds_name_all_files, rounds_hold_their_calls, rounds_make_the_trace};
+pub use laws::{
+    first_rounds_name_all_files, rounds_hold_their_calls, rounds_make_the_trace,
+    rounds_read_are_first,
+};
 pub use line::read_line;
 pub use mem_sink::MemSink;
 pub use mem_source::MemSource;
