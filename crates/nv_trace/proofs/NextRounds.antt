@@ -200,6 +200,7 @@ module _ (old_trace : Traced) (old : LineReader) (trace : Traced) (reader : Line
         front = front;
         rest = [];
         is = all;
+        ends = inl refl;
         no_round = no_round_in bare reads;
         line = as_lines old_trace old.pending (front ++ 10 ∷ []) bare ∙ sym (reads.taken.lines false (10 ∷ [])) ∙ bad false [];
         kept = as_lines old_trace old.pending front bare ∙ lines_kept reads.taken ∙ ap Whole (sym same);
@@ -225,6 +226,7 @@ module _ (old_trace : Traced) (old : LineReader) (trace : Traced) (reader : Line
         front = front ++ stuck.front;
         rest = 10 ∷ (stuck.behind ++ later);
         is = all ∙ append_assoc front within later ∙ ap (λ bytes. front ++ bytes) split ∙ sym (append_assoc front stuck.front (10 ∷ (stuck.behind ++ later)));
+        ends = inr (stuck.behind ++ later, refl);
         no_round = ap (λ line. has_round_behind line (front ++ stuck.front)) (sym bare) ∙ sym (reads.taken.no_round stuck.front) ∙ stuck.no_round;
         line = as_lines old_trace old.pending ((front ++ stuck.front) ++ 10 ∷ []) bare ∙ ap (lines_end false old_trace old.pending) (append_assoc front stuck.front (10 ∷ [])) ∙ lines false [];
         kept = as_lines old_trace old.pending (front ++ stuck.front) bare ∙ sym (reads.taken.lines false stuck.front) ∙ stuck.kept;

@@ -1,5 +1,5 @@
 -- What a reader answers that is to read the next round of an input.
-use Rattle.std.specs.Prelude.{◌≡◌, ℕ, ◌+◌, ◌-◌, ◌≤◌, false, List, [], ◌∷◌, ◌++◌, take, drop, vec_len}
+use Rattle.std.specs.Prelude.{◌≡◌, ℕ, ◌+◌, ◌-◌, ◌≤◌, false, List, [], ◌∷◌, ◌++◌, ◌⊎◌, take, drop, vec_len}
 use Rattle.nv_trace.specs.Lines.{ended_lines}
 use Rattle.nv_trace.specs.Pending.{ending_from}
 use Rattle.nv_trace.specs.Reading.{Ending, Whole, Bad, Long, after_lines, largest_input}
@@ -49,6 +49,8 @@ pub record IsBadRound (trace : Traced) (old : LineReader) (input : List ℕ) (ne
   pub front : List ℕ
   pub rest : List ℕ
   pub is : input ≡ front ++ rest
+  -- by its line feed, or by the end of the input
+  pub ends : (rest ≡ []) ⊎ ((behind : List ℕ) × (rest ≡ 10 ∷ behind))
   pub no_round : has_round front ≡ false
   pub line : after_lines trace old.pending.number (ended_lines (front ++ 10 ∷ [])) ≡ Bad bad
   -- the trace is the one behind the lines before it
