@@ -86,14 +86,14 @@ module _ (before rest : List ℕ) where
       let parts = parts_some 10 rest in
       ap but_last (split before rest ∙ ap (λ more. parts_between 10 before ++ more) parts.whole) ∙ but_last_behind (parts_between 10 before) parts.first parts.rest ∙ ap (λ more. parts_between 10 before ++ but_last more) (sym parts.whole)
 
-  open_of : open_line (before ++ 10 ∷ rest) ≡ open_line rest
+  pub open_of : open_line (before ++ 10 ∷ rest) ≡ open_line rest
   open_of =
       let parts = parts_some 10 rest in
       ap last_if_some (split before rest ∙ ap (λ more. parts_between 10 before ++ more) parts.whole) ∙ last_behind (parts_between 10 before) parts.first parts.rest ∙ ap last_if_some (sym parts.whole)
 
 -- ---- inputs
 
-whole_by : (test : Bool) (a b : Ending) (trace : Traced) → cond test a (long_unless_bad b) ≡ Whole trace → a ≡ Whole trace
+pub whole_by : (test : Bool) (a b : Ending) (trace : Traced) → cond test a (long_unless_bad b) ≡ Whole trace → a ≡ Whole trace
 whole_by true a b trace is = is
 whole_by false a (Whole other) trace is = cc
 whole_by false a (Bad bad) trace is = cc

@@ -11,6 +11,7 @@ mod Parts
 pub mod ReadEnds
 pub mod ReadFirst
 mod Refusals
+pub mod RefusedRounds
 mod RoundCalls
 mod RoundChains
 mod RoundEnds

@@ -36,12 +36,12 @@ round_last round =
 
 -- ---- rounds, one behind the other
 
-first_round : {input bytes : List ℕ} (behind : List ℕ) → IsRound bytes → input ≡ bytes ++ behind → AreFirstRounds input bytes
+pub first_round : {input bytes : List ℕ} (behind : List ℕ) → IsRound bytes → input ≡ bytes ++ behind → AreFirstRounds input bytes
 first_round behind round is =
     let last = round_last round in
     record { before = round.before; is = round.is; lines = last.0; last = last.1; rest = behind; first = is }
 
-round_before : {input bytes behind later : List ℕ} → IsRound bytes → input ≡ bytes ++ behind → AreFirstRounds behind later → AreFirstRounds input (bytes ++ later)
+pub round_before : {input bytes behind later : List ℕ} → IsRound bytes → input ≡ bytes ++ behind → AreFirstRounds behind later → AreFirstRounds input (bytes ++ later)
 round_before {bytes = bytes} {later = later} round is rounds =
     let lines = parts_between 10 round.before in
     record {

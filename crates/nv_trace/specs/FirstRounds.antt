@@ -1,10 +1,12 @@
 -- The first rounds of an input: what is read of it before its end is known.
-use Rattle.std.specs.Prelude.{◌≡◌, ℕ, List, [], ◌∷◌, ◌++◌, codes}
+use Rattle.std.specs.Prelude.{◌≡◌, ℕ, ◌≤◌, List, [], ◌∷◌, ◌++◌, codes, length}
 use Rattle.nv_trace.specs.Lines.{ended_lines}
-use Rattle.nv_trace.specs.NextRound.{IsAtLine}
+use Rattle.nv_trace.specs.NextRound.{IsAtLine, IsRoundRefused}
 use Rattle.nv_trace.specs.ReadRounds.{AreReadFrom, ReadRound, behind_calls, calls_read}
 use Rattle.nv_trace.specs.Reading.{ending_of, Whole}
 use Rattle.nv_trace.specs.Traced.{Traced, empty_trace}
+use Rattle.nv_trace.specs.declared.read_error.ReadError.{ReadError}
+use Rattle.nv_trace.specs.declared.read_error.ReadError.TheVariants as read_errors
 use Rattle.nv_trace.specs.declared.reader.LineReader.{LineReader}
 use Rattle.nv_trace.specs.declared.trace.Form.{Form}
 
@@ -28,3 +30,26 @@ RoundsReadAreFirst =
     (form : Form) (reader : LineReader) (input : List ℕ) (first : ReadRound) (rounds : List ReadRound) (last : Traced) → IsAtLine reader → reader.pending.number ≡ 1 → reader.taken ≡ 0
     → AreReadFrom (empty_trace form) reader input (first ∷ rounds) (λ trace reader input. IsAtLine reader × (trace ≡ last))
     → (bytes : List ℕ) × AreFirstRounds input bytes × (ending_of form bytes ≡ Whole (behind_calls (calls_read (first ∷ rounds)) last))
+
+-- These bytes are the first rounds of an input that were read: none, where no round was.
+abbrev pub AreRoundsRead : (input : List ℕ) → List ReadRound → (bytes : List ℕ) → Type 0
+AreRoundsRead input [] bytes = bytes ≡ []
+AreRoundsRead input (first ∷ rounds) bytes = AreFirstRounds input bytes
+
+-- No first rounds of an input that are longer than these bytes are a trace.
+abbrev pub NoneIsLonger : Form → (input bytes : List ℕ) → Type 0
+NoneIsLonger form input bytes = (other : List ℕ) (trace : Traced) → AreFirstRounds input other → ending_of form other ≡ Whole trace → length other ≤ length bytes
+
+-- an error that tells of the input: a line of it is bad, or it is too long
+abbrev pub TellsOfInput : ReadError → Type 0
+TellsOfInput (read_errors.Bad bad) = Unit {0}
+TellsOfInput read_errors.InputLong = Unit {0}
+TellsOfInput read_errors.Failed = ⊥
+TellsOfInput read_errors.NoMemory = ⊥
+
+-- Where rounds of an input were read from its start, and the next one is refused for what the input is, they are its longest first rounds that are a trace.
+abbrev pub RefusedRoundsAreTheLast : Type 0
+RefusedRoundsAreTheLast =
+    (form : Form) (reader : LineReader) (input : List ℕ) (rounds : List ReadRound) (last next : Traced) (error : ReadError) → IsAtLine reader → reader.pending.number ≡ 1 → reader.taken ≡ 0
+    → AreReadFrom (empty_trace form) reader input rounds (λ trace reader input. (IsAtLine reader × (trace ≡ last)) × IsRoundRefused trace reader input next error) → TellsOfInput error
+    → (bytes : List ℕ) × AreRoundsRead input rounds bytes × (ending_of form bytes ≡ Whole (behind_calls (calls_read rounds) last)) × NoneIsLonger form input bytes

@@ -1,6 +1,6 @@
 //! Laws of the definitions, each the contract of a function that does nothing.
 ghost use Rattle.std.specs.Prelude.{◌≡◌, ℕ, List, [], ◌++◌};
-ghost use Rattle.nv_trace.specs.FirstRounds.{FirstRoundsNameAll, RoundsReadAreFirst};
+ghost use Rattle.nv_trace.specs.FirstRounds.{FirstRoundsNameAll, RefusedRoundsAreTheLast, RoundsReadAreFirst};
 ghost use Rattle.nv_trace.specs.NextRound.{IsAtLine, IsLastRound, IsNextRound, IsRoundRefused, input_ends};
 ghost use Rattle.nv_trace.specs.ReadRounds.{AreReadFrom, ReadRound, behind_calls, calls_read};
 ghost use Rattle.nv_trace.specs.Reading.{Ending, Whole, ending_of};
@@ -49,4 +49,11 @@ pub fn first_rounds_name_all_files()
 /// one of its `round` lines. These lines are a trace, of the calls of the rounds, one behind the other.
 pub fn rounds_read_are_first()
     ensures { RoundsReadAreFirst }
+{}
+
+/// Where rounds of an input were read from its start, and the next one is refused, for a bad line or since the
+/// input is too long, those rounds are the longest first rounds of the input that are a trace; and where none was
+/// read, no first rounds of it are one.
+pub fn refused_rounds_are_the_last()
+    ensures { RefusedRoundsAreTheLast }
 {}

@@ -24,8 +24,8 @@ mod writer_sink;
 
 pub use bad_line::{BadLine, Why};
 pub use laws::{
-    first_rounds_name_all_files, rounds_hold_their_calls, rounds_make_the_trace,
-    rounds_read_are_first,
+    first_rounds_name_all_files, refused_rounds_are_the_last, rounds_hold_their_calls,
+    rounds_make_the_trace, rounds_read_are_first,
 };
 pub use line::read_line;
 pub use mem_sink::MemSink;
