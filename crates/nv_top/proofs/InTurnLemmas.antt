@@ -39,7 +39,7 @@ use Rattle.nv_top.proofs.FoundLemmas.{done_after, done_legal, next_finds_looked,
 -- what a command comes to on such a bench
 abbrev HasLife : Command → (input : Option (List ℕ)) → (text : List ℕ) → (was now : Holding) → Type 0
 HasLife command input text was now =
-    (life : Life) × IsLifeOf command input text life × ((names : List (List ℕ)) (files : Files) → FindsFiles names files was → GoesOn names files was life now)
+    (life : Life) × IsLifeOf command input was text life × ((names : List (List ℕ)) (files : Files) → FindsFiles names files was → GoesOn names files was life now)
 
 -- the life of a report
 abbrev life_by : Basis → Traced → Report → Life
@@ -59,17 +59,17 @@ goes_on names files was now worker basis trace report reported begins found =
 -- ---- reports
 
 -- a report of a trace that a text shows, from a basis that its command began with; and the bench goes on to stand for its files
-record Reported (options : RunOptions) (was now : Holding) (worker : Bool) (trace : Traced) (text_is : Report → Type 0) : Type 0 where
+record Reported (options : RunOptions) (was now : Holding) (trace : Traced) (text_is : Report → Type 0) : Type 0 where
   basis : Basis
   report : Report
   begun : IsBasis options was trace.names basis
-  faithful : IsReportOf worker basis trace report
+  faithful : IsReportOf options.worker basis trace report
   shows : text_is report
   found : FindsFiles basis.names (files_shown basis trace report) now
 
 module _ (options : RunOptions) (was now : Holding) where
   ran_reported : (show : Show) (new : BenchState) (trace : Traced) (text : List ℕ) → new.told ≡ Some now → HasOwnNames now → HasRunOn show options was new.told trace text
-      → Reported options was now options.worker trace (λ report. text ≡ text_as show report)
+      → Reported options was now trace (λ report. text ≡ text_as show report)
   ran_reported show new trace text tells own ran =
       let same : ran.left.now ≡ now = some_is (sym ran.left.told_is ∙ tells) in record {
         basis = ran.basis;
@@ -81,7 +81,7 @@ module _ (options : RunOptions) (was now : Holding) where
       }
 
   stopped_reported : (old new : BenchState) (trace : Traced) (text : List ℕ) → new.told ≡ Some now → HasOwnNames now → HasStopped (Rose old.faults new.faults) options old.picked was new trace text
-      → Reported options was now options.worker trace (λ report. text ≡ text_as shows.Report report)
+      → Reported options was now trace (λ report. text ≡ text_as shows.Report report)
   stopped_reported old new trace text tells own run =
       let stopped = run.stopped in
       let rests = stopped.left.lost.rests in
@@ -95,7 +95,7 @@ module _ (options : RunOptions) (was now : Holding) where
       }
 
   scheduled_reported : (old new : BenchState) (trace : Traced) (text : List ℕ) → new.told ≡ Some now → HasOwnNames now → HasFollowed (Rose old.faults new.faults) options old.picked was new trace text
-      → Reported options was now options.worker trace (λ report. text ≡ text_as shows.Report report)
+      → Reported options was now trace (λ report. text ≡ text_as shows.Report report)
   scheduled_reported old new trace text tells own run =
       let scheduled = run.scheduled in
       let rests = scheduled.left.lost.rests in
@@ -109,7 +109,7 @@ module _ (options : RunOptions) (was now : Holding) where
       }
 
   run_reported : (stop : Option ℕ) (old new : BenchState) (trace : Traced) (text : List ℕ) → new.told ≡ Some now → HasOwnNames now → IsShownOf stop options old new was trace text
-      → Reported options was now options.worker trace (λ report. text ≡ text_as shows.Report report)
+      → Reported options was now trace (λ report. text ≡ text_as shows.Report report)
   run_reported None old new trace text tells own shown = ran_reported shows.Report new trace text tells own shown
   run_reported (Some k) old new trace text tells own shown = stopped_reported old new trace text tells own shown
 
@@ -118,19 +118,19 @@ module _ (options : RunOptions) (was now : Holding) where
   Goes life = (names : List (List ℕ)) (files : Files) → FindsFiles names files was → GoesOn names files was life now
 
   -- its life
-  life_of : (show : Show) (worker : Bool) (trace : Traced) (text : List ℕ) → Reported options was now worker trace (λ report. text ≡ text_as show report)
-      → (life : Life) × IsShownLife show worker trace text life × Goes life
-  life_of show worker trace text r = (
+  life_of : (show : Show) (trace : Traced) (text : List ℕ) → Reported options was now trace (λ report. text ≡ text_as show report)
+      → (life : Life) × IsShownLife show options was trace text life × Goes life
+  life_of show trace text r = (
     life_by r.basis trace r.report,
-    record { basis = r.basis; report = r.report; text_is = r.shows; faithful = r.faithful; wanted_are = refl; done_is = refl },
-    λ names files finds. goes_on names files was now worker r.basis trace r.report r.faithful (finds.begins options trace.names r.basis r.begun) r.found,
+    record { basis = r.basis; begun = r.begun; report = r.report; text_is = r.shows; faithful = r.faithful; wanted_are = refl; done_is = refl },
+    λ names files finds. goes_on names files was now options.worker r.basis trace r.report r.faithful (finds.begins options trace.names r.basis r.begun) r.found,
   )
 
   -- that of a trace which was read
-  read_life : (form : Form) (input : Option (List ℕ)) (worker : Bool) (text : List ℕ) → OfRead form input (λ trace. Reported options was now worker trace (λ report. text ≡ text_as shows.Report report))
-      → (life : Life) × OfRead form input (λ trace. IsShownLife shows.Report worker trace text life) × Goes life
-  read_life form None worker text (trace, form_is, runnable, r) = let life = life_of shows.Report worker trace text r in (life.0, (trace, form_is, runnable, life.1), life.2)
-  read_life form (Some input) worker text (trace, whole, r) = let life = life_of shows.Report worker trace text r in (life.0, (trace, whole, life.1), life.2)
+  read_life : (form : Form) (input : Option (List ℕ)) (text : List ℕ) → OfRead form input (λ trace. Reported options was now trace (λ report. text ≡ text_as shows.Report report))
+      → (life : Life) × OfRead form input (λ trace. IsShownLife shows.Report options was trace text life) × Goes life
+  read_life form None text (trace, form_is, runnable, r) = let life = life_of shows.Report trace text r in (life.0, (trace, form_is, runnable, life.1), life.2)
+  read_life form (Some input) text (trace, whole, r) = let life = life_of shows.Report trace text r in (life.0, (trace, whole, life.1), life.2)
 
 of_read : (form : Form) (input : Option (List ℕ)) (P Q : Traced → Type 0) → ((trace : Traced) → P trace → Q trace) → OfRead form input P → OfRead form input Q
 of_read form None P Q each (trace, form_is, runnable, is) = (trace, form_is, runnable, each trace is)
@@ -191,17 +191,17 @@ looked_stays true old new was now told tells own left names files finds =
 life_by_command : (command : Command) (input : Option (List ℕ)) (old new : BenchState) (text : List ℕ) (was now : Holding) → old.told ≡ Some was → new.told ≡ Some now → HasOwnNames was → HasOwnNames now
     → IsLeftBy command old new → IsShown command input old new was text → HasLife command input text was now
 life_by_command (Run options) input old new text was now told tells own own_now left shown =
-    read_life options was now forms.Run input options.worker text
-    (of_read forms.Run input (λ trace. IsShownOf options.stop options old new was trace text) (λ trace. Reported options was now options.worker trace (λ report. text ≡ text_as shows.Report report))
+    read_life options was now forms.Run input text
+    (of_read forms.Run input (λ trace. IsShownOf options.stop options old new was trace text) (λ trace. Reported options was now trace (λ report. text ≡ text_as shows.Report report))
     (λ trace is. run_reported options was now options.stop old new trace text tells own_now is) shown)
 life_by_command (Sched options) input old new text was now told tells own own_now left shown =
-    read_life options was now forms.Sched input options.worker text
-    (of_read forms.Sched input (λ trace. HasFollowed (Rose old.faults new.faults) options old.picked was new trace text) (λ trace. Reported options was now options.worker trace (λ report. text ≡ text_as shows.Report report))
+    read_life options was now forms.Sched input text
+    (of_read forms.Sched input (λ trace. HasFollowed (Rose old.faults new.faults) options old.picked was new trace text) (λ trace. Reported options was now trace (λ report. text ≡ text_as shows.Report report))
     (λ trace is. scheduled_reported options was now old new trace text tells own_now is) shown)
 life_by_command Recover input old new text was now told tells own own_now left shown = (idle, refl, recovered_stays was now new.told text tells own_now shown)
 life_by_command (Look files) input old new text was now told tells own own_now left shown = (idle, refl, looked_stays files old new was now told tells own left)
 life_by_command (Gen load) input old new text was now told tells own own_now left shown =
-    life_of load_options was now (shows.Summary load) load_options.worker (generated load) text (ran_reported load_options was now (shows.Summary load) new (generated load) text tells own_now shown.ran)
+    life_of load_options was now (shows.Summary load) (generated load) text (ran_reported load_options was now (shows.Summary load) new (generated load) text tells own_now shown.ran)
 
 pub each_has_a_life : EachHasALife
 each_has_a_life one = life_by_command one.command one.input one.old one.new one.text one.was one.now one.told one.tells one.own_was one.own_now one.left one.shown

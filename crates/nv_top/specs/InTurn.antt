@@ -1,5 +1,5 @@
 -- In turn: the files of a bench over commands that follow one another on it.
-use Rattle.std.specs.Prelude.{◌≡◌, ℕ, Bool, List, [], ◌∷◌, Option, Some}
+use Rattle.std.specs.Prelude.{◌≡◌, ℕ, List, [], ◌∷◌, Option, Some}
 use Rattle.std.specs.List.{AllZip}
 use Rattle.nv_plain.specs.Files.{Files}
 use Rattle.nv_plain.specs.Histories.{Answered, IsLegal, after}
@@ -12,6 +12,7 @@ use Rattle.nv_runner.specs.Faithful.{Basis}
 use Rattle.nv_runner.specs.Reports.{Report}
 use Rattle.nv_trace.specs.Traced.{Traced}
 use Rattle.nv_trace.specs.declared.trace.Form.TheVariants as forms
+use Rattle.nv_top.specs.Commands.{IsBasis}
 use Rattle.nv_top.specs.Endings.{OfRead}
 use Rattle.nv_top.specs.Headline.{IsLeftBy, IsShown}
 use Rattle.nv_top.specs.Loads.{load_options}
@@ -21,6 +22,7 @@ use Rattle.nv_top.specs.declared.show.Show.{Show}
 use Rattle.nv_top.specs.declared.show.Show.TheVariants as shows
 use Rattle.nv_words.specs.declared.words.Command.{Command}
 use Rattle.nv_words.specs.declared.words.Command.TheVariants.{Run, Sched, Recover, Look, Gen}
+use Rattle.nv_words.specs.declared.words.RunOptions.{RunOptions}
 
 -- ---- one command
 
@@ -45,22 +47,23 @@ pub record Followed : Type 0 where
   pub own_was : HasOwnNames was
   pub own_now : HasOwnNames now
 
--- the life that a report of a trace shows by this text
-pub record IsShownLife (show : Show) (worker : Bool) (trace : Traced) (text : List ℕ) (life : Life) : Type 0 where
+-- the life that a report of a trace shows by this text, from the basis that its bench began it with
+pub record IsShownLife (show : Show) (options : RunOptions) (was : Holding) (trace : Traced) (text : List ℕ) (life : Life) : Type 0 where
   pub basis : Basis
+  pub begun : IsBasis options was trace.names basis
   pub report : Report
   pub text_is : text ≡ text_as show report
-  pub faithful : IsReportOf worker basis trace report
+  pub faithful : IsReportOf options.worker basis trace report
   pub wanted_are : life.wanted ≡ trace.names
   pub done_is : life.done ≡ done_by basis trace report
 
 -- The life of a command is the one that its text shows; a recovery and a look do nothing to files.
-abbrev pub IsLifeOf : Command → (input : Option (List ℕ)) → (text : List ℕ) → Life → Type 0
-IsLifeOf (Run options) input text life = OfRead forms.Run input (λ trace. IsShownLife shows.Report options.worker trace text life)
-IsLifeOf (Sched options) input text life = OfRead forms.Sched input (λ trace. IsShownLife shows.Report options.worker trace text life)
-IsLifeOf Recover input text life = life ≡ record { wanted = []; done = [] }
-IsLifeOf (Look files) input text life = life ≡ record { wanted = []; done = [] }
-IsLifeOf (Gen load) input text life = IsShownLife (shows.Summary load) load_options.worker (generated load) text life
+abbrev pub IsLifeOf : Command → (input : Option (List ℕ)) → (was : Holding) → (text : List ℕ) → Life → Type 0
+IsLifeOf (Run options) input was text life = OfRead forms.Run input (λ trace. IsShownLife shows.Report options was trace text life)
+IsLifeOf (Sched options) input was text life = OfRead forms.Sched input (λ trace. IsShownLife shows.Report options was trace text life)
+IsLifeOf Recover input was text life = life ≡ record { wanted = []; done = [] }
+IsLifeOf (Look files) input was text life = life ≡ record { wanted = []; done = [] }
+IsLifeOf (Gen load) input was text life = IsShownLife (shows.Summary load) load_options was (generated load) text life
 
 -- the files that a life begins with, on a bench that held this and stood for those: behind them the new ones, with what their stores held
 abbrev pub files_into : (names : List (List ℕ)) → Files → Holding → Life → Files
@@ -75,7 +78,7 @@ AreInTurn was (one ∷ others) now = (one.was ≡ was) × AreInTurn one.now othe
 
 -- these are the lives of commands
 abbrev pub AreLivesOf : List Followed → List Life → Type 0
-AreLivesOf all lives = AllZip (λ (one : Followed) (life : Life). IsLifeOf one.command one.input one.text life) all lives
+AreLivesOf all lives = AllZip (λ (one : Followed) (life : Life). IsLifeOf one.command one.input one.was one.text life) all lives
 
 -- The names, and the files, after lives in turn: each begins with the files of the one before it, and leaves those after its calls.
 abbrev pub names_in_turn : (names : List (List ℕ)) → List Life → List (List ℕ)
@@ -102,7 +105,7 @@ pub record GoesOn (names : List (List ℕ)) (files : Files) (was : Holding) (lif
 abbrev pub EachHasALife : Type 0
 EachHasALife =
     (one : Followed)
-    → (life : Life) × IsLifeOf one.command one.input one.text life × ((names : List (List ℕ)) (files : Files) → FindsFiles names files one.was → GoesOn names files one.was life one.now)
+    → (life : Life) × IsLifeOf one.command one.input one.was one.text life × ((names : List (List ℕ)) (files : Files) → FindsFiles names files one.was → GoesOn names files one.was life one.now)
 
 -- So it is with any commands in turn: their lives are legal one behind the other, and the bench stands for the files after all of them. A write that one of them lost is in no later one.
 abbrev pub LivesGoOnInTurn : Type 0
