@@ -85,3 +85,21 @@ ended_cause {T} first now error stop result is of grew rose = subst (λ (r : Res
   by_error : (error : RunError) → first ≤ now → (error ≡ Fault → Rose first now) → MayEndRun first now (stop_of_run error)
   by_error Fault grew rose = rose refl
   by_error RunNoMemory grew rose = grew
+
+-- ---- a run whose devices are back
+
+-- a count that didn't rise is one that stays
+pub run_counted : {T : Type 0} (first now old mid last : ℕ) (result : Result T Stop) → RunHasCause first now result → old ≡ saturated (mid + first) → last ≡ saturated (mid + now) → last ≤ old → CountHasCause old last result
+run_counted first now old mid last (Ok value) cause a b low = omega (arith, cause, a, b, low)
+run_counted first now old mid last (Err Usage) cause a b low = absurd cause
+run_counted first now old mid last (Err (BadLine bad)) cause a b low = absurd cause
+run_counted first now old mid last (Err InputLong) cause a b low = absurd cause
+run_counted first now old mid last (Err Read) cause a b low = absurd cause
+run_counted first now old mid last (Err Write) cause a b low = absurd cause
+run_counted first now old mid last (Err Device) cause a b low = record { never_falls = omega (arith, a, b, cause.never_falls); more = omega (arith, a, b, cause.more) }
+run_counted first now old mid last (Err (Region refusal)) cause a b low = absurd cause
+run_counted first now old mid last (Err NoMemory) cause a b low = omega (arith, cause, a, b, low)
+run_counted first now old mid last (Err Turns) cause a b low = absurd cause
+
+pub run_not_refused : {T : Type 0} (first now : ℕ) (result : Result T Stop) (why : Refusal) → RunHasCause first now result → result ≡ Err (Region why) → ⊥
+run_not_refused {T} first now result why cause is = subst (λ (result : Result T Stop). RunHasCause first now result) is cause

@@ -26,10 +26,10 @@ use Rattle.nv_runner.specs.FaithfulRuns.{as_fd}
 use Rattle.nv_runner.specs.Histories.{CallsOnFiles}
 use Rattle.nv_runner.specs.OpenRuns.{open_of}
 use Rattle.nv_runner.specs.OpenWrites.{is_kept_open, kept_open}
-use Rattle.nv_runner.specs.Sorted.{opened_call}
+use Rattle.nv_runner.specs.Sorted.{OpenedCall, opened_call}
 use Rattle.nv_trace.specs.declared.trace_call.TracedCall.{TracedCall}
 use Rattle.nv_runner.specs.Reports.{OpenCall}
-use Rattle.nv_top.specs.Fates.{AreShownOpen, begun_call, fated}
+use Rattle.nv_top.specs.Fates.{AreShownOpen, begun_call, fated, fated_opened}
 
 -- ---- the calls that were left open, as writes of their files
 
@@ -142,3 +142,13 @@ none_begun f (x ∷ xs) is = absurd (let none : length (x ∷ xs) ≡ 0 = eqb-tr
 pub some_begun : {X Y : Type 0} (f : X → Y) (xs : List X) → (length xs == 0) ≡ false → map f xs ≡ [] → ⊥
 some_begun f [] is none = cc
 some_begun f (x ∷ xs) is none = cc
+
+-- ---- what is kept of them
+
+-- those that are kept have the fates of those that they are
+pub fated_these : (first : ℕ) (groups : List ℕ) (these : List Open) (kept : List OpenedCall) → kept ≡ map opened_call these → map (fated_opened first groups) kept ≡ map (fated first groups) these
+fated_these first groups these kept same = ap (map (fated_opened first groups)) same ∙ each these
+  where
+    each : (these : List Open) → map (fated_opened first groups) (map opened_call these) ≡ map (fated first groups) these
+    each [] = refl
+    each (one ∷ later) = ap (λ rest. fated first groups one ∷ rest) (each later)

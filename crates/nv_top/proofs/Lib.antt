@@ -18,11 +18,15 @@ pub mod ShownLemmas
 pub mod StopLemmas
 pub mod StoppedLemmas
 pub mod StoppingLemmas
+pub mod StreamStopLemmas
 pub mod TiedLemmas
 pub mod TestBenches
 pub mod UnhinderedLemmas
 pub mod UnrefusedLemmas
 pub mod LifeLemmas
+pub mod InputLemmas
+pub mod RunInputLemmas
+pub mod RunsByOptions
 pub mod AcceptedLemmas
 pub mod CompleteLemmas
 pub mod NextLemmas

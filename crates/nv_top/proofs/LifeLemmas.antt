@@ -47,7 +47,8 @@ use Rattle.nv_table.specs.state.Opened.{Opened, mount_of}
 use Rattle.nv_mount.specs.Telling.{mounted_lines}
 use Rattle.nv_runner.specs.Faithful.{Basis}
 use Rattle.nv_runner.specs.Histories.{PlacedCall}
-use Rattle.nv_runner.specs.Lives.{LeaveLife, RecoversBehind}
+use Rattle.nv_runner.specs.Lives.{RecoversBehind}
+use Rattle.nv_runner.specs.ShownLives.{LeaveLifeBehind}
 use Rattle.nv_load.specs.Generated.{generated}
 use Rattle.nv_top.specs.Loads.{load_options}
 use Rattle.nv_top.specs.Lives.{AreLeftSo, HasLived, LeavesLife, LeavesRun}
@@ -94,34 +95,34 @@ module _ (basis : Basis) (trace : Traced) where
   Behind history image bytes = RecoversBehind basis trace history image bytes
 
   -- whatever is left of what it holds
-  images_home : (part_row : List lines.PartHistory) (store_row : List stores.StoreHistory) (life : LeaveLife basis trace part_row store_row) (now : List Part) (held : List Store) (all : List NamedStore) → AreNow part_row now → AreNow store_row held
-      → All IsWholeStore held → stores_named basis.names all ≡ held → InEachImage (Behind life.history) (record { parts = now; stores = all })
-  images_home part_row store_row life now held all now_are held_are whole same image bytes is are =
-      let every = row_tells_at store_row (λ held. (bytes : Files) → AreStoreImages held bytes → Behind life.history image bytes) held held_are
-      (row_tells_at part_row (InEachRowImage (λ image. RowTells store_row (λ held. (bytes : Files) → AreStoreImages held bytes → Behind life.history image bytes))) now now_are life.images image is) in
+  images_home : (shown : List PlacedCall) (part_row : List lines.PartHistory) (store_row : List stores.StoreHistory) (life : LeaveLifeBehind basis trace shown part_row store_row) (now : List Part) (held : List Store) (all : List NamedStore) → AreNow part_row now → AreNow store_row held
+      → All IsWholeStore held → stores_named basis.names all ≡ held → InEachImage (Behind (shown ++ life.later)) (record { parts = now; stores = all })
+  images_home shown part_row store_row life now held all now_are held_are whole same image bytes is are =
+      let every = row_tells_at store_row (λ held. (bytes : Files) → AreStoreImages held bytes → Behind (shown ++ life.later) image bytes) held held_are
+      (row_tells_at part_row (InEachRowImage (λ image. RowTells store_row (λ held. (bytes : Files) → AreStoreImages held bytes → Behind (shown ++ life.later) image bytes))) now now_are life.images image is) in
       let read = (every (record { contents = map (λ (store : Store). store.durable) held }) (durable_images held whole)).names_are in
       every bytes (subst (λ stores. AreStoreImages stores bytes) same (subst (λ names. AreStoreImages (stores_named names all) bytes) read are))
 
-  pub lived_home : {X Y : Type 0} (history : X → lines.PartHistory) (held : Y → stores.StoreHistory)
-      (parts : List X) (backing : List Y) (counts : List ℕ) (told : Option Holding) (home : List NamedStore) (whole : (holding : Holding) → told ≡ Some holding → AreWholeStores holding) → AreLeftSo history held basis trace counts parts backing
+  pub lived_home : {X Y : Type 0} (shown : List PlacedCall) (history : X → lines.PartHistory) (held : Y → stores.StoreHistory)
+      (parts : List X) (backing : List Y) (counts : List ℕ) (told : Option Holding) (home : List NamedStore) (whole : (holding : Holding) → told ≡ Some holding → AreWholeStores holding) → AreLeftSo history held basis trace shown counts parts backing
       → ((disks : List Store) → AreNow (map held backing) disks → stores_named basis.names (home ++ named_stores basis.names disks) ≡ disks)
       → ((now : List Part) (disks : List Store) → AreNow (map history parts) now → AreNow (map held backing) disks → told ≡ Some (record { parts = now; stores = home ++ named_stores basis.names disks }))
-      → HasLived basis trace [] counts home told
-  lived_home history held parts backing counts told home whole left same gives =
+      → HasLived basis trace shown counts home told
+  lived_home shown history held parts backing counts told home whole left same gives =
       let now = present (map history parts) left.parts_tell in
       let disks = present (map held backing) left.stores_tell in
       let all = home ++ named_stores basis.names disks.states in
       let told_is = gives now.states disks.states now.are disks.are in
       let here = same disks.states disks.are in
       record {
-        history = left.life.history;
-        begins = (left.life.history, refl);
+        history = shown ++ left.life.later;
+        begins = (left.life.later, refl);
         is = left.life.is;
         images = record {
           now = record { parts = now.states; stores = all };
           told_is = told_is;
           is_so = (
-            images_home (map history parts) (map held backing) left.life now.states disks.states all now.are disks.are
+            images_home shown (map history parts) (map held backing) left.life now.states disks.states all now.are disks.are
                 (subst (All IsWholeStore) here (all_whole basis.names all (whole (record { parts = now.states; stores = all }) told_is))) here,
             record {
               lines_are = row_tells_at (map history parts) (λ now. line_counts now ≡ counts) now.states now.are left.lines_are;
@@ -289,13 +290,13 @@ same_states {S} (history ∷ row) (x ∷ one) (y ∷ other) a b =
 
 pub rest_lives : {X Y : Type 0} (history : X → lines.PartHistory) (held : Y → stores.StoreHistory) (basis : Basis) (trace : Traced) (parts : List X) (backing : List Y) (states : List Part) (disks : List Store) (next : ℕ)
     → AreNow (map history parts) states → AreNow (map held backing) disks → RowTells (map history parts) (IsAtRest mount_layout basis.sizes.page basis.sizes.entries basis.names next) → AreQuietStores disks → files_of disks ≡ basis.files
-    → AreLeftSo history held basis trace (line_counts states) parts backing
+    → AreLeftSo history held basis trace [] (line_counts states) parts backing
 rest_lives history held basis trace parts backing states disks next are disks_are rest quiet files_are = record {
   parts_tell = all_tell (map history parts) states are;
   stores_tell = all_tell (map held backing) disks disks_are;
   lines_are = row_tells_from (map history parts) (λ now. line_counts now ≡ line_counts states) (λ now now_are. ap line_counts (same_states (map history parts) now states now_are are));
   life = record {
-    history = [];
+    later = [];
     is = record { legal = tt; of_trace = λ p one. absurd one; in_order = tt };
     images =
         row_tells_from (map history parts) (InEachRowImage (λ image. RowTells (map held backing) (λ held. (bytes : Files) → AreStoreImages held bytes → RecoversBehind basis trace [] image bytes))) (λ these these_are image is.
@@ -317,13 +318,13 @@ rest_lives history held basis trace parts backing states disks next are disks_ar
 }
 
 -- stores that tell the same
-pub left_same : {X Y : Type 0} (history : X → lines.PartHistory) (held : Y → stores.StoreHistory) (basis : Basis) (trace : Traced) (counts : List ℕ) (parts was : List X) (backing before : List Y) → map history parts ≡ map history was → map held backing ≡ map held before
-    → AreLeftSo history held basis trace counts was before → AreLeftSo history held basis trace counts parts backing
-left_same history held basis trace counts parts was backing before same_parts same_stores left = record {
+pub left_same : {X Y : Type 0} (history : X → lines.PartHistory) (held : Y → stores.StoreHistory) (basis : Basis) (trace : Traced) (shown : List PlacedCall) (counts : List ℕ) (parts was : List X) (backing before : List Y) → map history parts ≡ map history was → map held backing ≡ map held before
+    → AreLeftSo history held basis trace shown counts was before → AreLeftSo history held basis trace shown counts parts backing
+left_same history held basis trace shown counts parts was backing before same_parts same_stores left = record {
   parts_tell = subst AllTell (sym same_parts) left.parts_tell;
   stores_tell = subst AllTell (sym same_stores) left.stores_tell;
   lines_are = subst (λ row. RowTells row (λ now. line_counts now ≡ counts)) (sym same_parts) left.lines_are;
-  life = subst (λ row. LeaveLife basis trace row (map held backing)) (sym same_parts) (subst (λ row. LeaveLife basis trace (map history was) row) (sym same_stores) left.life);
+  life = subst (λ row. LeaveLifeBehind basis trace shown row (map held backing)) (sym same_parts) (subst (λ row. LeaveLifeBehind basis trace shown (map history was) row) (sym same_stores) left.life);
 }
 
 -- the lines of parts that come out of a mount, by those that it was opened with

@@ -1,11 +1,10 @@
 -- What a command comes to, from what its parts say.
-use Rattle.std.proofs.Common.{◌≡◌, ◌≢◌, ◌⊎◌, ℕ, ◌≤◌, List, [], ◌∷◌, Option, Some, None, Result, Ok, Err, inl, inr, refl, sym, ap, subst, ◌∙◌, arith}
+use Rattle.std.proofs.Common.{◌≡◌, ◌≢◌, ◌⊎◌, ℕ, ◌≤◌, List, [], ◌∷◌, ◌++◌, Option, Some, None, Result, Ok, Err, inl, inr, refl, sym, ap, subst, ◌∙◌, arith}
 use Rattle.std.specs.Prelude.{IfErr, IfOk, IfSome, OnOk, Bool, false, true, max}
 use Rattle.std.proofs.lemmas.List.{append-nil}
 use Rattle.std.specs.Result.{IsErrAnd}
 use Rattle.std.specs.Global.{Vec}
 use Rattle.nv_plain.specs.Faults.{Rose}
-use Rattle.nv_pmem.specs.Laws.{QuietPartHasOneImage}
 use Rattle.nv_pmem.specs.declared.geometry.Geometry.{Geometry}
 use Rattle.nv_store.specs.Steps.{StoreHistory}
 use Rattle.nv_bench.specs.Benches.{BenchState, with_faults}
@@ -23,24 +22,26 @@ use Rattle.nv_open.specs.declared.error.OpenError.TheVariants as open_errors
 use Rattle.nv_open.specs.declared.error.Refusal.{Refusal}
 use Rattle.nv_open.specs.declared.error.Refusal.TheVariants as refusals
 use Rattle.nv_runner.specs.Histories.{PlacedCall}
+use Rattle.nv_runner.specs.Reports.{history_lines}
 use Rattle.nv_trace.specs.Reading.{Bad, Long, Whole, ending_of}
+use Rattle.nv_trace.specs.FirstRounds.{TellsOfInput}
 use Rattle.nv_trace.specs.Refused.{IsRefusedAs}
 use Rattle.nv_trace.specs.Traced.{Traced}
 use Rattle.nv_trace.specs.declared.read_error.ReadError.{ReadError}
 use Rattle.nv_trace.specs.declared.read_error.ReadError.TheVariants as read_errors
 use Rattle.nv_trace.specs.declared.trace.Form.{Form}
 use Rattle.nv_trace.specs.declared.trace.Form.TheVariants as forms
-use Rattle.nv_top.specs.Commands.{HasRunOn, IsBasis, IsGivenBack, IsNotRun, RestsNotRun}
+use Rattle.nv_top.specs.Commands.{IsBasis, IsGivenBack, IsNotRun, RestsNotRun}
 use Rattle.nv_top.specs.Endings.{IsTrace}
-use Rattle.nv_top.specs.Headline.{HasInput, IsArmedByAll, IsArmedBySome, IsCommandRefused, IsLeftAfter, IsLeftBy, IsRunRefused, IsShown, IsUnhindered, UsesTurns, expected_faults, form_by, form_of}
+use Rattle.nv_top.specs.Headline.{HasInput, HasRunRounds, IsArmedByAll, IsArmedBySome, IsCommandRefused, IsLeftAfter, IsLeftBy, IsRun, IsRunRefused, IsShown, IsUnhindered, UsesTurns, expected_faults, form_by, form_of}
 use Rattle.nv_top.specs.Lives.{HasMadeNoCall, LeavesLife, LeavesRun}
-use Rattle.nv_top.specs.Ready.{IsAtHome, IsReady, IsRunnable}
-use Rattle.nv_top.specs.Reported.{HasReported, HasRunTrace}
+use Rattle.nv_top.specs.Ready.{IsAtHome, IsReady}
+use Rattle.nv_top.specs.Reported.{HasReported}
 use Rattle.nv_top.specs.Stopping.{IsAllBack, IsBackUnarmed, IsPoweredBack, IsSettledStop}
-use Rattle.nv_top.specs.Stops.{CountHasCause, IsCauseOf, IsFollowed, IsOwnStop, StopHasCause, stop_of_opening, stop_of_read, stop_of_words}
+use Rattle.nv_top.specs.Rounds.{HasNoRounds}
+use Rattle.nv_top.specs.Stops.{ComesFromInput, CountHasCause, IsCauseOf, IsFollowed, IsOwnStop, StopHasCause, stop_of_opening, stop_of_read, stop_of_words}
 use Rattle.nv_top.specs.declared.ending.Stop.{Stop}
 use Rattle.nv_top.specs.declared.ending.Stop.TheVariants.{Usage, BadLine, InputLong, Read, Write, Device, Region, NoMemory, Turns}
-use Rattle.nv_top.specs.declared.show.Show.TheVariants.{Report}
 use Rattle.nv_words.specs.declared.words.Command.{Command}
 use Rattle.nv_words.specs.declared.words.Command.TheVariants.{Run, Sched, Recover, Look, Gen}
 use Rattle.nv_words.specs.declared.words.RunOptions.{RunOptions}
@@ -49,7 +50,8 @@ use Rattle.nv_words.specs.declared.words.WordsError.TheVariants as words_errors
 use Rattle.nv_top.proofs.CommandLemmas.{if_told, told_at}
 use Rattle.nv_top.proofs.CompleteLemmas.{settled_counts, settled_done}
 use Rattle.nv_top.proofs.HeadlineLemmas.{same_some}
-use Rattle.nv_top.proofs.LifeLemmas.{still_run}
+use Rattle.nv_top.proofs.SaidLemmas.{nothing_shown}
+use Rattle.nv_top.specs.Said.{HasShown}
 use Rattle.nv_top.proofs.StopLemmas.{settled_opened}
 use Rattle.nv_top.proofs.StoppingLemmas.{count_grows, if_some}
 
@@ -60,19 +62,19 @@ pub by_error : (result : Result (Vec ℕ) Stop) (stop : Stop) (P : Result (Vec �
 by_error (Ok text) stop P is holds = absurd is
 by_error (Err error) stop P is holds = subst (λ error. P (Err error)) (sym is) holds
 
-abbrev as_result : Stop → Result (Vec ℕ) Stop
+abbrev pub as_result : Stop → Result (Vec ℕ) Stop
 as_result stop = Err stop
 
-same_stop : (one other : Stop) → as_result one ≡ as_result other → one ≡ other
+pub same_stop : (one other : Stop) → as_result one ≡ as_result other → one ≡ other
 same_stop one other is = cc
 
 pub region_of : (stop : Stop) (why : Refusal) → as_result stop ≡ as_result (Region why) → stop ≡ Region why
 region_of stop why is = cc
 
-not_none : (command : Command) → Some command ≡ None → ⊥
+pub not_none : (command : Command) → Some command ≡ None → ⊥
 not_none command is = cc
 
-settled_sound : {T : Type 0} (settled now : ℕ) (result : Result T Stop) → IsSettledStop settled now result → result ≢ Err Device → now ≤ settled
+pub settled_sound : {T : Type 0} (settled now : ℕ) (result : Result T Stop) → IsSettledStop settled now result → result ≢ Err Device → now ≤ settled
 settled_sound settled now (Ok value) cause other = omega (arith, cause)
 settled_sound settled now (Err Usage) cause other = absurd cause
 settled_sound settled now (Err (BadLine bad)) cause other = absurd cause
@@ -178,22 +180,23 @@ abbrev NothingShown : Type 0
 NothingShown = no_calls ≡ []
 
 -- All follows from how the bench is left, what its faults say of the stop, and what is shown, or refused.
-module _ (command : Command) (given left : Option (List ℕ)) (faults : ℕ) (old new : BenchState) (result : Result (Vec ℕ) Stop) where
+module _ (command : Command) (given left : Option (List ℕ)) (before now : ℕ) (old new : BenchState) (shown : List PlacedCall) (result : Result (Vec ℕ) Stop) where
   for_it : (P : Command → Type 0) → P command → (other : Command) → Some command ≡ Some other → P other
   for_it P holds other is = subst P (same_some is) holds
 
-  pub settled_reported : IsLeftBy command old new → IsSettledStop (expected_faults old new) new.faults result → old.faults ≤ new.faults
+  pub settled_shown : ((shown ≡ []) ⊎ IsRun (Some command)) → ((now ≡ before) ⊎ (IsRun (Some command) × ((result ≡ Err Device) ⊎ (result ≡ Err NoMemory))))
+      → IsLeftBy command old new → IsSettledStop (expected_faults old new) new.faults result → old.faults ≤ new.faults
       → Takes command given left result → Arms command given old new result → (result ≡ Err Turns → EndsInTurns command given old new)
       → ((why : Refusal) → result ≡ Err (Region why) → IfSome old.told (λ holding. IsCommandRefused command given old new holding why))
-      → ((why : Refusal) → result ≡ Err (Region why) → IfSome old.told (λ holding. new.arms ≡ old.arms))
-      → IfSome old.told (λ was. LeavesLife command given was [] new.told)
-      → IfOk result (λ text. IfSome old.told (λ holding. IsShown command given old new holding text.items))
-      → HasReported (Some command) given left faults faults old new [] result
-  settled_reported back cause grows takes arms turns refused unarmed life shown =
+      → ((why : Refusal) → result ≡ Err (Region why) → IfSome old.told (λ holding. (new.arms ≡ old.arms) × (shown ≡ [])))
+      → IfSome old.told (λ was. LeavesLife command given was shown new.told)
+      → IfOk result (λ text. IfSome old.told (λ holding. IsShown command given old new holding (history_lines 0 shown ++ text.items)))
+      → HasReported (Some command) given left before now old new shown result
+  settled_shown early sound back cause grows takes arms turns refused unarmed life report =
       let settled = expected_faults old new in
       let Settled : Result (Vec ℕ) Stop → Type 0 = λ result. IsSettledStop settled new.faults result in
       record {
-        early = inl refl;
+        early = early;
         write = λ is. absurd (subst Settled is cause);
         back = for_it (λ command. IsLeftBy command old new) back;
         cuts = λ options is. (for_it (λ command. Arms command given old new result) arms (Sched options) is).0;
@@ -207,26 +210,40 @@ module _ (command : Command) (given left : Option (List ℕ)) (faults : ℕ) (ol
         unread_look = λ files is. for_it (λ command. Takes command given left result) takes (Look files) is;
         unread_load = λ load is. for_it (λ command. Takes command given left result) takes (Gen load) is;
         read_fault = λ is. absurd (subst Settled is cause);
-        read_sound = λ other. inl refl;
+        read_sound = λ other. sound;
         device_fault = λ is. subst Settled is cause;
-        device_sound = λ other sound. settled_sound settled new.faults result cause other;
+        device_sound = λ other well. settled_sound settled new.faults result cause other;
         turns = λ is. of_schedule command given old new (turns is);
         turns_used = λ is options same. (for_it (λ command. EndsInTurns command given old new) (turns is) (Sched options) same).1;
         region = λ why is. for_it (λ command. IfSome old.told (λ holding. IsCommandRefused command given old new holding why)) (refused why is);
-        unarmed = λ why is. if_told old.told (λ holding. (new.arms ≡ old.arms) × NothingShown) (λ holding told. (told_at old.told (λ holding. new.arms ≡ old.arms) holding told (unarmed why is), refl));
-        complete = for_it (λ command. IfSome old.told (λ holding. IsUnhindered command given holding (Rose faults faults) (Rose settled new.faults) → IfErr result IsOwnStop))
-            (settled_done command given old new (Rose faults faults) settled new.faults result cause refused);
+        unarmed = unarmed;
+        complete = for_it (λ command. IfSome old.told (λ holding. IsUnhindered command given holding (Rose before now) (Rose settled new.faults) → IfErr result IsOwnStop))
+            (settled_done command given old new (Rose before now) settled new.faults result cause refused);
         counts = settled_counts settled new.faults result cause;
         never_falls = grows;
-        life = for_it (λ command. IfSome old.told (λ was. LeavesLife command given was [] new.told)) life;
-        stopped = settled_opened settled new.faults result _ cause;
-        report = shown_for result shown;
+        life = for_it (λ command. IfSome old.told (λ was. LeavesLife command given was shown new.told)) life;
+        stopped = settled_opened settled new.faults result
+            (λ stop. ((new ≡ old) × (shown ≡ []) × (IsRun (Some command) → HasNoRounds stop given)) ⊎ ((options : RunOptions) × (Some command ≡ Some (Run options)) × IfSome old.told (HasRunRounds options stop given shown old new))) cause;
+        report = shown_for result report;
       }
     where
-      shown_for : (result : Result (Vec ℕ) Stop) → IfOk result (λ text. IfSome old.told (λ holding. IsShown command given old new holding text.items))
-          → IfOk result (λ text. (other : Command) → Some command ≡ Some other → IfSome old.told (λ holding. IsShown other given old new holding text.items))
-      shown_for (Ok text) shown = for_it (λ command. IfSome old.told (λ holding. IsShown command given old new holding text.items)) shown
-      shown_for (Err stop) shown = tt
+      shown_for : (result : Result (Vec ℕ) Stop) → IfOk result (λ text. IfSome old.told (λ holding. IsShown command given old new holding (history_lines 0 shown ++ text.items)))
+          → IfOk result (λ text. (other : Command) → Some command ≡ Some other → IfSome old.told (λ holding. IsShown other given old new holding (history_lines 0 shown ++ text.items)))
+      shown_for (Ok text) report = for_it (λ command. IfSome old.told (λ holding. IsShown command given old new holding (history_lines 0 shown ++ text.items))) report
+      shown_for (Err stop) report = tt
+
+-- and nothing was shown before its end
+module _ (command : Command) (given left : Option (List ℕ)) (faults : ℕ) (old new : BenchState) (result : Result (Vec ℕ) Stop) where
+  pub settled_reported : IsLeftBy command old new → IsSettledStop (expected_faults old new) new.faults result → old.faults ≤ new.faults
+      → Takes command given left result → Arms command given old new result → (result ≡ Err Turns → EndsInTurns command given old new)
+      → ((why : Refusal) → result ≡ Err (Region why) → IfSome old.told (λ holding. IsCommandRefused command given old new holding why))
+      → ((why : Refusal) → result ≡ Err (Region why) → IfSome old.told (λ holding. new.arms ≡ old.arms))
+      → IfSome old.told (λ was. LeavesLife command given was [] new.told)
+      → IfOk result (λ text. IfSome old.told (λ holding. IsShown command given old new holding text.items))
+      → HasReported (Some command) given left faults faults old new [] result
+  settled_reported back cause grows takes arms turns refused unarmed life report =
+      settled_shown command given left faults faults old new [] result (inl refl) (inl refl) back cause grows takes arms turns refused
+      (λ why is. if_told old.told (λ holding. (new.arms ≡ old.arms) × NothingShown) (λ holding told. (told_at old.told (λ holding. new.arms ≡ old.arms) holding told (unarmed why is), refl))) life report
 
 -- ---- a command that ends before its bench is opened
 
@@ -249,8 +266,9 @@ module _ (over : Option Command) (given left : Option (List ℕ)) (before now : 
       → ((command : Command) → over ≡ Some command → Takes command given left (Err stop))
       → ((command : Command) → over ≡ Some command → (holding : Holding) → IsUnhindered command given holding (Rose before now) (Rose (expected_faults bench bench) bench.faults) → IsOwnStop stop)
       → ((command : Command) → over ≡ Some command → IfSome bench.told (λ was. LeavesLife command given was [] bench.told))
+      → (ComesFromInput stop → IsRun over → HasNoRounds stop given)
       → HasReported over given left before now bench bench [] (Err stop)
-  early_reported home early usage none cause fault sound takes own life = record {
+  early_reported home early usage none cause fault sound takes own life unrun = record {
     early = inl refl;
     write = λ is. absurd (subst IsEarly (same_stop stop Write is) early);
     back = λ command is. unmoved command bench home;
@@ -276,7 +294,7 @@ module _ (over : Option Command) (given left : Option (List ℕ)) (before now : 
     counts = tt;
     never_falls = omega arith;
     life = life;
-    stopped = λ first. inl (refl, refl);
+    stopped = λ first. inl (refl, refl, unrun first);
     report = tt;
   }
 
@@ -288,10 +306,10 @@ words_reported over given faults bench words_errors.Usage home usage life =
     let none = usage refl in
     early_reported over given given faults faults bench Usage home tt (λ same. none) (λ same. (inl refl, refl)) (if_some given (IsCauseOf (form_by over) Usage) (λ input some. tt)) (λ is. cc) (λ other. refl)
     (λ command is. absurd (not_none command (sym is ∙ none)))
-    (λ command is. absurd (not_none command (sym is ∙ none))) life
+    (λ command is. absurd (not_none command (sym is ∙ none))) life (λ first run. absurd (not_none (Run run.0) (sym run.1 ∙ none)))
 words_reported over given faults bench words_errors.NoMemory home usage life =
     early_reported over given given faults faults bench NoMemory home tt (λ is. cc) (λ same. (inr refl, refl)) (if_some given (IsCauseOf (form_by over) NoMemory) (λ input some. tt)) (λ is. cc) (λ other. refl)
-    (λ command is. takes_none command) (λ command is holding free. inl refl) life
+    (λ command is. takes_none command) (λ command is holding free. inl refl) life (λ first. absurd first)
   where
     takes_none : (command : Command) → Takes command given given (Err NoMemory)
     takes_none (Run options) = tt
@@ -307,20 +325,72 @@ never_turns read_errors.InputLong is = cc
 never_turns read_errors.Failed is = cc
 never_turns read_errors.NoMemory is = cc
 
+-- no round of an input was run that is refused at its first one
+pub unrun_at : (given : Option (List ℕ)) (error : ReadError) → (TellsOfInput error → HasNoRounds (stop_of_read error) given) → ComesFromInput (stop_of_read error) → HasNoRounds (stop_of_read error) given
+unrun_at given (read_errors.Bad bad) none first = none tt
+unrun_at given read_errors.InputLong none first = none tt
+unrun_at None read_errors.Failed none first = tt
+unrun_at (Some input) read_errors.Failed none first = λ other. absurd (other refl)
+unrun_at given read_errors.NoMemory none first = absurd first
+
+-- a schedule is no run
+pub not_run : (options : RunOptions) → IsRun (Some (Sched options)) → ⊥
+not_run options run = apart run.0 run.1
+  where
+    apart : (other : RunOptions) → Some (Sched options) ≡ Some (Run other) → ⊥
+    apart other is = cc
+
+-- which errors of a reading are told by which stops
+pub failed_is : (error : ReadError) → stop_of_read error ≡ Read → error ≡ read_errors.Failed
+failed_is (read_errors.Bad bad) is = cc
+failed_is read_errors.InputLong is = cc
+failed_is read_errors.Failed is = refl
+failed_is read_errors.NoMemory is = cc
+
+not_usage : (error : ReadError) → stop_of_read error ≡ Usage → ⊥
+not_usage (read_errors.Bad bad) is = cc
+not_usage read_errors.InputLong is = cc
+not_usage read_errors.Failed is = cc
+not_usage read_errors.NoMemory is = cc
+
+-- it says what the input says
+pub read_cause : (form : Form) (given : Option (List ℕ)) (error : ReadError) → IfSome given (IsRefusedAs form error) → IfSome given (IsCauseOf form (stop_of_read error))
+read_cause form given (read_errors.Bad bad) refused = refused
+read_cause form given read_errors.InputLong refused = refused
+read_cause form given read_errors.Failed refused = refused
+read_cause form given read_errors.NoMemory refused = refused
+
+whole_bad : {trace : Traced} {bad : _} → Whole trace ≡ Bad bad → ⊥
+whole_bad is = cc
+
+whole_long : {trace : Traced} → Whole trace ≡ Long → ⊥
+whole_long is = cc
+
+-- and where that is a trace, and the source has not failed, memory was wanting
+pub read_own : (form : Form) (given : Option (List ℕ)) (before now : ℕ) (error : ReadError) → IfSome given (IsRefusedAs form error) → (error ≡ read_errors.Failed → Rose before now) → ¬ (Rose before now)
+    → (bytes : List ℕ) × (given ≡ Some bytes) × IsTrace form bytes → IsOwnStop (stop_of_read error)
+read_own form given before now error refused failed read has = by error (subst (λ given. IfSome given (IsRefusedAs form error)) has.1 refused) failed
+  where
+    by : (error : ReadError) → IsRefusedAs form error has.0 → (error ≡ read_errors.Failed → Rose before now) → IsOwnStop (stop_of_read error)
+    by (read_errors.Bad bad) ends failed = absurd (whole_bad (sym has.2.1 ∙ ends))
+    by read_errors.InputLong ends failed = absurd (whole_long (sym has.2.1 ∙ ends))
+    by read_errors.Failed ends failed = absurd (read (failed refl))
+    by read_errors.NoMemory ends failed = inl refl
+
 -- the input is no trace, or wasn't read to its end
 module _ (command : Command) (given left : Option (List ℕ)) (before now : ℕ) (bench : BenchState) (error : ReadError) where
   pub read_reported : IsAtHome bench → (HasInput command given → (bytes : List ℕ) × (given ≡ Some bytes) × IsTrace (form_of command) bytes)
       → Takes command given left (Err (stop_of_read error))
       → IfSome given (IsRefusedAs (form_of command) error) → (error ≡ read_errors.Failed → Rose before now) → (error ≢ read_errors.Failed → now ≡ before)
-      → IfSome bench.told (λ was. LeavesLife command given was [] bench.told)
+      → IfSome bench.told (λ was. LeavesLife command given was [] bench.told) → (ComesFromInput (stop_of_read error) → IsRun (Some command) → HasNoRounds (stop_of_read error) given)
       → HasReported (Some command) given left before now bench bench [] (Err (stop_of_read error))
-  read_reported home reads takes refused failed kept life =
-      early_reported (Some command) given left before now bench (stop_of_read error) home (early error) (λ is. absurd (not_usage error is)) (λ none. absurd (not_none command none)) (cause error refused)
-      (λ is. failed (is_failed error is)) (λ other. kept (λ is. other (ap stop_of_read is)))
+  read_reported home reads takes refused failed kept life unrun =
+      early_reported (Some command) given left before now bench (stop_of_read error) home (early error) (λ is. absurd (not_usage error is)) (λ none. absurd (not_none command none)) (read_cause (form_of command) given error refused)
+      (λ is. failed (failed_is error is)) (λ other. kept (λ is. other (ap stop_of_read is)))
       (λ other is. subst (λ command. Takes command given left (Err (stop_of_read error))) (same_some is) takes)
       (λ other is. subst (λ command. (holding : Holding) → IsUnhindered command given holding (Rose before now) (Rose (expected_faults bench bench) bench.faults) → IsOwnStop (stop_of_read error)) (same_some is)
-      (λ holding free. own error refused failed free.read (reads free.has_input)))
-      (λ other is. subst (λ command. IfSome bench.told (λ was. LeavesLife command given was [] bench.told)) (same_some is) life)
+      (λ holding free. read_own (form_of command) given before now error refused failed free.read (reads free.has_input)))
+      (λ other is. subst (λ command. IfSome bench.told (λ was. LeavesLife command given was [] bench.told)) (same_some is) life) unrun
     where
       early : (error : ReadError) → IsEarly (stop_of_read error)
       early (read_errors.Bad bad) = tt
@@ -328,48 +398,12 @@ module _ (command : Command) (given left : Option (List ℕ)) (before now : ℕ)
       early read_errors.Failed = tt
       early read_errors.NoMemory = tt
 
-      not_usage : (error : ReadError) → stop_of_read error ≡ Usage → ⊥
-      not_usage (read_errors.Bad bad) is = cc
-      not_usage read_errors.InputLong is = cc
-      not_usage read_errors.Failed is = cc
-      not_usage read_errors.NoMemory is = cc
-
-      is_failed : (error : ReadError) → stop_of_read error ≡ Read → error ≡ read_errors.Failed
-      is_failed (read_errors.Bad bad) is = cc
-      is_failed read_errors.InputLong is = cc
-      is_failed read_errors.Failed is = refl
-      is_failed read_errors.NoMemory is = cc
-
-      cause : (error : ReadError) → IfSome given (IsRefusedAs (form_of command) error) → IfSome given (IsCauseOf (form_of command) (stop_of_read error))
-      cause (read_errors.Bad bad) refused = refused
-      cause read_errors.InputLong refused = refused
-      cause read_errors.Failed refused = refused
-      cause read_errors.NoMemory refused = refused
-
-      -- a trace is whole
-      at_input : (P : List ℕ → Type 0) (bytes : List ℕ) → given ≡ Some bytes → IfSome given P → P bytes
-      at_input P bytes is holds = subst (λ given. IfSome given P) is holds
-
-      own : (error : ReadError) → IfSome given (IsRefusedAs (form_of command) error) → (error ≡ read_errors.Failed → Rose before now) → ¬ (Rose before now)
-          → (bytes : List ℕ) × (given ≡ Some bytes) × IsTrace (form_of command) bytes → IsOwnStop (stop_of_read error)
-      own (read_errors.Bad bad) refused failed read has =
-          let ends : ending_of (form_of command) has.0 ≡ Bad bad = at_input (IsRefusedAs (form_of command) (read_errors.Bad bad)) has.0 has.1 refused in
-          let whole = has.2.1 in
-          absurd (whole_bad (sym whole ∙ ends))
-        where
-          whole_bad : {trace : Traced} → Whole trace ≡ Bad bad → ⊥
-          whole_bad is = cc
-      own read_errors.InputLong refused failed read has =
-          let ends : ending_of (form_of command) has.0 ≡ Long = at_input (IsRefusedAs (form_of command) read_errors.InputLong) has.0 has.1 refused in
-          let whole = has.2.1 in
-          absurd (whole_long (sym whole ∙ ends))
-        where
-          whole_long : {trace : Traced} → Whole trace ≡ Long → ⊥
-          whole_long is = cc
-      own read_errors.Failed refused failed read has = absurd (read (failed refl))
-      own read_errors.NoMemory refused failed read has = inl refl
-
 -- ---- what the commands have in common
+
+-- nothing was shown before its end
+pub shown_none : (over : Option Command) (given left : Option (List ℕ)) (before now : ℕ) (old new : BenchState) (result : Result (Vec ℕ) Stop) (written : Option (List ℕ)) (faults : ℕ) → HasReported over given left before now old new [] result
+    → (shown : List PlacedCall) × HasReported over given left before now old new shown result × HasShown result shown written written faults faults
+shown_none over given left before now old new result written faults reported = ([], reported, nothing_shown result written faults (λ is. (reported.write is).1 refl))
 
 pub on_ok : {T E : Type 0} {X : Type 0} (result : Result T E) → X → OnOk result X
 on_ok (Ok value) holds = holds
@@ -401,41 +435,6 @@ pub opening_counted : (before now : ℕ) (error : OpenError) → ErrorHasCause b
 opening_counted before now (open_errors.Refused why) cause = cause
 opening_counted before now open_errors.Fault cause = cause
 opening_counted before now open_errors.NoMemory cause = cause
-
--- memory is wanting before the region is opened
-pub unopened_run : (stop : Option ℕ) (options : RunOptions) (trace : Traced) (bench : BenchState) → IsRunnable trace → QuietPartHasOneImage → IsAtHome bench → HasRunTrace stop options trace bench bench (Err NoMemory)
-unopened_run stop options trace bench runnable one home = record {
-  runnable = runnable;
-  back = run_unmoved stop options bench;
-  cause = omega arith;
-  turns = λ is. cc;
-  never_falls = omega arith;
-  life = still_run bench bench options trace one refl home.quiet;
-  ran = tt;
-  refused = λ why is. cc;
-  unarmed = λ why is. cc;
-}
-
--- a run that isn't stopped
-pub unstopped_run : (options : RunOptions) (trace : Traced) (old new : BenchState) (result : Result (Vec ℕ) Stop) → IsRunnable trace → IsReady old → IsGivenBack old new → CountHasCause old.faults new.faults result
-    → IfSome old.told (λ was. LeavesRun options was trace [] new.told) → IfOk result (λ text. IfSome old.told (λ holding. HasRunOn Report options holding new.told trace text.items))
-    → ((why : Refusal) → result ≡ Err (Region why) → IfSome old.told (λ holding. IsRunRefused options holding trace.names old new why))
-    → HasRunTrace None options trace old new result
-unstopped_run options trace old new result runnable ready back cause life ran refused =
-    let same = ap (λ (state : BenchState). state.settled) back in
-    let before = ready.settled in
-    let low : new.settled ≤ old.faults = omega (arith, same, before) in
-    record {
-      runnable = runnable;
-      back = back;
-      cause = counted_settled old.faults new.faults new.settled result low cause;
-      turns = counted_not_turns old.faults new.faults result cause;
-      never_falls = count_grows old.faults new.faults result cause;
-      life = life;
-      ran = ran;
-      refused = refused;
-      unarmed = λ why is. if_told old.told (λ holding. new.arms ≡ old.arms) (λ holding told. ap (λ (state : BenchState). state.arms) back);
-    }
 
 -- what a run begins with whose region was opened, with the sizes of its options
 abbrev pub opened_basis : (options : RunOptions) (holding : Holding) (sizes : Geometry) (wanted names : List (List ℕ)) (page entries : ℕ) (all : List (List ℕ)) (next : ℕ) (row : List StoreHistory)

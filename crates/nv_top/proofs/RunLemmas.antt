@@ -292,28 +292,31 @@ module _ {L B : Type 0} (device : L → ℕ) (history : L → PartHistory) (faul
 
   pub has_run : (show : Show) (text : List ℕ) (backing : List B) → map store_history backing ≡ map store_history stores
       → ((now : List Store) → AreNow (map store_history stores) now → text ≡ text_as show (shown_report sorted [] basis.names (files_of now)))
-      → HasRunOver history store_history show plan.worker basis trace text parts backing
-  has_run show text backing same text_of = record {
-    report = report;
-    faithful = is_faithful;
-    plain = names_plain mount_layout.name_limit basis.names (files_of store_states.states).contents (each_allowed basis.names allowed);
-    text_is = text_of store_states.states store_states.are;
-    left = record {
-      page = sizes.page;
-      entries = sizes.entries;
-      next = tail;
-      now = part_states.states;
-      now_are = part_states.are;
-      rest = all_at_rest;
-      long = kept_long ended (map history parts) part_states.states by.lines long_parts part_states.are;
-      disks = store_states.states;
-      disks_are = subst (λ (row : List StoreHistory). AreNow row store_states.states) (sym same) store_states.are;
-      files_are = files_are;
-      synced = quiet_states (map store_history stores) store_states.states store_states.are rest.durable;
-    };
-    page_is = sym here.page;
-    entries_is = sym here.entries;
-    next_is =
-        emptied_logs_go_on basis trace fds plan start ended sorted (map (part_value device history faults room) parts) (map (store_value store_device store_history store_faults) stores) (map history parts)
-        (map store_history stores) (sum_by faults parts + sum_by store_faults stores) placed tail report is out by shows emptied;
-  }
+      → (run : HasRunOver history store_history show plan.worker basis trace text parts backing) × (run.report.history ≡ map placed_call sorted.placed.items)
+  has_run show text backing same text_of = (
+    record {
+      report = report;
+      faithful = is_faithful;
+      plain = names_plain mount_layout.name_limit basis.names (files_of store_states.states).contents (each_allowed basis.names allowed);
+      text_is = text_of store_states.states store_states.are;
+      left = record {
+        page = sizes.page;
+        entries = sizes.entries;
+        next = tail;
+        now = part_states.states;
+        now_are = part_states.are;
+        rest = all_at_rest;
+        long = kept_long ended (map history parts) part_states.states by.lines long_parts part_states.are;
+        disks = store_states.states;
+        disks_are = subst (λ (row : List StoreHistory). AreNow row store_states.states) (sym same) store_states.are;
+        files_are = files_are;
+        synced = quiet_states (map store_history stores) store_states.states store_states.are rest.durable;
+      };
+      page_is = sym here.page;
+      entries_is = sym here.entries;
+      next_is =
+          emptied_logs_go_on basis trace fds plan start ended sorted (map (part_value device history faults room) parts) (map (store_value store_device store_history store_faults) stores) (map history parts)
+          (map store_history stores) (sum_by faults parts + sum_by store_faults stores) placed tail report is out by shows emptied;
+    },
+    refl,
+  )

@@ -1,5 +1,6 @@
 -- What is said of what a command came to.
-use Rattle.std.proofs.Common.{◌≡◌, ◌≢◌, ◌⊎◌, ◌≤◌, ℕ, List, [], Option, Ok, Err, inl, inr, refl, sym, ◌∙◌, arith}
+use Rattle.std.proofs.Common.{◌≡◌, ◌≢◌, ◌⊎◌, ◌≤◌, ℕ, List, [], ◌++◌, take, Option, Some, None, Ok, Err, inl, inr, refl, sym, ap, subst, ◌∙◌, arith}
+use Rattle.std.proofs.lemmas.List.{append_assoc}
 use Rattle.std.proofs.lemmas.Bool.{cases_eq}
 use Rattle.std.specs.Prelude.{IsOk}
 use Rattle.nv_plain.specs.Faults.{Rose}
@@ -7,7 +8,11 @@ use Rattle.nv_trace.specs.Streams.{Appends}
 use Rattle.nv_trace.specs.declared.bad_line.BadLine.{BadLine as Bad}
 use Rattle.nv_open.specs.declared.error.Refusal.{Refusal}
 use Rattle.nv_top.specs.Endings.{AppendsFront}
-use Rattle.nv_top.specs.Said.{Outcome, IsSaid, GoWith, StatusesTellWhatCame, said_status}
+use Rattle.nv_runner.specs.Histories.{PlacedCall}
+use Rattle.nv_runner.specs.Reports.{history_lines}
+use Rattle.nv_top.proofs.RanLemmas.{nothing_written}
+use Rattle.nv_top.specs.Said.{Outcome, IsSaid, GoWith, HasShown, StatusesTellWhatCame, said_status}
+use Rattle.nv_top.specs.declared.ending.Stop.{Stop}
 use Rattle.nv_top.specs.declared.ending.Stop.TheVariants.{Usage, BadLine, InputLong, Read, Write, Device, Region, NoMemory, Turns}
 use Rattle.nv_top.specs.declared.ending.TheConstants.{DONE, USAGE, BAD_INPUT, READ_FAULT, WRITE_FAULT, DEVICE_FAULT, NO_MEMORY, BAD_REGION, TURNS_USED}
 
@@ -19,6 +24,69 @@ said_by came old new before now result status text other go front said fault sou
   | inl failed ↦ record { status = status; text = text; go = go; ends = inr (failed, inr (front failed), fault failed) }
   | inr well ↦ record { status = status; text = text; go = go; ends = inl (other, (said well).0, (said well).1, sound well) }
 ]
+
+-- behind what was shown before
+appends_behind : (old mid new : Option (List ℕ)) (first rest : List ℕ) → Appends old mid first → Appends mid new rest → Appends old new (first ++ rest)
+appends_behind None mid new first rest before after = tt
+appends_behind (Some bytes) mid new first rest before after =
+    let is : new ≡ Some ((bytes ++ first) ++ rest) = subst (λ mid. Appends mid new rest) before after in
+    is ∙ ap Some (append_assoc bytes first rest)
+
+pub said_behind : (came : Outcome) (shown : List ℕ) (old mid new : Option (List ℕ)) (before then now result : ℕ) → came ≢ Err Write → Appends old mid shown → then ≡ before → IsSaid came [] mid new then now result → IsSaid came shown old new before now result
+said_behind came shown old mid new before then now result other lines same said = record {
+  status = said.status;
+  text = said.text;
+  go = said.go;
+  ends = elim said.ends [
+    | inl well ↦ inl (other, well.1, appends_behind old mid new shown said.text lines well.2, well.3 ∙ same)
+    | inr failed ↦ inr (
+      failed.0,
+      elim failed.1 [
+        | inl cut ↦ absurd (other cut.0)
+        | inr front ↦ inr (front.0, appends_behind old mid new shown (take front.0 said.text) lines front.1)
+      ],
+      subst (λ before. Rose before now) same failed.2,
+    )
+  ];
+}
+
+-- where the sink's fault has ended it
+said_cut : (shown : List ℕ) (old new : Option (List ℕ)) (before now result : ℕ) → AppendsFront old new shown → Rose before now → result ≡ WRITE_FAULT → IsSaid (Err Write) shown old new before now result
+said_cut shown old new before now result front rose is = record { status = WRITE_FAULT; text = []; go = inl (refl, refl); ends = inr (is, inl (refl, front), rose) }
+
+is_write : (stop : Stop) → (stop ≡ Write) ⊎ (stop ≢ Write)
+is_write Usage = inr (λ is. cc)
+is_write (BadLine bad) = inr (λ is. cc)
+is_write InputLong = inr (λ is. cc)
+is_write Read = inr (λ is. cc)
+is_write Write = inl refl
+is_write Device = inr (λ is. cc)
+is_write (Region why) = inr (λ is. cc)
+is_write NoMemory = inr (λ is. cc)
+is_write Turns = inr (λ is. cc)
+
+abbrev as_stop : Stop → Outcome
+as_stop stop = Err stop
+
+same_stop : (one other : Stop) → as_stop one ≡ as_stop other → one ≡ other
+same_stop one other is = cc
+
+pub said_stop : (stop : Stop) (shown : List PlacedCall) (old mid new : Option (List ℕ)) (before then now result : ℕ) → HasShown (Err stop) shown old mid before then
+    → (stop ≢ Write → IsSaid (Err stop) [] mid new then now result) → (stop ≡ Write → (result ≡ WRITE_FAULT) × (new ≡ mid) × (now ≡ then)) → IsSaid (Err stop) (history_lines 0 shown) old new before now result
+said_stop stop shown old mid new before then now result lines said write = elim (is_write stop) [
+  | inl is ↦
+      let cut = lines.cut (ap Err is) in
+      let same = write is in
+      subst (λ (stop : Stop). IsSaid (Err stop) (history_lines 0 shown) old new before now result) (sym is)
+      (said_cut (history_lines 0 shown) old new before now result (subst (λ new. AppendsFront old new (history_lines 0 shown)) (sym same.1) cut.0) (subst (λ now. Rose before now) (sym same.2) cut.1) same.0)
+  | inr other ↦
+      let whole = lines.whole (λ is. other (same_stop stop Write is)) in
+      said_behind (Err stop) (history_lines 0 shown) old mid new before then now result (λ is. other (same_stop stop Write is)) whole.0 whole.1 (said other)
+]
+
+-- a command that has shown nothing before its end
+pub nothing_shown : (came : Outcome) (written : Option (List ℕ)) (faults : ℕ) → came ≢ Err Write → HasShown came [] written written faults faults
+nothing_shown came written faults other = record { whole = λ is. (nothing_written written, refl); cut = λ is. absurd (other is) }
 
 -- ---- which outcome a status is of
 

@@ -39,6 +39,7 @@ use Rattle.nv_schedule.specs.declared.scheduled.ScheduledCalls.{ScheduledCalls}
 use Rattle.nv_top.specs.Lives.{HasLived}
 use Rattle.nv_top.specs.Runs.{BeginsMount}
 use Rattle.nv_top.specs.Stopping.{IsAway}
+use Rattle.nv_top.proofs.RanLemmas.{life_behind}
 use Rattle.nv_top.proofs.FollowedLemmas.{one_round}
 use Rattle.nv_top.proofs.LifeLemmas.{lines_home, lived_home, lived_powered, lived_recovered}
 use Rattle.nv_top.proofs.StoppingLemmas.{HasClosedOver, at_some, devices_tell, home_with, if_some, quiet_after}
@@ -67,7 +68,7 @@ scheduled_home history held trace mount pass zero part_values store_values parts
     let made = mounted_lines (mount_of mount.board.opened) pass.spare in
     let counted = lines_home (map history parts) mount.board.opened zero.view.opened pass.spare zero.spare (here ∙ sym scheduled.opened) scheduled.spare closed.lines in
     if_some start.told (λ left. IsAway basis.names left → HasLived basis trace [] made left.stores home) (λ left told_is away.
-    lived_home basis trace history held parts backing made home left.stores whole (record { parts_tell = tell.0; stores_tell = tell.1; lines_are = counted; life = life })
+    lived_home basis trace [] history held parts backing made home left.stores whole (record { parts_tell = tell.0; stores_tell = tell.1; lines_are = counted; life = life_behind basis trace (map history parts) (map held backing) life })
     (λ disks are. all_behind basis.names left.stores (named_stores basis.names disks) away ∙ own_stores basis.names disks (begins.is_mount.names ∙ sym many ∙ sym (length_now (map held backing) disks are)) apart)
     (λ now disks now_are disks_are. gives now disks now_are disks_are
     ∙ ap (λ (s : BenchState). told_back now disks s) armed_is

@@ -32,7 +32,7 @@ err_has result P error is has =
     subst Of is has
 
 -- a stop that a bench gives doesn't come of the input
-pub settled_opened : {T : Type 0} (settled now : ℕ) (result : Result T Stop) (P : Type 0) → IsSettledStop settled now result → IfErr result (λ stop. ComesFromInput stop → P)
+pub settled_opened : {T : Type 0} (settled now : ℕ) (result : Result T Stop) (P : Stop → Type 0) → IsSettledStop settled now result → IfErr result (λ stop. ComesFromInput stop → P stop)
 settled_opened settled now (Ok value) P cause = tt
 settled_opened settled now (Err Usage) P cause = absurd cause
 settled_opened settled now (Err (BadLine bad)) P cause = absurd cause
@@ -43,3 +43,13 @@ settled_opened settled now (Err Device) P cause = λ none. absurd none
 settled_opened settled now (Err (Region refusal)) P cause = λ none. absurd none
 settled_opened settled now (Err NoMemory) P cause = λ none. absurd none
 settled_opened settled now (Err Turns) P cause = λ none. absurd none
+
+abbrev pub Err_of : (T : Type 0) → Stop → Result T Stop
+Err_of T stop = Err stop
+
+same_stop : (T : Type 0) (one other : Stop) → Err_of T one ≡ Err_of T other → one ≡ other
+same_stop T one other is = cc
+
+-- two stops are two answers
+pub other_stops : {T : Type 0} (one other : Stop) → (one ≡ other → ⊥) → Err_of T one ≡ Err_of T other → ⊥
+other_stops {T} one other apart is = apart (same_stop T one other is)

@@ -410,31 +410,33 @@ module _ (basis : Basis) (trace : Traced) (mount : MountState) (pass zero : Pass
                 (subst Faults (writes ∙ left_writes descriptors items) moved);
           }
 
-      pub has_stopped : HasStoppedOn failed plan.worker plan.image before basis trace many others bench text
-      has_stopped =
-          record {
-            report = report;
-            last = zero.view;
-            faithful = is_faithful;
-            stopped = saw;
-            plain = names_plain mount_layout.name_limit basis.names shown_files.contents (each_allowed basis.names allowed);
-            text_is =
-                shows_so.shown.text_is
-                ∙ ap (λ open_calls. report_text (shown_report sorted open_calls (header_names after_power.parts) shown_files)) (shows_so.shown.are_open.none refl)
-                ∙ ap (λ names. report_text (fated_report sorted found names shown_files)) names_so;
-            open_calls = map opened_call items;
-            ran = of_report;
-            left = record {
-              lost = lost_power basis trace mount pass zero part_values store_values parts held faults placed tail closed_over stand_so plan.image before bench after_power found.next power_left picked many many_so others others_so left
-                  (shows_so.log.next basis.files) shows_so.left;
-              home = home;
-              cells = cells;
-              power_is = power_is;
-              whole = left;
-            };
-            shows = ap (λ names. files_named after_power.parts names after_power.stores) (sym names_so) ∙ files_are;
-            fated = fates;
-          }
+      pub has_stopped : (stopped : HasStoppedOn failed plan.worker plan.image before basis trace many others bench text) × (stopped.report.history ≡ map placed_call sorted.placed.items)
+      has_stopped = (
+        record {
+          report = report;
+          last = zero.view;
+          faithful = is_faithful;
+          stopped = saw;
+          plain = names_plain mount_layout.name_limit basis.names shown_files.contents (each_allowed basis.names allowed);
+          text_is =
+              shows_so.shown.text_is
+              ∙ ap (λ open_calls. report_text (shown_report sorted open_calls (header_names after_power.parts) shown_files)) (shows_so.shown.are_open.none refl)
+              ∙ ap (λ names. report_text (fated_report sorted found names shown_files)) names_so;
+          open_calls = map opened_call items;
+          ran = of_report;
+          left = record {
+            lost = lost_power basis trace mount pass zero part_values store_values parts held faults placed tail closed_over stand_so plan.image before bench after_power found.next power_left picked many many_so others others_so left
+                (shows_so.log.next basis.files) shows_so.left;
+            home = home;
+            cells = cells;
+            power_is = power_is;
+            whole = left;
+          };
+          shows = ap (λ names. files_named after_power.parts names after_power.stores) (sym names_so) ∙ files_are;
+          fated = fates;
+        },
+        refl,
+      )
 
 -- ---- the bench
 

@@ -1,5 +1,5 @@
 -- Commands: what each makes of a bench.
-use Rattle.std.specs.Prelude.{◌≡◌, ℕ, Bool, true, false, List, [], length, Option, Some, None}
+use Rattle.std.specs.Prelude.{◌≡◌, ℕ, Bool, true, false, List, [], ◌++◌, length, Option, Some, None}
 use Rattle.nv_plain.specs.Images.{header_of}
 use Rattle.nv_plain.specs.Layouts.{mount_layout}
 use Rattle.nv_plain.specs.Recovered.{Fits, recovered}
@@ -18,13 +18,15 @@ use Rattle.nv_open.specs.Unopened.{RestsUnopened, TellsOf}
 use Rattle.nv_recover.specs.Standing.{files_of}
 use Rattle.nv_trace.specs.Traced.{Traced}
 use Rattle.nv_runner.specs.Faithful.{Basis, IsFaithful, files_shown, named}
-use Rattle.nv_runner.specs.Reports.{Report}
+use Rattle.nv_runner.specs.Histories.{PlacedCall}
+use Rattle.nv_runner.specs.Reports.{Report, history_lines}
 use Rattle.nv_top.specs.Leaving.{Leaves}
 use Rattle.nv_top.specs.Readings.{HavePlainNames}
 use Rattle.nv_top.specs.Reports.{RecoveryReport, recovery_text}
 use Rattle.nv_top.specs.Runs.{next_behind}
 use Rattle.nv_top.specs.Shows.{text_as}
 use Rattle.nv_top.specs.declared.show.Show.{Show}
+use Rattle.nv_top.specs.declared.show.Show.TheVariants as shows
 use Rattle.nv_words.specs.declared.words.RunOptions.{RunOptions}
 
 -- the bench is as it was, but for what it holds and its count of faults
@@ -73,6 +75,10 @@ pub record HasRunOn (show : Show) (options : RunOptions) (holding : Holding) (to
   pub page_is : left.left.page ≡ basis.sizes.page
   pub entries_is : left.left.entries ≡ basis.sizes.entries
   pub next_is : left.left.next ≡ next_behind basis report
+
+-- The text shows the rest of such a report, behind the lines of these calls; where the report is shown they are all that have a place.
+abbrev pub HasRunOnBehind : Show → RunOptions → Holding → (told : Option Holding) → Traced → (shown : List PlacedCall) → (text : List ℕ) → Type 0
+HasRunOnBehind show options holding told trace shown text = (run : HasRunOn show options holding told trace (history_lines 0 shown ++ text)) × (show ≡ shows.Report → run.report.history ≡ shown)
 
 -- ---- a recovery
 

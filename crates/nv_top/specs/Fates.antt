@@ -12,6 +12,7 @@ use Rattle.nv_trace.specs.declared.trace_call.TracedCall.{TracedCall}
 use Rattle.nv_runner.specs.declared.sorted.Open.{Open}
 use Rattle.nv_runner.specs.declared.sorted.SortedCalls.{SortedCalls}
 use Rattle.nv_runner.specs.Reports.{OpenCall, Report}
+use Rattle.nv_runner.specs.Sorted.{OpenedCall}
 use Rattle.nv_top.specs.Outcomes.{shown_report}
 
 -- A write that drew this number is kept where the number lies below the first one that recovery found, or among its groups.
@@ -21,6 +22,10 @@ fate_of first groups number = if nat_lt number first || list_any (λ leader. lea
 -- a write that was left open, with its fate
 abbrev pub fated : (first : ℕ) → (groups : List ℕ) → Open → OpenCall
 fated first groups write = record { call = write.call.now; fate = fate_of first groups write.number }
+
+-- and of what is kept of it
+abbrev pub fated_opened : (first : ℕ) → (groups : List ℕ) → OpenedCall → OpenCall
+fated_opened first groups write = record { call = write.call; fate = fate_of first groups write.number }
 
 -- what became of a call that was begun and drew no number: nothing of a write is in the files, and the others have no answer
 abbrev pub begun_fate : TraceCall → Fate

@@ -25,7 +25,8 @@ use Rattle.nv_load.specs.Generated.{generated}
 use Rattle.nv_top.specs.Loads.{HasGenerated, load_options}
 use Rattle.nv_top.specs.declared.show.Show.TheVariants.{Report}
 use Rattle.nv_top.specs.Endings.{IsTrace, OfRead}
-use Rattle.nv_top.specs.Rounds.{OfReadSoFar, OfRounds}
+use Rattle.nv_top.specs.Rounds.{OfReadSoFar, OfRunRounds}
+use Rattle.nv_top.specs.declared.ending.Stop.{Stop}
 use Rattle.nv_top.specs.Scheduling.{HasScheduledOn, HasUsedTurns, IsArmedAt, IsArmedAtSome}
 use Rattle.nv_top.specs.Stopped.{HasStoppedOn}
 use Rattle.nv_top.specs.Stopping.{IsAllBack, IsPickedOnce, IsPoweredBack}
@@ -113,10 +114,10 @@ abbrev pub history_of_shown : (stop : Option ℕ) (options : RunOptions) (old ne
 history_of_shown None options old new holding trace text run = run.report.history
 history_of_shown (Some k) options old new holding trace text run = run.stopped.report.history
 
--- A run was one of some first rounds of its input, whose placed calls were shown: the bench is left as by one that would have shown the rest of the report too.
-abbrev pub HasRunRounds : RunOptions → (input : Option (List ℕ)) → (shown : List PlacedCall) → (old new : BenchState) → Holding → Type 0
-HasRunRounds options input shown old new holding =
-    OfRounds input (λ trace. (text : List ℕ) × (run : IsShownOf options.stop options old new holding trace text) × (history_of_shown options.stop options old new holding trace text run ≡ shown))
+-- A run was one of first rounds of its input, whose placed calls were shown, before this stopped it: the bench is left as by one that would have shown the rest of the report too.
+abbrev pub HasRunRounds : RunOptions → Stop → (input : Option (List ℕ)) → (shown : List PlacedCall) → (old new : BenchState) → Holding → Type 0
+HasRunRounds options stop input shown old new holding =
+    OfRunRounds stop input (λ trace. (text : List ℕ) × (run : IsShownOf options.stop options old new holding trace text) × (history_of_shown options.stop options old new holding trace text run ≡ shown))
 
 -- The text is that of a report of a trace whose schedule was followed on a bench that held this, and had lost power with those picks, and is that now. Its parts and its other stores are as behind a stop.
 pub record HasFollowed (failed : Type 0) (options : RunOptions) (before : List Pick) (holding : Holding) (bench : BenchState) (trace : Traced) (text : List ℕ) : Type 0 where

@@ -22,6 +22,7 @@ pub mod Loads
 pub mod Headline
 pub mod Lives
 pub mod Reported
+pub mod RunInputs
 pub mod Accepted
 pub mod NextCommands
 pub mod InTurn

@@ -11,7 +11,8 @@ use Rattle.nv_recover.specs.Telling.{AllTell}
 use Rattle.nv_core.specs.invariant.OneHistory.{IsPrefix}
 use Rattle.nv_runner.specs.Faithful.{Basis}
 use Rattle.nv_runner.specs.Histories.{PlacedCall}
-use Rattle.nv_runner.specs.Lives.{IsHistoryOf, LeaveLife, RecoversBehind}
+use Rattle.nv_runner.specs.Lives.{IsHistoryOf, RecoversBehind}
+use Rattle.nv_runner.specs.ShownLives.{LeaveLifeBehind}
 use Rattle.nv_load.specs.Generated.{generated}
 use Rattle.nv_trace.specs.declared.trace.Form.TheVariants as forms
 use Rattle.nv_trace.specs.Traced.{Traced}
@@ -67,9 +68,9 @@ LeavesLife Recover input was shown told = LeavesRecovery was told
 LeavesLife (Look files) input was shown told = Unit {0}
 LeavesLife (Gen load) input was shown told = LeavesRun load_options was (generated load) [] told
 
--- Parts and stores tell, and were left so by a run, or a schedule, of a trace from a basis. The parts have so many lines each.
-pub record AreLeftSo {X Y : Type 0} (history : X → lines.PartHistory) (held : Y → stores.StoreHistory) (basis : Basis) (trace : Traced) (counts : List ℕ) (parts : List X) (backing : List Y) : Type 0 where
+-- Parts and stores tell, and were left so by a run, or a schedule, of a trace from a basis, whose history begins with these calls. The parts have so many lines each.
+pub record AreLeftSo {X Y : Type 0} (history : X → lines.PartHistory) (held : Y → stores.StoreHistory) (basis : Basis) (trace : Traced) (shown : List PlacedCall) (counts : List ℕ) (parts : List X) (backing : List Y) : Type 0 where
   pub parts_tell : AllTell (map history parts)
   pub stores_tell : AllTell (map held backing)
   pub lines_are : RowTells (map history parts) (λ now. line_counts now ≡ counts)
-  pub life : LeaveLife basis trace (map history parts) (map held backing)
+  pub life : LeaveLifeBehind basis trace shown (map history parts) (map held backing)

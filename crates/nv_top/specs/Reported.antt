@@ -1,4 +1,4 @@
--- Reported: what a command, or a run of a trace, comes to: its report or its stop, the source, and the bench.
+-- Reported: what a command comes to: its report or its stop, the source, and the bench.
 use Rattle.std.specs.Prelude.{◌≡◌, ◌≢◌, ◌⊎◌, ◌≤◌, ℕ, Bool, List, [], ◌∷◌, ◌++◌, Option, Some, None, IfSome, Result, Err, IfOk, IfErr, OnOk}
 use Rattle.std.specs.Global.{Vec}
 use Rattle.nv_plain.specs.Faults.{Rose}
@@ -6,14 +6,12 @@ use Rattle.nv_bench.specs.Benches.{BenchState}
 use Rattle.nv_load.specs.declared.load.Load.{Load}
 use Rattle.nv_open.specs.declared.error.Refusal.{Refusal}
 use Rattle.nv_runner.specs.Histories.{PlacedCall}
-use Rattle.nv_trace.specs.Traced.{Traced}
 use Rattle.nv_trace.specs.declared.trace.Form.TheVariants as forms
 use Rattle.nv_top.specs.Endings.{IsTrace}
-use Rattle.nv_top.specs.Headline.{HasRunRounds, IsArmedByAll, IsArmedBySome, IsCommandRefused, IsLeftAfter, IsLeftBy, IsRun, IsRunRefused, IsShown, IsShownOf, IsUnhindered, UsesTurns, expected_faults, form_by}
-use Rattle.nv_top.specs.Lives.{LeavesLife, LeavesRun}
-use Rattle.nv_top.specs.Ready.{IsRunnable}
+use Rattle.nv_top.specs.Headline.{HasRunRounds, IsArmedByAll, IsArmedBySome, IsCommandRefused, IsLeftBy, IsRun, IsShown, IsUnhindered, UsesTurns, expected_faults, form_by}
+use Rattle.nv_top.specs.Lives.{LeavesLife}
 use Rattle.nv_runner.specs.Reports.{history_lines}
-use Rattle.nv_top.specs.Stopping.{IsSettledStop}
+use Rattle.nv_top.specs.Rounds.{HasNoRounds}
 use Rattle.nv_top.specs.Stops.{ComesFromInput, IsCauseOf, IsFollowed, IsOwnStop}
 use Rattle.nv_top.specs.declared.ending.Stop.{Stop}
 use Rattle.nv_top.specs.declared.ending.Stop.TheVariants.{Usage, Read, Write, Device, Region, NoMemory, Turns}
@@ -62,19 +60,9 @@ pub record HasReported (over : Option Command) (given left : Option (List ℕ)) 
   -- Whatever it comes to, a bench that stood for files stands for them still, or for those after a legal history of calls of the trace, which begins with those that were shown, and some other calls, each whole, in whatever state power
   -- leaves it. It has as many parts as before, or as were made of a blank region, and its other stores are as they were; and a region that is refused for its bytes is as it was.
   pub life : (command : Command) → over ≡ Some command → IfSome old.told (λ was. LeavesLife command given was shown new.told)
-  -- Where the words or the input stopped it the bench is as it was, and nothing was shown; or a run was one of some first rounds, all of whose placed calls were shown.
-  pub stopped : IfErr result (λ stop. ComesFromInput stop → ((new ≡ old) × (shown ≡ [])) ⊎ ((options : RunOptions) × (over ≡ Some (Run options)) × IfSome old.told (HasRunRounds options given shown old new)))
+  -- Where the words or the input stopped it the bench is as it was, and nothing was shown: a run's input has no round that could be run then, unless the source failed. Or a run was one of first rounds, as many as could be run, all of whose
+  -- placed calls were shown.
+  pub stopped : IfErr result (λ stop. ComesFromInput stop
+      → ((new ≡ old) × (shown ≡ []) × (IsRun over → HasNoRounds stop given)) ⊎ ((options : RunOptions) × (over ≡ Some (Run options)) × IfSome old.told (HasRunRounds options stop given shown old new)))
   -- The report, with what was shown before, is what the command shows, and the bench holds what it shows.
   pub report : IfOk result (λ text. (command : Command) → over ≡ Some command → IfSome old.told (λ holding. IsShown command given old new holding (history_lines 0 shown ++ text.items)))
-
--- What a run of a trace comes to, which may be stopped: its report, or why there is none. The trace is as its reader makes it; the bench was `old`, and is `new`.
-pub record HasRunTrace (stop : Option ℕ) (options : RunOptions) (trace : Traced) (old new : BenchState) (result : Result (Vec ℕ) Stop) : Type 0 where
-  pub runnable : IsRunnable trace
-  pub back : IsLeftAfter stop options.image old new
-  pub cause : IsSettledStop (expected_faults old new) new.faults result
-  pub turns : result ≢ Err Turns
-  pub never_falls : old.faults ≤ new.faults
-  pub life : IfSome old.told (λ was. LeavesRun options was trace [] new.told)
-  pub ran : IfOk result (λ text. IfSome old.told (λ holding. IsShownOf stop options old new holding trace text.items))
-  pub refused : (why : Refusal) → result ≡ Err (Region why) → IfSome old.told (λ holding. IsRunRefused options holding trace.names old new why)
-  pub unarmed : (why : Refusal) → result ≡ Err (Region why) → IfSome old.told (λ holding. new.arms ≡ old.arms)

@@ -1,5 +1,5 @@
 -- Reports: the text of one, and what that of a recovery lists.
-use Rattle.std.specs.Prelude.{ℕ, ◌+◌, List, [], ◌∷◌, ◌++◌, length}
+use Rattle.std.specs.Prelude.{ℕ, List, ◌++◌, length}
 use Rattle.std.specs.List.{flat_map}
 use Rattle.nv_trace.specs.Report.{open_text, recovered_text, file_text, end_text}
 use Rattle.nv_runner.specs.Reports.{NamedFile, OpenCall, Report, history_lines, refused_lines}

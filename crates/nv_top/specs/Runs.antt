@@ -1,5 +1,5 @@
 -- Runs: what one over a region begins with, and what it leaves.
-use Rattle.std.specs.Prelude.{◌≡◌, ℕ, ◌+◌, ◌*◌, min, Bool, List, All}
+use Rattle.std.specs.Prelude.{◌≡◌, ℕ, ◌+◌, ◌*◌, min, Bool, List, ◌++◌, All}
 use Rattle.nv_pmem.specs.Images.{IsQuietPart}
 use Rattle.nv_pmem.specs.Part.{Part}
 use Rattle.nv_pmem.specs.Steps as lines
@@ -17,11 +17,13 @@ use Rattle.nv_trace.specs.Traced.{Traced}
 use Rattle.nv_runner.specs.Entries.{entries_of_calls}
 use Rattle.nv_runner.specs.Faithful.{Basis, IsFaithful, drawing_calls, files_shown}
 use Rattle.nv_runner.specs.FaithfulRuns.{IsMountOf}
-use Rattle.nv_runner.specs.Reports.{Report}
+use Rattle.nv_runner.specs.Histories.{PlacedCall}
+use Rattle.nv_runner.specs.Reports.{Report, history_lines}
 use Rattle.nv_top.specs.Leaving.{AreLeft}
 use Rattle.nv_top.specs.Readings.{HavePlainNames}
 use Rattle.nv_top.specs.Shows.{text_as}
 use Rattle.nv_top.specs.declared.show.Show.{Show}
+use Rattle.nv_top.specs.declared.show.Show.TheVariants as shows
 
 -- the basis that a region is, with files of so many pages, and with these
 abbrev pub basis_over : {L : Type 0} {g : _} → Region L g → (pages : ℕ) → Files → Basis
@@ -62,3 +64,8 @@ pub record HasRunOver {X Y : Type 0} (history : X → lines.PartHistory) (held :
   pub page_is : left.page ≡ basis.sizes.page
   pub entries_is : left.entries ≡ basis.sizes.entries
   pub next_is : left.next ≡ next_behind basis report
+
+-- The text shows the rest of such a report, behind the lines of these calls; where the report is shown they are all that have a place.
+abbrev pub HasRunBehind : {X Y : Type 0} (history : X → lines.PartHistory) (held : Y → stores.StoreHistory) (show : Show) (worker : Bool) (basis : Basis) (trace : Traced) (shown : List PlacedCall) (text : List ℕ) (parts : List X) (backing : List Y) → Type 0
+HasRunBehind history held show worker basis trace shown text parts backing =
+    (run : HasRunOver history held show worker basis trace (history_lines 0 shown ++ text) parts backing) × (show ≡ shows.Report → run.report.history ≡ shown)

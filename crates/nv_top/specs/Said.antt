@@ -5,6 +5,8 @@ use Rattle.nv_plain.specs.Faults.{Rose}
 use Rattle.nv_trace.specs.Streams.{Appends}
 use Rattle.nv_trace.specs.declared.bad_line.BadLine.{BadLine as Bad}
 use Rattle.nv_open.specs.declared.error.Refusal.{Refusal}
+use Rattle.nv_runner.specs.Histories.{PlacedCall}
+use Rattle.nv_runner.specs.Reports.{history_lines}
 use Rattle.nv_top.specs.Endings.{AppendsFront, memory_line}
 use Rattle.nv_top.specs.Stops.{TakesMemory, stop_line, stop_status}
 use Rattle.nv_top.specs.declared.ending.Stop.{Stop}
@@ -37,6 +39,11 @@ GoWith came status text = ((status ≡ said_status came) × (text ≡ said_text 
 -- What the sink took of what was shown before a command's end, and of the text at its end, where its count of faults rose: a front of what was shown, where that ended the command; else all of it, and a front of the text.
 abbrev pub IsCutShort : Outcome → (shown text : List ℕ) → (old new : Option (List ℕ)) → Type 0
 IsCutShort came shown text old new = ((came ≡ Err Write) × AppendsFront old new shown) ⊎ ((count : ℕ) × Appends old new (shown ++ take count text))
+
+-- What was written before a command's end: the lines of what it has shown, or a front of them, where the sink's fault ended it, whose count rose then alone.
+pub record HasShown (came : Outcome) (shown : List PlacedCall) (old now : Option (List ℕ)) (before then : ℕ) : Type 0 where
+  pub whole : came ≢ Err Write → Appends old now (history_lines 0 shown) × (then ≡ before)
+  pub cut : came ≡ Err Write → AppendsFront old now (history_lines 0 shown) × Rose before then
 
 -- The sink took what was shown and the whole text behind it, and the status is the one that goes with it; or its count of faults rose, it has taken a front of that, and the status is that of its fault.
 pub record IsSaid (came : Outcome) (shown : List ℕ) (old new : Option (List ℕ)) (before now : ℕ) (result : ℕ) : Type 0 where

@@ -1,5 +1,5 @@
 -- Stopped: what a run that was stopped shows, over the run of the core that it was.
-use Rattle.std.specs.Prelude.{◌≡◌, ℕ, ◌≤◌, Bool, List, map, All, IsPermutation}
+use Rattle.std.specs.Prelude.{◌≡◌, ℕ, ◌≤◌, Bool, List, ◌++◌, map, All, IsPermutation}
 use Rattle.nv_plain.specs.Files.{Files}
 use Rattle.nv_plain.specs.Recovered.{recovered}
 use Rattle.nv_pmem.specs.Part.{Part}
@@ -20,9 +20,9 @@ use Rattle.nv_runner.specs.DrawnNumbers.{DrewInARow}
 use Rattle.nv_runner.specs.Entries.{entries_taken}
 use Rattle.nv_runner.specs.Faithful.{Basis, IsFaithful, descriptors_in, drawing_calls, file_call, files_shown}
 use Rattle.nv_runner.specs.FaithfulRuns.{IsMountOf, as_fd}
-use Rattle.nv_runner.specs.Histories.{AreHistory}
+use Rattle.nv_runner.specs.Histories.{AreHistory, PlacedCall}
 use Rattle.nv_runner.specs.KeptCalls.{IsKeptWhole}
-use Rattle.nv_runner.specs.Reports.{OpenCall, Report}
+use Rattle.nv_runner.specs.Reports.{OpenCall, Report, history_lines}
 use Rattle.nv_runner.specs.RunRefusals.{IsRunOfPasses}
 use Rattle.nv_runner.specs.Sorted.{OpenedCall}
 use Rattle.nv_top.specs.Behind.{HasLostPowerBehind}
@@ -76,3 +76,8 @@ pub record HasStoppedOn (failed : Type 0) (worker : Bool) (pick : Pick) (before 
   pub left : HasLostPowerBehind last pick before basis many others bench
   pub shows : files_named left.lost.power.parts basis.names left.lost.power.stores ≡ files_shown basis trace report
   pub fated : HaveFates basis trace left.lost.power.parts report open_calls
+
+-- The text is that of the rest of such a report, behind the lines of these calls, which are all that have a place.
+abbrev pub HasStoppedBehind : (failed : Type 0) (worker : Bool) (pick : Pick) (before : List Pick) (basis : Basis) (trace : Traced) (shown : List PlacedCall) (many : ℕ) (others : List NamedStore) (bench : BenchState) (text : List ℕ) → Type 0
+HasStoppedBehind failed worker pick before basis trace shown many others bench text =
+    (stopped : HasStoppedOn failed worker pick before basis trace many others bench (history_lines 0 shown ++ text)) × (stopped.report.history ≡ shown)

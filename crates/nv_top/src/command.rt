@@ -4,16 +4,21 @@ ghost use Rattle.nv_bench.specs.Holding.{IsQuietHolding};
 ghost use Rattle.nv_open.specs.declared.error.Refusal.{Refusal};
 ghost use Rattle.nv_top.specs.Headline.{HasInput, HasRefusal, command_over, possible};
 ghost use Rattle.nv_runner.specs.Histories.{PlacedCall};
-ghost use Rattle.nv_top.specs.Ready.{IsReady, IsRunnable};
-ghost use Rattle.nv_top.specs.Reported.{HasReported, HasRunTrace};
+ghost use Rattle.nv_top.specs.Ran.{IsRunInput};
+ghost use Rattle.nv_top.specs.Ready.{IsReady};
+ghost use Rattle.nv_top.specs.Reported.{HasReported};
+ghost use Rattle.nv_top.specs.RunInputs.{HasRunInput};
 ghost use Rattle.nv_runner.specs.Reports.{history_lines};
-ghost use Rattle.nv_top.specs.Said.{IsSaid, Outcome};
+ghost use Rattle.nv_top.specs.Said.{HasShown, IsSaid, Outcome};
+ghost use Rattle.nv_trace.specs.Shape.{IsWellFormed};
+ghost use Rattle.nv_top.specs.declared.show.Show.TheVariants as shows;
 ghost use Rattle.nv_words.specs.Words.{AreInLimits};
 ghost use Rattle.nv_words.specs.declared.words.Command.{Command};
 ghost use Rattle.nv_words.specs.declared.words.Command.TheVariants as commands;
 ghost use Rattle.nv_words.specs.declared.words.WordsError.TheVariants as words_errors;
 
 use crate::ending::{DONE, Stop, say, say_stop};
+use crate::input::{Input, first_round};
 use crate::laws::a_refused_region_shows_nothing;
 use crate::loading::run_load;
 use crate::looking::look;
@@ -25,7 +30,7 @@ use crate::stopping::run_to_stop;
 use nv_bench::Bench;
 use nv_pmem::images_follow_calls;
 use nv_runner::Gate;
-use nv_trace::{Form, Sink, Source, Trace, read_trace};
+use nv_trace::{Form, Sink, Source, read_trace};
 use nv_words::{Command, RunOptions, WordsError, parse_command};
 use std::alloc::Global;
 use std::sync::Wait;
@@ -61,33 +66,36 @@ pub fn nv_main<R: Threads + Wait + Sync, I: Source, O: Sink, B: Bench, G: Gate +
         → IfSome (B.state bench.old).told (λ holding. (why : Refusal) → ¬ (HasRefusal command (I.left src.old) holding why)) }
 {
     a_refused_region_shows_nothing();
-    match report(rt, alloc, words, src, bench, gate) {
+    match report(rt, alloc, words, src, out, bench, gate) {
         Ok(text) => say(out, DONE, &text),
         Err(stop) => say_stop(alloc, out, &stop),
     }
 }
 
-// The report of a command, or why there is none.
-fn report<R: Threads + Wait + Sync, I: Source, B: Bench, G: Gate + Sync>(
+// The report of a command behind what it has shown before its end, or why there is none.
+fn report<R: Threads + Wait + Sync, I: Source, O: Sink, B: Bench, G: Gate + Sync>(
     rt: &R,
     alloc: Global,
     words: &[String],
     src: &mut I,
+    out: &mut O,
     bench: &mut B,
     gate: &G,
 ) -> Result<Vec<u8>, Stop>
     requires ready { IsReady (B.state bench.old) }
-    ensures { HasReported (command_over B.can_lose_power (map string_bytes words.now)) (I.left src.old) (I.left src.new) (I.fault_count src.old) (I.fault_count src.new)
-        (B.state bench.old) (B.state bench.new) [] result }
+    ensures { (shown : List PlacedCall)
+        × HasReported (command_over B.can_lose_power (map string_bytes words.now)) (I.left src.old) (I.left src.new) (I.fault_count src.old) (I.fault_count src.new)
+        (B.state bench.old) (B.state bench.new) shown result
+        × HasShown result shown (O.written out.old) (O.written out.new) (O.fault_count out.old) (O.fault_count out.new) }
 {
     images_follow_calls();
     let command = command_over::<B>(alloc, words)?;
     match command {
-        Command::Run(options) => run_input(rt, alloc, gate, src, bench, options),
+        Command::Run(options) => run_input(rt, alloc, gate, src, out, bench, options),
         Command::Sched(options) => schedule_input(alloc, src, bench, options),
         Command::Recover => recover(alloc, bench),
         Command::Look { files } => look(alloc, bench, files),
-        Command::Gen(load) => run_load(rt, alloc, gate, bench, load),
+        Command::Gen(load) => run_load(rt, alloc, gate, bench, load, src, out),
     }
 }
 
@@ -111,24 +119,27 @@ fn command_on(command: Command, images: bool) -> Option<Command>
     }
 }
 
-// The report of a run of the trace that the source gives.
-fn run_input<R: Threads + Wait + Sync, I: Source, B: Bench, G: Gate + Sync>(
+// The report of a run of the rounds that the source gives, each as it is read, behind their lines.
+fn run_input<R: Threads + Wait + Sync, I: Source, O: Sink, B: Bench, G: Gate + Sync>(
     rt: &R,
     alloc: Global,
     gate: &G,
     src: &mut I,
+    out: &mut O,
     bench: &mut B,
     options: RunOptions,
 ) -> Result<Vec<u8>, Stop>
     requires ready { IsReady (B.state bench.old) }
     requires limits { AreInLimits options }
     requires stop { IfSome options.stop (λ k. (1 ≤ k) × (B.can_lose_power ≡ true)) }
-    ensures { HasReported (Some (commands.Run options)) (I.left src.old) (I.left src.new) (I.fault_count src.old) (I.fault_count src.new)
-        (B.state bench.old) (B.state bench.new) [] result }
+    ensures { (shown : List PlacedCall)
+        × HasReported (Some (commands.Run options)) (I.left src.old) (I.left src.new) (I.fault_count src.old) (I.fault_count src.new)
+        (B.state bench.old) (B.state bench.new) shown result
+        × HasShown result shown (O.written out.old) (O.written out.new) (O.fault_count out.old) (O.fault_count out.new) }
 {
     images_follow_calls();
-    let trace = read_trace(alloc, Form::Run, src)?;
-    run_trace(rt, alloc, gate, bench, options, &trace)
+    let mut input = first_round(alloc, src)?;
+    run_rounds(rt, alloc, gate, bench, options, &mut input, src, out)
 }
 
 // The report of the schedule of the trace that the source gives.
@@ -149,23 +160,37 @@ fn schedule_input<I: Source, B: Bench>(
     schedule(alloc, bench, options, &trace)
 }
 
-// The report of a run of a trace, which may be stopped.
-fn run_trace<R: Threads + Wait + Sync, T: Bench, G: Gate + Sync>(
+// The report of a run of the rounds of an input, which may be stopped.
+fn run_rounds<R: Threads + Wait + Sync, T: Bench, G: Gate + Sync, I: Source, O: Sink>(
     rt: &R,
     alloc: Global,
     gate: &G,
     bench: &mut T,
     options: RunOptions,
-    trace: &Trace,
+    input: &mut Input,
+    src: &mut I,
+    out: &mut O,
 ) -> Result<Vec<u8>, Stop>
     requires ready { IsReady (T.state bench.old) }
     requires limits { AreInLimits options }
     requires stop { IfSome options.stop (λ k. (1 ≤ k) × (T.can_lose_power ≡ true)) }
-    requires trace { IsRunnable trace.now }
-    ensures { HasRunTrace options.stop options trace.now (T.state bench.old) (T.state bench.new) result }
+    requires input { IsRunInput shows.Report input.old }
+    requires well_formed { IsWellFormed input.old.trace }
+    ensures { HasRunInput options.stop options input.old (I.left src.old) (I.left src.new) (I.fault_count src.old) (I.fault_count src.new)
+        (O.written out.old) (O.written out.new) (O.fault_count out.old) (O.fault_count out.new) (T.state bench.old) (T.state bench.new) result }
 {
     match options.stop {
-        None => run_to_end(rt, alloc, gate, bench, options, Show::Report, trace),
-        Some(k) => run_to_stop(rt, alloc, gate, bench, options, trace, k),
+        None => run_to_end(
+            rt,
+            alloc,
+            gate,
+            bench,
+            options,
+            Show::Report,
+            input,
+            src,
+            out,
+        ),
+        Some(k) => run_to_stop(rt, alloc, gate, bench, options, input, src, out, k),
     }
 }

@@ -1,23 +1,27 @@
 //! What became of the calls that were left open.
-ghost use Rattle.std.specs.Prelude.{◌≡◌, map, IfOk};
-ghost use Rattle.nv_top.specs.Fates.{AreShownOpen, begun_fate, fate_of, fated};
+ghost use Rattle.std.specs.Prelude.{◌≡◌, List, map, IfOk};
+ghost use Rattle.nv_runner.specs.KeptRounds.{kept_open_call};
+ghost use Rattle.nv_runner.specs.Sorted.{opened_call};
+ghost use Rattle.nv_runner.specs.declared.sorted.Open.{Open as AnyOpen};
+ghost use Rattle.nv_top.specs.Fates.{AreShownOpen, begun_fate, fate_of, fated_opened};
 ghost use Rattle.nv_top.specs.Outcomes.{fated_call};
 
 use crate::outcome::Fated;
 use nv_plain::NoMemory;
 use nv_recover::Recovered;
-use nv_runner::Open;
+use nv_runner::KeptOpen;
 use nv_trace::{Fate, TraceCall, TracedCall};
 use std::alloc::Global;
 
 /// All calls that were left open, in the order of their lines: the writes that drew numbers, with what a recovery made of each, and those that were begun and drew none.
 pub(crate) fn open_fates<'a>(
     alloc: Global,
-    writes: &[Open<'a>],
+    writes: &'a [KeptOpen],
     begun: &[&'a TracedCall],
     found: &Recovered,
 ) -> Result<Vec<Fated<'a>>, NoMemory>
-    ensures { IfOk result (λ all. AreShownOpen found.now.first found.now.groups writes.now (map (λ call. call.now) begun.now) (map fated_call all.items)) }
+    ensures { IfOk result (λ all. (these : List AnyOpen) → map kept_open_call writes.now ≡ map opened_call these
+        → AreShownOpen found.now.first found.now.groups these (map (λ call. call.now) begun.now) (map fated_call all.items)) }
 {
     let mut all = fates(alloc, writes, found)?;
     if begun.is_empty() {
@@ -46,16 +50,16 @@ fn begun_fate(call: &TraceCall) -> Fate
 // The writes that were left open and drew numbers, with what a recovery made of each.
 fn fates<'a>(
     alloc: Global,
-    writes: &[Open<'a>],
+    writes: &'a [KeptOpen],
     found: &Recovered,
 ) -> Result<Vec<Fated<'a>>, NoMemory>
-    ensures { IfOk result (λ all. map fated_call all.items ≡ map (fated found.now.first found.now.groups) writes.now) }
+    ensures { IfOk result (λ all. map fated_call all.items ≡ map (fated_opened found.now.first found.now.groups) (map kept_open_call writes.now)) }
 {
     let mut all = Vec::new(alloc);
     for one in writes {
         let fate = fate_of(one.number, found);
         all.push(Fated {
-            call: one.call,
+            call: &one.call,
             fate,
         })?;
     }

@@ -5,6 +5,7 @@ mod command;
 mod ending;
 mod fates;
 mod files;
+mod input;
 mod laws;
 mod loading;
 mod looking;

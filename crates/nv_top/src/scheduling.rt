@@ -1,5 +1,5 @@
 //! A schedule of a trace, the loss of power behind it, and the recovery.
-ghost use Rattle.std.specs.Prelude.{◌≡◌, ℕ, ◌+◌, ◌^◌, ◌<◌, ◌≤◌, max, [], ◌∷◌, List, None, true, false, length, map, sum_by, All, Ok, Err, IfOk, IfSome, OnOk};
+ghost use Rattle.std.specs.Prelude.{◌≡◌, ℕ, ◌+◌, ◌^◌, ◌<◌, ◌≤◌, max, [], ◌∷◌, List, None, ◌≢◌, true, false, length, map, sum_by, All, Ok, Err, IfOk, IfSome, OnOk};
 ghost use Rattle.nv_plain.specs.Faults.{Rose, saturated};
 ghost use Rattle.nv_plain.specs.Layouts.{mount_layout};
 ghost use Rattle.nv_pmem.specs.Moments.{Tells};
@@ -26,7 +26,8 @@ ghost use Rattle.nv_top.specs.Headline.{HasFollowed, expected_faults, HasUsedTur
 ghost use Rattle.nv_top.specs.Lives.{HasLived, LeavesRun};
 ghost use Rattle.nv_top.specs.Runs.{BeginsMount, HasCache, basis_over};
 ghost use Rattle.nv_top.specs.Scheduling.{HasScheduledOn, HasUsedTurns, IsArmedAt, IsArmedAtSome, ShowsOutcome};
-ghost use Rattle.nv_top.specs.Stopping.{IsAllBack, IsAway, IsPickedOnce, IsSettledStop};
+ghost use Rattle.nv_top.specs.Stopping.{IsAllBack, IsAway, IsPickedOnce, IsSettledStop, ShowsRecovered};
+ghost use Rattle.nv_top.specs.Stops.{CountHasCause};
 ghost use Rattle.nv_top.specs.Ready.{IsAtHome, IsReady, IsRunnable};
 ghost use Rattle.nv_words.specs.Words.{AreInLimits};
 ghost use Rattle.nv_top.specs.declared.ending.Stop.TheVariants as stops;
@@ -42,13 +43,15 @@ use nv_mount::Mount;
 use nv_open::{Opened, open};
 use nv_pmem::{Geometry, images_follow_calls};
 use nv_recover::images_stand_for_files;
-use nv_runner::{history_of_threads_is_legal, open_calls_are_the_faults, sort_out};
+use nv_runner::{
+    KeptCalls, SortedCalls, history_of_threads_is_legal, open_calls_are_the_faults, sort_out,
+};
 use nv_schedule::{
     ScheduleError, Scheduled, ScheduledCalls, run_schedule, schedules_are_faithful,
     schedules_are_told, schedules_begin_in_order, schedules_leave_lives, schedules_run_in_the_core,
 };
 use nv_table::Pass;
-use nv_trace::Trace;
+use nv_trace::{Trace, TracedCall};
 use nv_words::RunOptions;
 use std::alloc::Global;
 
@@ -266,7 +269,7 @@ fn show_outcome<T: Bench>(
                 unanswered,
             } = calls;
             let sorted = sort_out(alloc, answered)?;
-            show_recovered(alloc, bench, sorted, &unanswered)
+            show_sorted(alloc, bench, sorted, &unanswered)
         }
         Err(ScheduleError::TurnsUsed) => {
             recover(alloc, bench)?;
@@ -275,4 +278,29 @@ fn show_outcome<T: Bench>(
         // A fault has raised the count, where that doesn't stand at its end, and so has ended the command before.
         Err(ScheduleError::NoMemory | ScheduleError::Fault) => Err(Stop::NoMemory),
     }
+}
+
+// Recovers the region of a bench, and shows sorted calls, those that were begun beside them, and the files.
+fn show_sorted<T: Bench>(
+    alloc: Global,
+    bench: &mut T,
+    sorted: SortedCalls<'_>,
+    begun: &[&TracedCall],
+) -> Result<Vec<u8>, Stop>
+    requires at_home { IsAtHome (T.state bench.old) }
+    ensures back { IsGivenBack (T.state bench.old) (T.state bench.new) }
+    ensures shown { IfOk result (λ text. IfSome (T.state bench.old).told (λ holding. ShowsRecovered holding sorted.entry (map (λ call. call.now) begun.now) (T.state bench.new).told text.items)) }
+    ensures refused { (why : _) → result ≡ Err (stops.Region why) → IfSome (T.state bench.old).told (λ holding. IsRefusedFor holding.parts why) }
+    ensures standing { IfSome (T.state bench.old).told (λ was. HasHeader was.parts → TellsOf (StandsAsBefore was) (T.state bench.new).told) }
+    ensures cause { CountHasCause (T.state bench.old).faults (T.state bench.new).faults result }
+    ensures turns { result ≢ Err stops.Turns }
+    ensures never_falls { (T.state bench.old).faults ≤ (T.state bench.new).faults }
+{
+    images_follow_calls();
+    images_stand_for_files();
+    let mut kept = KeptCalls::new(alloc);
+    let mut text = kept.take(alloc, sorted)?;
+    let rest = show_recovered(alloc, bench, &kept, begun)?;
+    text.extend_from_slice(&rest)?;
+    Ok(text)
 }

@@ -1,38 +1,45 @@
 //! Reports, as text.
-ghost use Rattle.std.specs.Prelude.{◌≡◌, ◌++◌, ◌+◌, length, map, IfOk, OnOk};
+ghost use Rattle.std.specs.Prelude.{◌≡◌, ◌++◌, ◌+◌, List, length, map, IfOk, OnOk};
 ghost use Rattle.nv_runner.specs.Faithful.{named};
-ghost use Rattle.nv_top.specs.Outcomes.{fated_call, report_of};
-ghost use Rattle.nv_runner.specs.Reports.{history_lines, refused_lines};
+ghost use Rattle.nv_runner.specs.FaithfulRuns.{shown_refusals};
+ghost use Rattle.nv_runner.specs.Histories.{PlacedCall};
+ghost use Rattle.nv_runner.specs.KeptRounds.{AreKept};
+ghost use Rattle.nv_runner.specs.Reports.{history_lines};
+ghost use Rattle.nv_runner.specs.Sorted.{OpenedCall, RefusedCall};
+ghost use Rattle.nv_top.specs.Outcomes.{fated_call};
 ghost use Rattle.nv_top.specs.Reports.{open_lines, file_lines, report_text, recovery_text};
 
 use crate::outcome::Fated;
 use nv_plain::{Bytes, NoMemory};
 use nv_recover::Recovered;
-use nv_runner::{Placed, Shown, push_history, push_refused};
+use nv_runner::KeptCalls;
 use nv_trace::{end_line, file_line, open_line, recovered_line};
 use std::alloc::Global;
 
-/// The text of a run's report: its calls, those that were left open with what became of them, and the files by their names.
-pub(crate) fn text_of(
+/// The text of a run's report behind the lines of the calls that have a place: what is kept of its calls, those that were left open with what became of them, and the files by their names.
+pub(crate) fn rest_of(
     alloc: Global,
-    placed: &[Placed<'_>],
-    refused: &[Shown<'_>],
+    kept: &KeptCalls,
     fated: &[Fated<'_>],
     names: &[Bytes],
     files: &[Bytes],
 ) -> Result<Vec<u8>, NoMemory>
     requires files { length files.now ≡ length names.now }
-    ensures { IfOk result (λ text. text.items ≡ report_text (report_of placed.now refused.now fated.now names.now files.now)) }
+    ensures { IfOk result (λ text. (placed : List PlacedCall) (refused : List RefusedCall) (open_calls : List OpenedCall) → AreKept kept.now placed refused open_calls
+        → history_lines 0 placed ++ text.items ≡ report_text (record {
+          history = placed;
+          refused = shown_refusals refused;
+          open_calls = map fated_call fated.now;
+          files = named names.now (record { contents = files.now });
+        })) }
 {
     let mut text = Vec::new(alloc);
-    push_history(alloc, &mut text, 0, placed)?;
-    push_refused(alloc, &mut text, refused)?;
+    text.extend_from_slice(&kept.refused)?;
     push_open(alloc, &mut text, fated)?;
     push_files(alloc, &mut text, names, files)?;
-    let (placed, refused) = (placed.len() as u64, refused.len() as u64);
     push(
         &mut text,
-        &end_line(alloc, placed, refused, fated.len() as u64)?,
+        &end_line(alloc, kept.placed, kept.refused_count, fated.len() as u64)?,
     )?;
     Ok(text)
 }

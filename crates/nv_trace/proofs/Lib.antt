@@ -13,7 +13,7 @@ pub mod ReadFirst
 mod Refusals
 pub mod RefusedRounds
 mod RoundCalls
-mod RoundChains
+pub mod RoundChains
 mod RoundEnds
 mod Schedules
 mod Shapes

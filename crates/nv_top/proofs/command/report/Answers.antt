@@ -1,4 +1,4 @@
-use Rattle.std.proofs.Common.{◌∙◌, [], Err, Option, Some, map, refl, sym, subst, ap}
+use Rattle.std.proofs.Common.{◌∙◌, ℕ, [], Err, Option, Some, map, refl, sym, subst, ap}
 use Rattle.std.specs.Prelude.{string_bytes}
 use Rattle.nv_bench.specs.Benches.{BenchState}
 use Rattle.nv_top.specs.Headline.{command_over}
@@ -12,7 +12,7 @@ use Rattle.nv_top.proofs.CommandLemmas.{if_told, told_at}
 use Rattle.nv_top.proofs.CompleteLemmas.{look_settled, look_unarmed}
 use Rattle.nv_top.proofs.HeadlineLemmas.{load_limits, recovery_refused, run_limits, schedule_limits, stop_possible}
 use Rattle.nv_top.proofs.LifeLemmas.{life_unread}
-use Rattle.nv_top.proofs.ReportedLemmas.{by_error, counted_reported, words_reported}
+use Rattle.nv_top.proofs.ReportedLemmas.{by_error, counted_reported, shown_none, words_reported}
 use Rattle.nv_top.proofs.command.report.Goals as goal
 
 pub run_input-requires-clause-limits : goal.run_input-requires-clause-limits
@@ -42,17 +42,18 @@ returns-in_err-command g c =
     let faults = g.I.Source.fault_count c.args.src.now in
     let error = c.in_err-command.field-0.0 in
     let over = command_over g.B.Bench.can_lose_power (map string_bytes c.args.words.now) in
-    by_error c.from_residual.result (stop_of_words error) (λ result. HasReported over given given faults faults old old [] result) c.from_residual.ensures.1
+    shown_none over given given faults faults old old c.from_residual.result _ _
+    (by_error c.from_residual.result (stop_of_words error) (λ result. HasReported over given given faults faults old old [] result) c.from_residual.ensures.1
     (words_reported over given faults old error c.requires.ready.at_home (λ is. c.in_err-command.ensures.usage (ap Err is))
-    (λ command is. life_unread command given old old c.images_follow_calls.ensures.quiet refl c.requires.ready.at_home.quiet))
+    (λ command is. life_unread command given old old c.images_follow_calls.ensures.quiet refl c.requires.ready.at_home.quiet)))
 
 pub returns-in-Run : goal.returns-in-Run
 returns-in-Run g c =
     let src = c.args.src.now in
     let new = c.run_input.new in
     let Reported : Option Command → Type 0 = λ over.
-    HasReported over (g.I.Source.left src) (g.I.Source.left new.src) (g.I.Source.fault_count src) (g.I.Source.fault_count new.src) (g.B.Bench.state c.args.bench.now) (g.B.Bench.state new.bench) [] c.run_input.result in
-    subst Reported (sym (c.in_ok-command.ensures.command ∙ ap Some c.in-Run.is)) c.run_input.ensures
+    HasReported over (g.I.Source.left src) (g.I.Source.left new.src) (g.I.Source.fault_count src) (g.I.Source.fault_count new.src) (g.B.Bench.state c.args.bench.now) (g.B.Bench.state new.bench) c.run_input.ensures.0 c.run_input.result in
+    (c.run_input.ensures.0, subst Reported (sym (c.in_ok-command.ensures.command ∙ ap Some c.in-Run.is)) c.run_input.ensures.1, c.run_input.ensures.2)
 
 pub returns-in-Sched : goal.returns-in-Sched
 returns-in-Sched g c =
@@ -60,7 +61,7 @@ returns-in-Sched g c =
     let new = c.schedule_input.new in
     let Reported : Option Command → Type 0 = λ over.
     HasReported over (g.I.Source.left src) (g.I.Source.left new.src) (g.I.Source.fault_count src) (g.I.Source.fault_count new.src) (g.B.Bench.state c.args.bench.now) (g.B.Bench.state new.bench) [] c.schedule_input.result in
-    subst Reported (sym (c.in_ok-command.ensures.command ∙ ap Some c.in-Sched.is)) c.schedule_input.ensures
+    shown_none _ _ _ _ _ _ _ c.schedule_input.result _ _ (subst Reported (sym (c.in_ok-command.ensures.command ∙ ap Some c.in-Sched.is)) c.schedule_input.ensures)
 
 pub returns-in-Recover : goal.returns-in-Recover
 returns-in-Recover g c =
@@ -69,14 +70,15 @@ returns-in-Recover g c =
     let given = g.I.Source.left c.args.src.now in
     let faults = g.I.Source.fault_count c.args.src.now in
     let made = c.recover.ensures in
-    subst (λ over. HasReported over given given faults faults old new [] c.recover.result) (sym (c.in_ok-command.ensures.command ∙ ap Some c.in-Recover.is))
+    shown_none _ given given faults faults old new c.recover.result _ _
+    (subst (λ over. HasReported over given given faults faults old new [] c.recover.result) (sym (c.in_ok-command.ensures.command ∙ ap Some c.in-Recover.is))
     (counted_reported Recover given given faults old new c.recover.result c.requires.ready made.back (ap (λ (state : BenchState). state.settled) made.back) (ap (λ (state : BenchState). state.arms) made.back) made.cause
     refl tt (λ why is. recovery_refused given old new why (made.refused why is) (made.unwritten why is))
     (if_told old.told (λ was. LeavesLife Recover given was [] new.told) (λ was told. record {
       stands = told_at old.told (λ was. HasHeader was.parts → TellsOf (StandsAsBefore was) new.told) was told made.standing;
       untouched = told_at old.told (λ was. ¬ (IsGood was.parts) → TellsOf (IsUntouched was) new.told) was told made.untouched;
     }))
-    made.recovered)
+    made.recovered))
 
 pub returns-in-Look : goal.returns-in-Look
 returns-in-Look g c =
@@ -86,17 +88,23 @@ returns-in-Look g c =
     let faults = g.I.Source.fault_count c.args.src.now in
     let files = c.in-Look.files in
     let made = c.look.ensures in
-    subst (λ over. HasReported over given given faults faults old new [] c.look.result) (sym (c.in_ok-command.ensures.command ∙ ap Some c.in-Look.is))
+    shown_none _ given given faults faults old new c.look.result _ _
+    (subst (λ over. HasReported over given given faults faults old new [] c.look.result) (sym (c.in_ok-command.ensures.command ∙ ap Some c.in-Look.is))
     (counted_reported (Look files) given given faults old new c.look.result c.requires.ready made.left (look_settled files old new made.left) (look_unarmed files old new made.left) made.cause
-    refl tt made.refused (if_told old.told (λ was. LeavesLife (Look files) given was [] new.told) (λ was told. tt)) made.shown)
+    refl tt made.refused (if_told old.told (λ was. LeavesLife (Look files) given was [] new.told) (λ was told. tt)) made.shown))
 
 pub returns-in-Gen : goal.returns-in-Gen
 returns-in-Gen g c =
     let old = g.B.Bench.state c.args.bench.now in
     let new = g.B.Bench.state c.run_load.new.bench in
     let given = g.I.Source.left c.args.src.now in
+    let left = g.I.Source.left c.run_load.new.src in
     let faults = g.I.Source.fault_count c.args.src.now in
     let made = c.run_load.ensures in
-    subst (λ over. HasReported over given given faults faults old new [] c.run_load.result) (sym (c.in_ok-command.ensures.command ∙ ap Some c.in-Gen.is))
-    (counted_reported (Gen c.in-Gen.load) given given faults old new c.run_load.result c.requires.ready made.back (ap (λ (state : BenchState). state.settled) made.back) (ap (λ (state : BenchState). state.arms) made.back) made.cause
-    refl tt made.refused made.life made.ran)
+    let reported = counted_reported (Gen c.in-Gen.load) given left faults old new c.run_load.result c.requires.ready made.back (ap (λ (state : BenchState). state.settled) made.back) (ap (λ (state : BenchState). state.arms) made.back) made.cause
+    made.unread.0 tt made.refused made.life made.ran in
+    let Told : ℕ → Option Command → Type 0 = λ reads over. HasReported over given left faults reads old new [] c.run_load.result in (
+      [],
+      subst (Told (g.I.Source.fault_count c.run_load.new.src)) (sym (c.in_ok-command.ensures.command ∙ ap Some c.in-Gen.is)) (subst (λ reads. Told reads (Some (Gen c.in-Gen.load))) (sym made.unread.1) reported),
+      record { whole = λ other. made.unwritten; cut = λ is. absurd ((reported.write is).1 refl) },
+    )

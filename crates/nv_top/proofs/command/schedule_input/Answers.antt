@@ -11,7 +11,7 @@ use Rattle.nv_top.specs.Stops.{stop_of_read}
 use Rattle.nv_words.specs.declared.words.Command.TheVariants.{Sched}
 use Rattle.nv_top.proofs.HeadlineLemmas.{of_held, of_read, schedule_refused}
 use Rattle.nv_top.proofs.LifeLemmas.{life_unread, schedule_from}
-use Rattle.nv_top.proofs.ReportedLemmas.{by_error, never_turns, read_reported, settled_reported, was_read}
+use Rattle.nv_top.proofs.ReportedLemmas.{by_error, never_turns, not_run, read_reported, settled_reported, was_read}
 use Rattle.nv_top.proofs.command.schedule_input.Goals as goal
 
 pub schedule-requires-clause-no_rounds : goal.schedule-requires-clause-no_rounds
@@ -29,7 +29,7 @@ returns-in_err-trace g c =
     by_error c.from_residual.result (stop_of_read error) (λ result. HasReported (Some command) given left before now old old [] result) c.from_residual.ensures.1
     (read_reported command given left before now old error c.requires.ready.at_home (λ has. has) (λ turns. absurd (never_turns error turns)) c.in_err-trace.ensures.refused
     (λ is. c.in_err-trace.ensures.failed (ap Err is)) (λ other. c.in_err-trace.ensures.kept (λ is. other (cc)))
-    (life_unread command given old old c.images_follow_calls.ensures.quiet refl c.requires.ready.at_home.quiet))
+    (life_unread command given old old c.images_follow_calls.ensures.quiet refl c.requires.ready.at_home.quiet) (λ first run. absurd (not_run c.args.options run)))
 
 pub returns : goal.returns
 returns g c =

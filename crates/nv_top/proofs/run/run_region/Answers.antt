@@ -1,76 +1,91 @@
-use Rattle.std.proofs.Common.{◌≡◌, ◌∙◌, ℕ, All, List, map, sym}
+use Rattle.std.proofs.Common.{◌≡◌, ◌∙◌, ◌+◌, ℕ, All, List, [], map, ap, refl, sym, subst}
+use Rattle.std.specs.Prelude.{sum_by}
 use Rattle.std.proofs.lemmas.Result.{IfOk-weaker}
 use Rattle.nv_pmem.specs.Part.{Part}
 use Rattle.nv_pmem.specs.RowStates.{AreNow, row_tells_at}
+use Rattle.nv_pmem.specs.Steps as lines
 use Rattle.nv_store.specs.Store.{Store}
 use Rattle.nv_recover.specs.Standing.{files_of}
+use Rattle.nv_header.proofs.InRow.{region_as}
 use Rattle.nv_open.specs.Unopened.{line_counts}
 use Rattle.nv_table.specs.state.Opened.{mount_of}
 use Rattle.nv_mount.specs.Telling.{mounted_lines}
 use Rattle.nv_runner.specs.Faithful.{Basis}
 use Rattle.nv_top.specs.Lives.{AreLeftSo}
-use Rattle.nv_header.proofs.InRow.{region_as}
-use Rattle.nv_top.specs.Runs.{BeginsMount, HasRunOver, IsQuietSpare, basis_over}
-use Rattle.std.proofs.Common.{◌+◌, ap, refl, subst}
-use Rattle.std.specs.Prelude.{sum_by}
-use Rattle.nv_pmem.specs.Steps as lines
+use Rattle.nv_top.specs.Runs.{BeginsMount, HasRunBehind, IsQuietSpare, basis_over}
+use Rattle.nv_top.specs.Shows.{trace_run}
 use Rattle.nv_top.proofs.CauseLemmas.{stop_ends}
 use Rattle.nv_top.proofs.LifeLemmas.{left_same, rest_lives}
-use Rattle.nv_top.specs.Shows.{trace_run}
-use Rattle.nv_top.proofs.RanLemmas.{begins_run}
+use Rattle.nv_top.proofs.RanLemmas.{begins_all, unread}
 use Rattle.nv_top.proofs.RunLemmas.{quiet_stores}
 use Rattle.nv_top.proofs.run.run_region.Goals as goal
+
+pub returns-in_default-clause-ran : goal.returns-in_default-clause-ran
+returns-in_default-clause-ran g c =
+    let history = g.L.Lines.history in
+    let held = g.B.Backing.history in
+    let region = c.args.region in
+    let all = trace_run c.args.show c.args.input.now.trace in
+    let back = c.into_parts.result.items in
+    let same : map history back ≡ map history region.parts.items = ap (λ parts. map history parts.items) c.into_parts.ensures.parts in (
+      all,
+      [],
+      unread c.args.show c.args.input.now _ _ _ _ c.requires.input c.requires.well_formed,
+      λ parts now parts_are now_are.
+          rest_lives history held (basis_over region c.args.options.pages (files_of now)) all back c.args.stores.items parts now region.next
+          (subst (λ (row : List lines.PartHistory). AreNow row parts) (sym same) parts_are) now_are (region_as c.requires.version c.into_parts.ensures.region).tells (quiet_stores held c.args.stores.items now now_are c.requires.quiet) refl,
+      tt,
+    )
 
 pub returns-in-Ok-mount_over-clause-ran : goal.returns-in-Ok-mount_over-clause-ran
 returns-in-Ok-mount_over-clause-ran g c =
     let history = g.L.Lines.history in
     let held = g.B.Backing.history in
     let region = c.args.region in
-    let trace = trace_run c.args.show c.args.trace.now in
+    let show = c.args.show in
     let names = c.in-Ok.names in
     let mount = c.in-Ok-mount_over.mount in
     let pass = c.in-Ok-mount_over.pass in
     let made = c.in-Ok-mount_over.ensures in
-    let same_names : names ≡ region.names = c.in-Ok.ensures ∙ c.as_slice.ensures ∙ c.names.ensures in
-    IfOk-weaker c.run_mount.result.report
-    (λ text. (basis : Basis) → BeginsMount basis trace mount pass → basis.names ≡ names → All IsQuietSpare pass.spare
-    → HasRunOver history held c.args.show c.args.options.worker basis trace text.items c.run_mount.result.parts.items c.run_mount.result.stores.items)
-    (λ text. (parts : List Part) (now : List Store) → AreNow (map history region.parts.items) parts → AreNow (map held c.args.stores.items) now
-    → HasRunOver history held c.args.show c.args.options.worker (basis_over region c.args.options.pages (files_of now)) trace text.items c.run_mount.result.parts.items c.run_mount.result.stores.items)
-    (λ text ran parts now parts_are now_are. ran (basis_over region c.args.options.pages (files_of now)) (begins_run c.args.show (basis_over region c.args.options.pages (files_of now)) c.args.trace.now mount pass (made.begins parts now parts_are now_are)) (sym same_names) (made.spare parts parts_are))
-    c.run_mount.ensures.ran
+    let came = c.run_mount.result in
+    let ran = c.run_mount.ensures.ran in
+    let all = ran.0 in
+    let shown = ran.1 in
+    let basis : List Store → Basis = λ now. basis_over region c.args.options.pages (files_of now) in
+    let begins : (parts : List Part) (now : List Store) → AreNow (map history region.parts.items) parts → AreNow (map held c.args.stores.items) now → BeginsMount (basis now) all mount pass = λ parts now parts_are now_are.
+    begins_all show c.args.input.now _ came.ended all ran.2.trace (basis now) mount pass (made.begins parts now parts_are now_are) in
+    let same_names : names ≡ region.names = c.in-Ok.ensures ∙ c.as_slice.ensures ∙ c.names.ensures in (
+      all,
+      shown,
+      ran.2,
+      λ parts now parts_are now_are.
+          let Counted : List ℕ → Type 0 = λ counts. AreLeftSo history held (basis now) all shown counts came.parts.items came.stores.items in
+          subst Counted (row_tells_at (map history region.parts.items) (λ told. mounted_lines (mount_of mount.board.opened) pass.spare ≡ line_counts told) parts parts_are made.lines)
+          (ran.3 (basis now) (begins parts now parts_are now_are)),
+      IfOk-weaker came.report
+          (λ text. (basis : Basis) → BeginsMount basis all mount pass → basis.names ≡ names → All IsQuietSpare pass.spare → HasRunBehind history held show c.args.options.worker basis all shown text.items came.parts.items came.stores.items)
+          (λ text. (parts : List Part) (now : List Store) → AreNow (map history region.parts.items) parts → AreNow (map held c.args.stores.items) now
+          → HasRunBehind history held show c.args.options.worker (basis now) all shown text.items came.parts.items came.stores.items)
+          (λ text run parts now parts_are now_are. run (basis now) (begins parts now parts_are now_are) (sym same_names) (made.spare parts parts_are))
+          ran.4,
+    )
 
-pub returns-in_default-clause-life : goal.returns-in_default-clause-life
-returns-in_default-clause-life g c parts now parts_are now_are =
-    let history = g.L.Lines.history in
-    let held = g.B.Backing.history in
-    let region = c.args.region in
-    let back = c.into_parts.result.items in
-    let same : map history back ≡ map history region.parts.items = ap (λ parts. map history parts.items) c.into_parts.ensures.parts in
-    rest_lives history held (basis_over region c.args.options.pages (files_of now)) (trace_run c.args.show c.args.trace.now) back c.args.stores.items parts now region.next
-    (subst (λ (row : List lines.PartHistory). AreNow row parts) (sym same) parts_are) now_are (region_as c.requires.version c.into_parts.ensures.region).tells (quiet_stores held c.args.stores.items now now_are c.requires.quiet) refl
-
-pub returns-in-Ok-mount_over-clause-life : goal.returns-in-Ok-mount_over-clause-life
-returns-in-Ok-mount_over-clause-life g c parts now parts_are now_are =
-    let basis = basis_over c.args.region c.args.options.pages (files_of now) in
-    let history = g.L.Lines.history in
-    let held = g.B.Backing.history in
-    let mount = c.in-Ok-mount_over.mount in
-    let pass = c.in-Ok-mount_over.pass in
-    let Counted : List ℕ → Type 0 = λ counts. AreLeftSo history held basis (trace_run c.args.show c.args.trace.now) counts c.run_mount.result.parts.items c.run_mount.result.stores.items in
-    subst Counted (row_tells_at (map history c.args.region.parts.items) (λ told. mounted_lines (mount_of mount.board.opened) pass.spare ≡ line_counts told) parts parts_are c.in-Ok-mount_over.ensures.lines)
-    (c.run_mount.ensures.life basis (begins_run c.args.show basis c.args.trace.now c.in-Ok-mount_over.mount c.in-Ok-mount_over.pass (c.in-Ok-mount_over.ensures.begins parts now parts_are now_are)))
-
-pub returns-clause-life : goal.returns-clause-life
-returns-clause-life g c parts now parts_are now_are =
+pub returns-clause-ran : goal.returns-clause-ran
+returns-clause-ran g c =
     let history = g.L.Lines.history in
     let held = g.B.Backing.history in
     let region = c.args.region in
     let stores = c.args.stores.items in
-    let trace = trace_run c.args.show c.args.trace.now in
-    let basis = basis_over region c.args.options.pages (files_of now) in
-    let rest = rest_lives history held basis trace region.parts.items stores parts now region.next parts_are now_are (region_as c.requires.version region.is_region).tells (quiet_stores held stores now now_are c.requires.quiet) refl in
-    left_same history held basis trace (line_counts parts) c.in-Err.field-0.parts.items region.parts.items c.in-Err.field-0.stores.items stores c.in-Err.ensures.same_parts c.in-Err.ensures.same_stores rest
+    let all = trace_run c.args.show c.args.input.now.trace in (
+      all,
+      [],
+      unread c.args.show c.args.input.now _ _ _ _ c.requires.input c.requires.well_formed,
+      λ parts now parts_are now_are.
+          let basis = basis_over region c.args.options.pages (files_of now) in
+          let rest = rest_lives history held basis all region.parts.items stores parts now region.next parts_are now_are (region_as c.requires.version region.is_region).tells (quiet_stores held stores now now_are c.requires.quiet) refl in
+          left_same history held basis all [] (line_counts parts) c.in-Err.field-0.parts.items region.parts.items c.in-Err.field-0.stores.items stores c.in-Err.ensures.same_parts c.in-Err.ensures.same_stores rest,
+      tt,
+    )
 
 pub returns-clause-cause : goal.returns-clause-cause
 returns-clause-cause g c =

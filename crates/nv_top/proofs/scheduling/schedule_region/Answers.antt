@@ -91,9 +91,9 @@ returns-in-Err-clause-life g c parts now parts_are now_are =
     let home = g.T.Bench.state c.give_back.new.self in
     let basis = basis_over region c.args.options.pages (files_of now) in
     let rest = rest_lives history held basis trace region.parts.items stores parts now region.next parts_are now_are (region_as c.args.opened.version region.is_region).tells (quiet_stores held stores now now_are c.requires.synced) refl in
-    let left_so : AreLeftSo history held basis trace (line_counts parts) c.in-Err.field-0.parts.items c.in-Err.field-0.stores.items = left_same history held basis trace (line_counts parts) c.in-Err.field-0.parts.items region.parts.items c.in-Err.field-0.stores.items stores c.in-Err.ensures.same_parts c.in-Err.ensures.same_stores rest in
+    let left_so : AreLeftSo history held basis trace [] (line_counts parts) c.in-Err.field-0.parts.items c.in-Err.field-0.stores.items = left_same history held basis trace [] (line_counts parts) c.in-Err.field-0.parts.items region.parts.items c.in-Err.field-0.stores.items stores c.in-Err.ensures.same_parts c.in-Err.ensures.same_stores rest in
     if_some start.told (λ left. IsAway region.names left → HasLived basis trace [] (line_counts parts) left.stores home.told) (λ left told_is away.
-    lived_home basis trace history held c.in-Err.field-0.parts.items c.in-Err.field-0.stores.items (line_counts parts) home.told left.stores (λ holding is. g.met.T.Bench.whole c.give_back.new.self holding is) left_so
+    lived_home basis trace [] history held c.in-Err.field-0.parts.items c.in-Err.field-0.stores.items (line_counts parts) home.told left.stores (λ holding is. g.met.T.Bench.whole c.give_back.new.self holding is) left_so
     (λ disks are. all_behind region.names left.stores (named_stores region.names disks) away
     ∙ own_stores region.names disks (sym (length_now (map held c.in-Err.field-0.stores.items) disks are ∙ ap length (c.in-Err.ensures.same_stores) ∙ length-map stores held ∙ c.requires.stores)) region.is_region.names_are.distinct)
     (λ back disks back_are disks_are. c.give_back.ensures.told back disks back_are disks_are

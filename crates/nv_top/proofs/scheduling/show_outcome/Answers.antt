@@ -12,10 +12,10 @@ use Rattle.nv_top.proofs.scheduling.show_outcome.Goals as goal
 pub returns-in_ok-sorted-in-Ok-clause-shown : goal.returns-in_ok-sorted-in-Ok-clause-shown
 returns-in_ok-sorted-in-Ok-clause-shown g c =
     let old = g.T.Bench.state c.args.bench.now in
-    let last = g.T.Bench.state c.show_recovered.new.bench in
+    let last = g.T.Bench.state c.show_sorted.new.bench in
     let calls = c.in-Ok.calls in
     let begun = map (λ call. call.now) c.deref.result.now in
-    IfOk-weaker c.show_recovered.result
+    IfOk-weaker c.show_sorted.result
     (λ text. IfSome old.told (λ holding. ShowsRecovered holding c.in_ok-sorted-in-Ok.sorted begun last.told text.items))
     (λ text. IfSome old.told (λ holding. ShowsOutcome holding c.args.outcome last.told text.items))
     (λ text shown.
@@ -27,10 +27,10 @@ returns-in_ok-sorted-in-Ok-clause-shown g c =
       shown = subst (λ items. ShowsRecovered holding c.in_ok-sorted-in-Ok.sorted (map (λ call. call.now) items) last.told text.items) c.deref.ensures.value
           (at_some old.told (λ holding. ShowsRecovered holding c.in_ok-sorted-in-Ok.sorted begun last.told text.items) holding told shown);
     }))
-    c.show_recovered.ensures.shown
+    c.show_sorted.ensures.shown
 
 pub returns-in_ok-sorted-in-Ok-clause-followed : goal.returns-in_ok-sorted-in-Ok-clause-followed
-returns-in_ok-sorted-in-Ok-clause-followed g c = on_any c.show_recovered.result (c.in-Ok.calls, c.in-Ok.is)
+returns-in_ok-sorted-in-Ok-clause-followed g c = on_any c.show_sorted.result (c.in-Ok.calls, c.in-Ok.is)
 
 pub returns-in_err-sorted-in-Ok-clause-standing : goal.returns-in_err-sorted-in-Ok-clause-standing
 returns-in_err-sorted-in-Ok-clause-standing g c =

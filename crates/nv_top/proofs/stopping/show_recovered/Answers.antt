@@ -1,4 +1,4 @@
-use Rattle.std.proofs.Common.{◌≡◌, List, IfSome, map, sym, ap, subst}
+use Rattle.std.proofs.Common.{◌≡◌, ℕ, List, IfSome, map, sym, ap, subst}
 use Rattle.std.proofs.lemmas.Result.{IfOk-weaker}
 use Rattle.nv_header.proofs.InRow.{region_as}
 use Rattle.nv_pmem.specs.RowStates.{AreNow}
@@ -7,6 +7,11 @@ use Rattle.nv_store.specs.Store.{Store}
 use Rattle.nv_recover.specs.Standing.{files_of}
 use Rattle.nv_recover.specs.Telling.{AllTell}
 use Rattle.nv_open.specs.Held.{HoldFiles, IsRecovered, files_named}
+use Rattle.nv_bench.specs.Holding.{Holding, named_stores}
+use Rattle.nv_runner.specs.KeptRounds.{AreKeptOf}
+use Rattle.nv_runner.specs.Reports.{history_lines}
+use Rattle.nv_runner.specs.Sorted.{placed_call}
+use Rattle.nv_runner.specs.declared.sorted.SortedCalls.{SortedCalls}
 use Rattle.nv_top.specs.Stopping.{ShowsOpen, ShowsRecovered}
 use Rattle.nv_top.proofs.StoppingLemmas.{at_some, if_some, shows}
 use Rattle.std.proofs.Common.{◌∙◌, ◌++◌, ◌<◌, All, length}
@@ -14,7 +19,6 @@ use Rattle.std.proofs.lemmas.List.{length-map}
 use Rattle.nv_plain.specs.Layouts.{mount_layout}
 use Rattle.nv_pmem.specs.RowStates.{row_tells_at}
 use Rattle.nv_header.specs.Regions.{IsAtRest}
-use Rattle.nv_bench.specs.Holding.{named_stores}
 use Rattle.nv_open.specs.Lending.{without_stores}
 use Rattle.nv_open.specs.Unopened.{HasHeader, StandsAsBefore, TellsOf, line_counts}
 use Rattle.nv_open.proofs.LogLaws.{states_many}
@@ -29,7 +33,6 @@ pub returns-clause-shown : goal.returns-clause-shown
 returns-clause-shown g c =
     let history = g.T.Part.Lines.history in
     let held = g.T.Store.Backing.history in
-    let sorted = c.args.sorted in
     let begun = map (λ call. call.now) c.args.begun.now in
     let found = c.in_ok-opened.found in
     let region = c.in_ok-opened.opened.region in
@@ -38,18 +41,21 @@ returns-clause-shown g c =
     let old = g.T.Bench.state c.args.bench.now in
     let lent = g.T.Bench.state c.recover_region.new.bench in
     let new_told = (g.T.Bench.state c.give_back.new.self).told in
+    let kept = c.args.kept.now in
+    let Text : SortedCalls → List ℕ → List ℕ = λ sorted text. history_lines 0 (map placed_call sorted.placed.items) ++ text in
+    let Recovered : List ℕ → Holding → Type 0 = λ text holding. (sorted : SortedCalls) → AreKeptOf kept sorted → ShowsRecovered holding sorted begun new_told (Text sorted text) in
     let parts_now = c.into_parts-parts.result.items in
     let same_parts : parts_now ≡ region.parts.items = ap (λ (parts : _). parts.items) c.into_parts-parts.ensures.parts in
     IfOk-weaker c.show_fates-report.result
-    (λ text. (now : List Store) → AreNow (map held backing) now → ShowsOpen sorted begun found c.names.result.now (files_of now) text.items)
-    (λ text. IfSome old.told (λ holding. ShowsRecovered holding sorted begun new_told text.items))
+    (λ text. (now : List Store) → AreNow (map held backing) now → (sorted : SortedCalls) → AreKeptOf kept sorted → ShowsOpen sorted begun found c.names.result.now (files_of now) (Text sorted text.items))
+    (λ text. IfSome old.told (Recovered text.items))
     (λ text text_of.
-    if_some old.told (λ holding. ShowsRecovered holding sorted begun new_told text.items)
-    (λ holding told_is.
+    if_some old.told (Recovered text.items)
+    (λ holding told_is sorted of.
     let Told : List _ → Type 0 = λ parts. AllTell (map history parts) in
-    shows old lent new_told holding sorted begun text.items found region.geometry.page region.geometry.entries region.next region.names c.names.result.now (map history parts_now) (map held backing)
+    shows old lent new_told holding sorted begun (Text sorted text.items) found region.geometry.page region.geometry.entries region.next region.names c.names.result.now (map history parts_now) (map held backing)
     told_is (length-map parts_now history ∙ ap length same_parts ∙ made_many history region.parts.items holding.parts (present (map history region.parts.items) (at_some old.told (λ holding. AllTell (map history region.parts.items)) holding told_is opened.tell))
-    (at_some old.told (λ holding. RowTells (map history region.parts.items) (λ now. line_counts now ≡ line_counts holding.parts)) holding told_is opened.lines)) c.requires.at_home.home opened.lent (sym c.names.ensures) text_of
+    (at_some old.told (λ holding. RowTells (map history region.parts.items) (λ now. line_counts now ≡ line_counts holding.parts)) holding told_is opened.lines)) c.requires.at_home.home opened.lent (sym c.names.ensures) (λ now are. text_of now are sorted of)
     (at_some old.told (λ holding. IsRecovered holding.parts region.geometry.page region.geometry.entries region.names region.next found) holding told_is opened.recovered)
     (at_some old.told (λ holding. HoldFiles (map held backing) (files_named holding.parts region.names holding.stores)) holding told_is opened.files)
     (subst Told (sym same_parts) (at_some old.told (λ holding. AllTell (map history region.parts.items)) holding told_is opened.tell))

@@ -1,42 +1,41 @@
-use Rattle.std.proofs.Common.{◌≡◌, ◌∷◌, ◌+◌, ◌≤◌, Some, Ok, IfSome, length, map, option_map, sum_by, sym, ap, subst, ◌∙◌, arith}
-use Rattle.std.specs.Result.{result_from_control_flow}
+use Rattle.std.proofs.Common.{rules, ◌≡◌, ◌≢◌, ◌+◌, ◌≤◌, ◌∙◌, List, ℕ, map, refl, sum_by, sym, ap, subst, arith, length}
+use Rattle.std.specs.Prelude.{◌++◌, [], IfSome, Result, Ok, Err, Option, Some, max}
 use Rattle.std.proofs.lemmas.List.{length-map}
 use Rattle.std.proofs.lemmas.Result.{IfOk-weaker}
 use Rattle.nv_plain.specs.Faults.{Rose, saturated}
-use Rattle.nv_plain.specs.Layouts.{mount_layout}
 use Rattle.nv_bench.specs.Benches.{BenchState}
 use Rattle.nv_bench.specs.Holding.{Holding, IsQuietHolding}
-use Rattle.nv_bench.specs.Powered.{powered}
-use Rattle.nv_header.specs.FileNames.{AreFileNames}
-use Rattle.nv_mount.specs.RisenCounts.{SawStop, failed_before}
+use Rattle.nv_bench.specs.Laws.{AreWholeStores}
+use Rattle.nv_mount.specs.RisenCounts.{failed_before}
+use Rattle.nv_mount.specs.Telling.{mounted_lines}
+use Rattle.nv_table.specs.state.Opened.{mount_of}
 use Rattle.nv_runner.specs.EndedRuns.{HasOutcome}
 use Rattle.nv_runner.specs.Faithful.{Basis}
+use Rattle.nv_runner.specs.KeptRounds.{AreKeptOf}
+use Rattle.nv_runner.specs.Reports.{history_lines}
+use Rattle.nv_runner.specs.Sorted.{placed_call}
+use Rattle.nv_runner.specs.declared.sorted.SortedCalls.{SortedCalls}
+use Rattle.nv_runner.specs.declared.stream.StreamError.{StreamError}
+use Rattle.nv_runner.specs.declared.stream.StreamError.TheVariants as ends
+use Rattle.nv_top.specs.Ran.{answer_of}
+use Rattle.nv_top.specs.Lives.{HasLived}
 use Rattle.nv_top.specs.Runs.{BeginsMount}
-use Rattle.nv_top.specs.Stopped.{HasStoppedOn}
-use Rattle.nv_top.specs.Stopping.{IsAway, ShowsRecovered}
-use Rattle.nv_top.proofs.PoweredHomes.{part_shown, parts_counted, store_shown}
-use Rattle.nv_top.proofs.StoppingLemmas.{HasRunToClose, at_some, closed_over, count_grows, failed_same, given_home, has_stopped, home_with, if_some, left_behind, none_unless, quiet_after, rose_home}
-use Rattle.nv_top.proofs.UnrefusedLemmas.{never_refused}
-use Rattle.std.specs.Prelude.{All, List, []}
-use Rattle.nv_bench.specs.Holding.{named_stores}
-use Rattle.nv_bench.specs.Laws.{AreWholeStores}
-use Rattle.nv_core.specs.content.Content.{Opens}
-use Rattle.nv_core.specs.crash.CrashImages.{OpensRegion}
-use Rattle.nv_core.specs.log.LogContent.{OpensLog}
-use Rattle.nv_core.specs.state.Values.{Value}
-use Rattle.nv_mount.specs.Telling.{IsTelling, mounted_lines}
-use Rattle.nv_open.proofs.Homes.{all_behind, own_stores}
-use Rattle.nv_open.specs.Unopened.{HasHeader, StandsAsBefore, TellsOf}
-use Rattle.nv_runner.specs.FaithfulRuns.{IsMountOf}
-use Rattle.nv_store.proofs.RowReads.{length_now}
-use Rattle.nv_table.specs.state.Opened.{Opened, mount_of}
-use Rattle.nv_table.specs.state.Views.{first_view}
-use Rattle.nv_top.specs.Lives.{AreLeftSo, HasLived}
-use Rattle.nv_top.proofs.LifeLemmas.{lines_home, lived_home, lived_powered, lived_recovered}
+use Rattle.nv_top.specs.Stopped.{HasStoppedBehind}
+use Rattle.nv_top.specs.Stopping.{IsAway, IsSettledStop, ShowsRecovered}
+use Rattle.nv_top.specs.declared.ending.Stop.TheVariants.{NoMemory}
+use Rattle.nv_top.specs.declared.show.Show.TheVariants as shows
+use Rattle.nv_top.proofs.RanLemmas.{runnable_all, streamed_on}
+use Rattle.nv_top.proofs.ReportedLemmas.{counted_settled}
+use Rattle.nv_top.proofs.StoppingLemmas.{quiet_after}
+use Rattle.nv_top.proofs.StreamStopLemmas.{all_placed, as_error, as_told, given_up, kept_calls, memory_alone, memory_answered, never_told, never_wanting, stopped_home, stopped_off, stopped_recovered, told_behind}
 use Rattle.nv_top.proofs.stopping.stop_mount.Goals as goal
+use Rattle.nv_top.proofs.stopping.stop_mount.Goals.{in-Err+in-NoMemory-1, in-Ok-2}
 
-pub show_recovered-requires-clause-at_home : goal.show_recovered-requires-clause-at_home
-show_recovered-requires-clause-at_home g c κs within =
+abbrev as_ended : StreamError → Result (Unit {0}) StreamError
+as_ended error = Err error
+
+pub show_recovered-told-requires-clause-at_home : goal.show_recovered-told-requires-clause-at_home
+show_recovered-told-requires-clause-at_home g c κs within =
     let state = g.T.Bench.state in
     let Quiet : BenchState → Type 0 = λ s. IfSome s.told IsQuietHolding in
     record {
@@ -47,239 +46,183 @@ show_recovered-requires-clause-at_home g c κs within =
           (quiet_after c.args.plan.image (state c.give_back.new.self).told c.power_leaves_an_image.ensures (λ holding is. g.met.T.Bench.whole c.give_back.new.self holding is));
     }
 
+pub returns-in-Err-Write-clause-ran : goal.returns-in-Err-Write-clause-ran
+returns-in-Err-Write-clause-ran g c =
+    let state = g.T.Bench.state in
+    let start = state c.args.bench.now in
+    let home = state c.give_back.new.self in
+    let mount = c.args.mount in
+    let pass = c.args.pass in
+    let ended = c.run_stream-closed.result.ended in
+    let calls = c.run_stream-closed.result.calls in
+    let came = c.run_stream-closed.result.closed in
+    let did = c.run_stream-closed.ensures in
+    let zero = did.ran.0 in
+    let stream = did.ran.1 in
+    let by = did.ran.3 in
+    let streamed =
+    streamed_on shows.Report mount.fds c.args.plan pass c.args.input.now _ (g.I.Source.left c.run_stream-closed.new.src) _ _ _ _ _ _ ended calls zero stream did.at_end (λ last. ap g.I.Source.left (did.unread last)) did.read_failed did.read_kept did.write_failed did.write_kept refl in
+    let runnable = runnable_all shows.Report c.args.input.now _ ended stream.all c.requires.input streamed.trace in
+    let whole : (holding : Holding) → home.told ≡ Some holding → AreWholeStores holding = λ holding is. g.met.T.Bench.whole c.give_back.new.self holding is in
+    let came_home =
+    stopped_home g.T.Part.Lines.history g.T.Store.Backing.history mount pass zero c.args.plan stream.all stream.outcome stream.shown _ _ came.parts.items came.stores.items _ came.placed came.tail c.args.k start (state c.arm.new.self) home.told
+    c.runs_leave_shown_lives.ensures runnable c.requires.new stream.ran stream.first_shown by (length-map came.stores.items g.T.Store.Backing.history ∙ did.ran.2.many_stores) c.requires.names c.arm.ensures c.give_back.ensures.told whole in
+    let made = mounted_lines (mount_of mount.board.opened) pass.spare in
+    let Lived : Basis → List ℕ → Option Holding → Type 0 = λ basis counts told. IfSome start.told (λ left. IsAway basis.names left → HasLived basis stream.all stream.shown counts left.stores told) in
+    let IsBegun : Basis → List ℕ → Type 0 = λ basis counts. BeginsMount basis stream.all mount pass × (basis.names ≡ start.lent) × (counts ≡ made) in
+    let at_home : (basis : Basis) (counts : List ℕ) → IsBegun basis counts → Lived basis counts home.told = λ basis counts begun. subst (λ counts. Lived basis counts home.told) (sym begun.2) (came_home basis begun.0 begun.1) in
+    let sink : c.in-Err-Write.field-0 ≡ ends.Write = (rw c.in-Err-Write.is at c.in-Err-Write.field-0-is) in
+    let wrote = c.in-Err-Write.is ∙ ap as_ended sink in
+    let taken = c.give_back.ensures.taken in
+    given_up ended stream.all stream.shown streamed runnable (sym (ap (λ (ended : _). answer_of ended (Err NoMemory)) wrote))
+    (omega (arith, ap (λ (s : BenchState). s.settled) taken, ap (λ (s : BenchState). s.settled) c.arm.ensures, ap (λ (s : BenchState). s.faults) taken))
+    (ap (λ (s : BenchState). s.arms) taken ∙ ap (λ (s : BenchState). s.arms) c.arm.ensures) at_home
+
+pub returns-in_err-power-clause-ran : goal.returns-in_err-power-clause-ran
+returns-in_err-power-clause-ran g c =
+    let state = g.T.Bench.state in
+    let start = state c.args.bench.now in
+    let home = state c.give_back.new.self in
+    let mount = c.args.mount in
+    let pass = c.args.pass in
+    let ended = c.run_stream-closed.result.ended in
+    let calls = c.run_stream-closed.result.calls in
+    let came = c.run_stream-closed.result.closed in
+    let did = c.run_stream-closed.ensures in
+    let zero = did.ran.0 in
+    let stream = did.ran.1 in
+    let by = did.ran.3 in
+    let streamed =
+    streamed_on shows.Report mount.fds c.args.plan pass c.args.input.now _ (g.I.Source.left c.run_stream-closed.new.src) _ _ _ _ _ _ ended calls zero stream did.at_end (λ last. ap g.I.Source.left (did.unread last)) did.read_failed did.read_kept did.write_failed did.write_kept refl in
+    let runnable = runnable_all shows.Report c.args.input.now _ ended stream.all c.requires.input streamed.trace in
+    let whole : (holding : Holding) → home.told ≡ Some holding → AreWholeStores holding = λ holding is. g.met.T.Bench.whole c.give_back.new.self holding is in
+    let came_home =
+    stopped_home g.T.Part.Lines.history g.T.Store.Backing.history mount pass zero c.args.plan stream.all stream.outcome stream.shown _ _ came.parts.items came.stores.items _ came.placed came.tail c.args.k start (state c.arm.new.self) home.told
+    c.runs_leave_shown_lives.ensures runnable c.requires.new stream.ran stream.first_shown by (length-map came.stores.items g.T.Store.Backing.history ∙ did.ran.2.many_stores) c.requires.names c.arm.ensures c.give_back.ensures.told whole in
+    let made = mounted_lines (mount_of mount.board.opened) pass.spare in
+    let Lived : Basis → List ℕ → Option Holding → Type 0 = λ basis counts told. IfSome start.told (λ left. IsAway basis.names left → HasLived basis stream.all stream.shown counts left.stores told) in
+    let IsBegun : Basis → List ℕ → Type 0 = λ basis counts. BeginsMount basis stream.all mount pass × (basis.names ≡ start.lent) × (counts ≡ made) in
+    let at_home : (basis : Basis) (counts : List ℕ) → IsBegun basis counts → Lived basis counts home.told = λ basis counts begun. subst (λ counts. Lived basis counts home.told) (sym begun.2) (came_home basis begun.0 begun.1) in
+    let taken = c.give_back.ensures.taken in
+    let same = c.in_err-power.ensures.memory in
+    let other : ended ≢ Err ends.Write = elim c.match-ended.branch [
+      | in-Err+in-NoMemory-1 w ↦ search rules
+      | in-Ok-2 w ↦ search rules
+    ] in
+    given_up ended stream.all stream.shown streamed runnable (as_error c.from_residual.result NoMemory c.from_residual.ensures.1 ∙ memory_answered ended other)
+    (omega (arith, ap (λ (s : BenchState). s.settled) same, ap (λ (s : BenchState). s.faults) same, ap (λ (s : BenchState). s.settled) taken, ap (λ (s : BenchState). s.settled) c.arm.ensures, ap (λ (s : BenchState). s.faults) taken))
+    (ap (λ (s : BenchState). s.arms) same ∙ ap (λ (s : BenchState). s.arms) taken ∙ ap (λ (s : BenchState). s.arms) c.arm.ensures)
+    (λ basis counts begun. subst (Lived basis counts) (sym (ap (λ (s : BenchState). s.told) same)) (at_home basis counts begun))
+
+pub returns-in_err-kept-clause-ran : goal.returns-in_err-kept-clause-ran
+returns-in_err-kept-clause-ran g c =
+    let state = g.T.Bench.state in
+    let start = state c.args.bench.now in
+    let home = state c.give_back.new.self in
+    let mount = c.args.mount in
+    let pass = c.args.pass in
+    let ended = c.run_stream-closed.result.ended in
+    let calls = c.run_stream-closed.result.calls in
+    let came = c.run_stream-closed.result.closed in
+    let did = c.run_stream-closed.ensures in
+    let zero = did.ran.0 in
+    let stream = did.ran.1 in
+    let by = did.ran.3 in
+    let streamed =
+    streamed_on shows.Report mount.fds c.args.plan pass c.args.input.now _ (g.I.Source.left c.run_stream-closed.new.src) _ _ _ _ _ _ ended calls zero stream did.at_end (λ last. ap g.I.Source.left (did.unread last)) did.read_failed did.read_kept did.write_failed did.write_kept refl in
+    let runnable = runnable_all shows.Report c.args.input.now _ ended stream.all c.requires.input streamed.trace in
+    let whole : (holding : Holding) → home.told ≡ Some holding → AreWholeStores holding = λ holding is. g.met.T.Bench.whole c.give_back.new.self holding is in
+    let came_home =
+    stopped_home g.T.Part.Lines.history g.T.Store.Backing.history mount pass zero c.args.plan stream.all stream.outcome stream.shown _ _ came.parts.items came.stores.items _ came.placed came.tail c.args.k start (state c.arm.new.self) home.told
+    c.runs_leave_shown_lives.ensures runnable c.requires.new stream.ran stream.first_shown by (length-map came.stores.items g.T.Store.Backing.history ∙ did.ran.2.many_stores) c.requires.names c.arm.ensures c.give_back.ensures.told whole in
+    let made = mounted_lines (mount_of mount.board.opened) pass.spare in
+    let Lived : Basis → List ℕ → Option Holding → Type 0 = λ basis counts told. IfSome start.told (λ left. IsAway basis.names left → HasLived basis stream.all stream.shown counts left.stores told) in
+    let IsBegun : Basis → List ℕ → Type 0 = λ basis counts. BeginsMount basis stream.all mount pass × (basis.names ≡ start.lent) × (counts ≡ made) in
+    let at_home : (basis : Basis) (counts : List ℕ) → IsBegun basis counts → Lived basis counts home.told = λ basis counts begun. subst (λ counts. Lived basis counts home.told) (sym begun.2) (came_home basis begun.0 begun.1) in
+    let off = state c.power.new.self in
+    let powers = ap (λ (s : BenchState). s.told) c.in_ok-power.ensures.off in
+    let at_off : (basis : Basis) (counts : List ℕ) → IsBegun basis counts → Lived basis counts off.told = λ basis counts begun.
+    stopped_off basis stream.all stream.shown c.args.plan.image counts start.told home.told off.told c.images_follow_calls.ensures.quiet c.power_leaves_an_image.ensures c.requires.quiet whole powers (at_home basis counts begun) in
+    let taken = c.give_back.ensures.taken in
+    let power = c.in_ok-power.ensures.off in
+    let other : ended ≢ Err ends.Write = elim c.match-ended.branch [
+      | in-Err+in-NoMemory-1 w ↦ search rules
+      | in-Ok-2 w ↦ search rules
+    ] in
+    let wanting = memory_alone c.args.plan pass zero calls stream.outcome c.args.k c.in_err-kept.field-0.0 c.requires.stop stream.ran stream.kept c.in_err-kept.was in
+    given_up ended stream.all stream.shown streamed runnable (as_error c.from_residual-in_err-kept.result _ c.from_residual-in_err-kept.ensures.1 ∙ ap as_told wanting ∙ memory_answered ended other)
+    (omega (arith, ap (λ (s : BenchState). s.settled) power, ap (λ (s : BenchState). s.faults) power))
+    (ap (λ (s : BenchState). s.arms) power ∙ ap (λ (s : BenchState). s.arms) taken ∙ ap (λ (s : BenchState). s.arms) c.arm.ensures) at_off
+
 pub returns-clause-ran : goal.returns-clause-ran
 returns-clause-ran g c =
     let state = g.T.Bench.state in
     let start = state c.args.bench.now in
     let home = state c.give_back.new.self in
-    let off = state c.power.new.self in
-    let last = state c.show_recovered.new.bench in
     let mount = c.args.mount in
     let pass = c.args.pass in
-    let trace = c.args.trace.now in
-    let sorted = c.in_ok-sorted.sorted in
-    let came = c.run_calls-ended.result.closed in
-    let ran = c.run_calls-ended.ensures.ran in
-    let zero = ran.0 in
-    let by = ran.3 in
-    let parts = map g.T.Part.Lines.history came.parts.items in
-    let held = map g.T.Store.Backing.history came.stores.items in
-    let sums = sum_by g.T.Part.Lines.fault_count came.parts.items + sum_by g.T.Store.Backing.fault_count came.stores.items in
-    let failed : Type 0 = Rose (saturated (start.faults + failed_before pass)) last.faults in
-    let home_faults : home.faults ≡ saturated (start.faults + sums) =
-    ap (λ (s : BenchState). s.faults) c.give_back.ensures.taken ∙ ap (λ (s : BenchState). saturated (s.faults + sums)) c.arm.ensures in
-    let no_less : saturated (start.faults + sums) ≤ last.faults =
-    omega (arith, home_faults, ap (λ (s : BenchState). s.faults) c.in_ok-power.ensures.off, count_grows off.faults last.faults c.show_recovered.result c.show_recovered.ensures.cause) in
-    let out : HasOutcome mount.fds c.args.plan trace.calls pass (Ok sorted) zero =
-    subst (λ outcome. HasOutcome mount.fds c.args.plan trace.calls pass outcome zero) (c.branch-sorted.ensures ∙ ap result_from_control_flow c.in_ok-sorted.is) ran.1 in
-    let saw : SawStop zero.view → failed = λ seen.
-    rose_home start.faults (failed_before pass) sums last.faults no_less (subst (λ count. Rose count sums) (failed_same pass zero out.run_out.mount out.run_out.spare) (by.stopped seen)) in
-    let many : length held ≡ mount.board.opened.sizes.files = length-map came.stores.items g.T.Store.Backing.history ∙ ran.2.many_stores in
-    IfOk-weaker c.show_recovered.result
-    (λ text. IfSome off.told (λ holding. ShowsRecovered holding sorted [] last.told text.items))
-    (λ text. (basis : Basis) → BeginsMount basis trace mount pass → basis.names ≡ start.lent
-    → IfSome start.told (λ left. IsAway basis.names left → HasStoppedOn failed c.args.plan.worker c.args.plan.image start.picked basis trace (1 + mount.board.opened.sizes.entries + length pass.spare) left.stores last text.items))
-    (λ text shown basis begins named.
-    if_some start.told (λ left. IsAway basis.names left → HasStoppedOn failed c.args.plan.worker c.args.plan.image start.picked basis trace (1 + mount.board.opened.sizes.entries + length pass.spare) left.stores last text.items)
-    (λ left told_is away.
-    let run : HasRunToClose basis trace mount pass zero c.args.plan sorted _ _ parts held sums came.placed came.tail = record {
-      begins = begins;
-      new = c.requires.new;
-      well_formed = c.requires.trace.well_formed;
-      few = omega (arith, c.requires.trace.few);
-      rise = c.requires.trace.lines;
-      out = out;
-      closed = by;
-    } in
-    let allowed : AreFileNames mount_layout basis.names = subst (λ names. AreFileNames mount_layout names) (sym named) c.requires.names in
-    let behind =
-    left_behind basis trace mount pass zero _ _ parts held sums came.placed came.tail (closed_over basis trace mount pass zero c.args.plan sorted _ _ parts held sums came.placed came.tail run) c.power_leaves_an_image.ensures
-    (omega (arith, ran.2.many_parts, length-map came.parts.items g.T.Part.Lines.history)) many
-    (part_shown g.T.Part.Lines.device g.T.Part.Lines.history g.T.Part.Lines.fault_count g.T.Part.Lines.room came.parts.items)
-    (store_shown g.T.Store.Backing.device g.T.Store.Backing.history g.T.Store.Backing.fault_count came.stores.items)
-    allowed c.args.plan.image left (at_some start.told IsQuietHolding left told_is c.requires.quiet).stores home.told off.told
-    (λ now disks now_are disks_are. given_home c.args.k start (state c.arm.new.self) home.told left parts held c.give_back.ensures.told c.arm.ensures told_is now disks now_are disks_are
-    ∙ ap (λ names. Some (home_with left names now disks)) (sym named))
-    (ap (λ (s : BenchState). s.told) c.in_ok-power.ensures.off) (λ holding is. g.met.T.Bench.whole c.give_back.new.self holding is) away in
-    has_stopped basis trace mount pass zero c.args.plan sorted _ _ parts held sums came.placed came.tail run
-    c.runs_are_told.ensures c.history_of_threads_is_legal.ensures.legal c.history_of_threads_is_legal.ensures.files c.open_calls_are_the_faults.ensures.kept
-    c.runs_are_faithful.ensures.faithful c.runs_are_faithful.ensures.numbers c.images_stand_for_files.ensures.files failed saw allowed last text.items behind.after
-    (at_some off.told (λ holding. ShowsRecovered holding sorted [] last.told text.items) behind.after behind.off_is shown)
-    (ap (λ (s : BenchState). s.left) c.show_recovered.ensures.back ∙ ap (λ (s : BenchState). s.left) c.in_ok-power.ensures.off
-    ∙ ap (option_map (powered c.args.plan.image)) behind.given_is ∙ ap Some (sym behind.after_is))
-    start.picked
-    (ap (λ (s : BenchState). s.picked) c.show_recovered.ensures.back ∙ ap (λ (s : BenchState). s.picked) c.in_ok-power.ensures.off
-    ∙ ap (λ (s : BenchState). c.args.plan.image ∷ s.picked) c.give_back.ensures.taken ∙ ap (λ (s : BenchState). c.args.plan.image ∷ s.picked) c.arm.ensures)
-    (1 + mount.board.opened.sizes.entries + length pass.spare)
-    (behind.many_are ∙ length-map came.parts.items g.T.Part.Lines.history
-    ∙ parts_counted _ came.parts.items (1 + mount.board.opened.sizes.entries) pass.spare ran.2.many_parts (ran.2.same_spare ∙ out.run_out.spare))
-    left.stores behind.others_are behind.whole c.runs_are_faithful.ensures.kept behind.before behind.cells behind.after_is))
-    c.show_recovered.ensures.shown
-
-pub returns-clause-never : goal.returns-clause-never
-returns-clause-never g c why is basis begins named =
-    let state = g.T.Bench.state in
-    let start = state c.args.bench.now in
-    let home = state c.give_back.new.self in
-    let off = state c.power.new.self in
-    let mount = c.args.mount in
-    let pass = c.args.pass in
-    let trace = c.args.trace.now in
-    let sorted = c.in_ok-sorted.sorted in
-    let came = c.run_calls-ended.result.closed in
-    let ran = c.run_calls-ended.ensures.ran in
-    let zero = ran.0 in
-    let by = ran.3 in
-    let parts = map g.T.Part.Lines.history came.parts.items in
-    let held = map g.T.Store.Backing.history came.stores.items in
-    let sums = sum_by g.T.Part.Lines.fault_count came.parts.items + sum_by g.T.Store.Backing.fault_count came.stores.items in
-    let out : HasOutcome mount.fds c.args.plan trace.calls pass (Ok sorted) zero =
-    subst (λ outcome. HasOutcome mount.fds c.args.plan trace.calls pass outcome zero) (c.branch-sorted.ensures ∙ ap result_from_control_flow c.in_ok-sorted.is) ran.1 in
-    let many : length held ≡ mount.board.opened.sizes.files = length-map came.stores.items g.T.Store.Backing.history ∙ ran.2.many_stores in
-    none_unless start.told (λ left told_is.
-    let run : HasRunToClose basis trace mount pass zero c.args.plan sorted _ _ parts held sums came.placed came.tail = record {
-      begins = begins;
-      new = c.requires.new;
-      well_formed = c.requires.trace.well_formed;
-      few = omega (arith, c.requires.trace.few);
-      rise = c.requires.trace.lines;
-      out = out;
-      closed = by;
-    } in
-    never_refused basis trace mount pass zero _ _ parts held sums came.placed came.tail (closed_over basis trace mount pass zero c.args.plan sorted _ _ parts held sums came.placed came.tail run) c.power_leaves_an_image.ensures c.images_stand_for_files.ensures.good
-    c.a_header_has_one_answer.ensures.read many c.args.plan.image left home.told off.told
-    (λ now disks now_are disks_are. given_home c.args.k start (state c.arm.new.self) home.told left parts held c.give_back.ensures.told c.arm.ensures told_is now disks now_are disks_are
-    ∙ ap (λ names. Some (home_with left names now disks)) (sym named))
-    (ap (λ (s : BenchState). s.told) c.in_ok-power.ensures.off) (λ holding is. g.met.T.Bench.whole c.give_back.new.self holding is) why
-    (c.show_recovered.ensures.refused why is))
-
-pub returns-in_err-power-clause-life : goal.returns-in_err-power-clause-life
-returns-in_err-power-clause-life g c basis begins named =
-    let state = g.T.Bench.state in
-    let start = state c.args.bench.now in
-    let home = state c.give_back.new.self in
-    let mount = c.args.mount in
-    let pass = c.args.pass in
-    let trace = c.args.trace.now in
-    let history = g.T.Part.Lines.history in
-    let keeps = g.T.Store.Backing.history in
-    let came = c.run_calls-ended.result.closed in
-    let ran = c.run_calls-ended.ensures.ran in
-    let out = ran.1.run_out in
-    let by = ran.3 in
-    let parts = map history came.parts.items in
-    let held = map keeps came.stores.items in
-    let many : length held ≡ mount.board.opened.sizes.files = length-map came.stores.items keeps ∙ ran.2.many_stores in
-    let made = mounted_lines (mount_of mount.board.opened) pass.spare in
-    if_some start.told (λ left. IsAway basis.names left → HasLived basis trace [] made left.stores (state c.power.new.self).told) (λ left told_is away.
-    let here = sym c.requires.board.same_mount in
-    let there : mount.board.opened ≡ ran.0.view.opened = here ∙ sym out.mount in
-    let life =
-    c.runs_leave_lives.ensures basis trace mount.fds c.args.plan pass ran.0 c.run_calls-ended.result.outcome _ _ parts held _ _ _ c.requires.trace.well_formed c.requires.trace.lines
-    (subst (λ (o : Opened). IsMountOf basis trace o mount.fds) here begins.is_mount) (subst (λ (o : Opened). OpensRegion (mount_of o) basis.names) here begins.region) (c.requires.new ∙ ap first_view here) ran.1 by in
-    let tell = by.telling basis.files (subst (λ (o : Opened). OpensLog (mount_of o) o.next) there begins.is_mount.log) (subst (λ (o : Opened). Opens (mount_of o) basis.files) there begins.is_mount.files)
-    (subst (λ (values : List Value). All IsTelling values) (sym out.spare) begins.spare) in
-    let counted = lines_home parts mount.board.opened ran.0.view.opened pass.spare ran.0.spare there out.spare by.lines in
-    let stay : AreLeftSo history keeps basis trace made came.parts.items came.stores.items = record { parts_tell = tell.0; stores_tell = tell.1; lines_are = counted; life = life } in
-    let allowed : AreFileNames mount_layout basis.names = subst (λ names. AreFileNames mount_layout names) (sym named) c.requires.names in
+    let ended = c.run_stream-closed.result.ended in
+    let calls = c.run_stream-closed.result.calls in
+    let came = c.run_stream-closed.result.closed in
+    let did = c.run_stream-closed.ensures in
+    let zero = did.ran.0 in
+    let stream = did.ran.1 in
+    let by = did.ran.3 in
+    let streamed =
+    streamed_on shows.Report mount.fds c.args.plan pass c.args.input.now _ (g.I.Source.left c.run_stream-closed.new.src) _ _ _ _ _ _ ended calls zero stream did.at_end (λ last. ap g.I.Source.left (did.unread last)) did.read_failed did.read_kept did.write_failed did.write_kept refl in
+    let runnable = runnable_all shows.Report c.args.input.now _ ended stream.all c.requires.input streamed.trace in
     let whole : (holding : Holding) → home.told ≡ Some holding → AreWholeStores holding = λ holding is. g.met.T.Bench.whole c.give_back.new.self holding is in
-    let lived : HasLived basis trace [] made left.stores home.told = lived_home basis trace history keeps came.parts.items came.stores.items made home.told left.stores whole stay
-    (λ disks are. all_behind basis.names left.stores (named_stores basis.names disks) away ∙ own_stores basis.names disks (begins.is_mount.names ∙ sym many ∙ sym (length_now held disks are)) allowed.distinct)
-    (λ now disks now_are disks_are. given_home c.args.k start (state c.arm.new.self) home.told left parts held c.give_back.ensures.told c.arm.ensures told_is now disks now_are disks_are
-    ∙ ap (λ names. Some (home_with left names now disks)) (sym named)) in
-    subst (λ told. HasLived basis trace [] made left.stores told) (sym (ap (λ (s : BenchState). s.told) c.in_err-power.ensures.memory)) lived)
-
-pub returns-in_err-sorted-clause-life : goal.returns-in_err-sorted-clause-life
-returns-in_err-sorted-clause-life g c basis begins named =
-    let state = g.T.Bench.state in
-    let start = state c.args.bench.now in
-    let home = state c.give_back.new.self in
-    let mount = c.args.mount in
-    let pass = c.args.pass in
-    let trace = c.args.trace.now in
-    let history = g.T.Part.Lines.history in
-    let keeps = g.T.Store.Backing.history in
-    let came = c.run_calls-ended.result.closed in
-    let ran = c.run_calls-ended.ensures.ran in
-    let out = ran.1.run_out in
-    let by = ran.3 in
-    let parts = map history came.parts.items in
-    let held = map keeps came.stores.items in
-    let many : length held ≡ mount.board.opened.sizes.files = length-map came.stores.items keeps ∙ ran.2.many_stores in
+    let came_home =
+    stopped_home g.T.Part.Lines.history g.T.Store.Backing.history mount pass zero c.args.plan stream.all stream.outcome stream.shown _ _ came.parts.items came.stores.items _ came.placed came.tail c.args.k start (state c.arm.new.self) home.told
+    c.runs_leave_shown_lives.ensures runnable c.requires.new stream.ran stream.first_shown by (length-map came.stores.items g.T.Store.Backing.history ∙ did.ran.2.many_stores) c.requires.names c.arm.ensures c.give_back.ensures.told whole in
     let made = mounted_lines (mount_of mount.board.opened) pass.spare in
-    if_some start.told (λ left. IsAway basis.names left → HasLived basis trace [] made left.stores (state c.power.new.self).told) (λ left told_is away.
-    let here = sym c.requires.board.same_mount in
-    let there : mount.board.opened ≡ ran.0.view.opened = here ∙ sym out.mount in
-    let life =
-    c.runs_leave_lives.ensures basis trace mount.fds c.args.plan pass ran.0 c.run_calls-ended.result.outcome _ _ parts held _ _ _ c.requires.trace.well_formed c.requires.trace.lines
-    (subst (λ (o : Opened). IsMountOf basis trace o mount.fds) here begins.is_mount) (subst (λ (o : Opened). OpensRegion (mount_of o) basis.names) here begins.region) (c.requires.new ∙ ap first_view here) ran.1 by in
-    let tell = by.telling basis.files (subst (λ (o : Opened). OpensLog (mount_of o) o.next) there begins.is_mount.log) (subst (λ (o : Opened). Opens (mount_of o) basis.files) there begins.is_mount.files)
-    (subst (λ (values : List Value). All IsTelling values) (sym out.spare) begins.spare) in
-    let counted = lines_home parts mount.board.opened ran.0.view.opened pass.spare ran.0.spare there out.spare by.lines in
-    let stay : AreLeftSo history keeps basis trace made came.parts.items came.stores.items = record { parts_tell = tell.0; stores_tell = tell.1; lines_are = counted; life = life } in
-    let allowed : AreFileNames mount_layout basis.names = subst (λ names. AreFileNames mount_layout names) (sym named) c.requires.names in
-    let whole : (holding : Holding) → home.told ≡ Some holding → AreWholeStores holding = λ holding is. g.met.T.Bench.whole c.give_back.new.self holding is in
-    let lived : HasLived basis trace [] made left.stores home.told = lived_home basis trace history keeps came.parts.items came.stores.items made home.told left.stores whole stay
-    (λ disks are. all_behind basis.names left.stores (named_stores basis.names disks) away ∙ own_stores basis.names disks (begins.is_mount.names ∙ sym many ∙ sym (length_now held disks are)) allowed.distinct)
-    (λ now disks now_are disks_are. given_home c.args.k start (state c.arm.new.self) home.told left parts held c.give_back.ensures.told c.arm.ensures told_is now disks now_are disks_are
-    ∙ ap (λ names. Some (home_with left names now disks)) (sym named)) in
+    let Lived : Basis → List ℕ → Option Holding → Type 0 = λ basis counts told. IfSome start.told (λ left. IsAway basis.names left → HasLived basis stream.all stream.shown counts left.stores told) in
+    let IsBegun : Basis → List ℕ → Type 0 = λ basis counts. BeginsMount basis stream.all mount pass × (basis.names ≡ start.lent) × (counts ≡ made) in
+    let at_home : (basis : Basis) (counts : List ℕ) → IsBegun basis counts → Lived basis counts home.told = λ basis counts begun. subst (λ counts. Lived basis counts home.told) (sym begun.2) (came_home basis begun.0 begun.1) in
     let off = state c.power.new.self in
     let powers = ap (λ (s : BenchState). s.told) c.in_ok-power.ensures.off in
-    let still = (at_some start.told IsQuietHolding left told_is c.requires.quiet).stores in
-    let powered_so : HasLived basis trace [] made left.stores off.told = lived_powered basis trace c.images_follow_calls.ensures.quiet c.power_leaves_an_image.ensures c.args.plan.image made left.stores still home.told off.told whole powers lived in
-    powered_so)
-
-pub returns-clause-life : goal.returns-clause-life
-returns-clause-life g c basis begins named =
-    let state = g.T.Bench.state in
-    let start = state c.args.bench.now in
-    let home = state c.give_back.new.self in
-    let mount = c.args.mount in
-    let pass = c.args.pass in
-    let trace = c.args.trace.now in
-    let history = g.T.Part.Lines.history in
-    let keeps = g.T.Store.Backing.history in
-    let came = c.run_calls-ended.result.closed in
-    let ran = c.run_calls-ended.ensures.ran in
-    let out = ran.1.run_out in
-    let by = ran.3 in
-    let parts = map history came.parts.items in
-    let held = map keeps came.stores.items in
-    let many : length held ≡ mount.board.opened.sizes.files = length-map came.stores.items keeps ∙ ran.2.many_stores in
-    let made = mounted_lines (mount_of mount.board.opened) pass.spare in
-    if_some start.told (λ left. IsAway basis.names left → HasLived basis trace [] made left.stores (state c.show_recovered.new.bench).told) (λ left told_is away.
-    let here = sym c.requires.board.same_mount in
-    let there : mount.board.opened ≡ ran.0.view.opened = here ∙ sym out.mount in
-    let life =
-    c.runs_leave_lives.ensures basis trace mount.fds c.args.plan pass ran.0 c.run_calls-ended.result.outcome _ _ parts held _ _ _ c.requires.trace.well_formed c.requires.trace.lines
-    (subst (λ (o : Opened). IsMountOf basis trace o mount.fds) here begins.is_mount) (subst (λ (o : Opened). OpensRegion (mount_of o) basis.names) here begins.region) (c.requires.new ∙ ap first_view here) ran.1 by in
-    let tell = by.telling basis.files (subst (λ (o : Opened). OpensLog (mount_of o) o.next) there begins.is_mount.log) (subst (λ (o : Opened). Opens (mount_of o) basis.files) there begins.is_mount.files)
-    (subst (λ (values : List Value). All IsTelling values) (sym out.spare) begins.spare) in
-    let counted = lines_home parts mount.board.opened ran.0.view.opened pass.spare ran.0.spare there out.spare by.lines in
-    let stay : AreLeftSo history keeps basis trace made came.parts.items came.stores.items = record { parts_tell = tell.0; stores_tell = tell.1; lines_are = counted; life = life } in
-    let allowed : AreFileNames mount_layout basis.names = subst (λ names. AreFileNames mount_layout names) (sym named) c.requires.names in
-    let whole : (holding : Holding) → home.told ≡ Some holding → AreWholeStores holding = λ holding is. g.met.T.Bench.whole c.give_back.new.self holding is in
-    let lived : HasLived basis trace [] made left.stores home.told = lived_home basis trace history keeps came.parts.items came.stores.items made home.told left.stores whole stay
-    (λ disks are. all_behind basis.names left.stores (named_stores basis.names disks) away ∙ own_stores basis.names disks (begins.is_mount.names ∙ sym many ∙ sym (length_now held disks are)) allowed.distinct)
-    (λ now disks now_are disks_are. given_home c.args.k start (state c.arm.new.self) home.told left parts held c.give_back.ensures.told c.arm.ensures told_is now disks now_are disks_are
-    ∙ ap (λ names. Some (home_with left names now disks)) (sym named)) in
-    let off = state c.power.new.self in
-    let powers = ap (λ (s : BenchState). s.told) c.in_ok-power.ensures.off in
-    let still = (at_some start.told IsQuietHolding left told_is c.requires.quiet).stores in
-    let powered_so : HasLived basis trace [] made left.stores off.told = lived_powered basis trace c.images_follow_calls.ensures.quiet c.power_leaves_an_image.ensures c.args.plan.image made left.stores still home.told off.told whole powers lived in
-    let last = state c.show_recovered.new.bench in
-    lived_recovered basis trace c.images_follow_calls.ensures.quiet off.told last.told
-    (subst (λ told. IfSome told IsQuietHolding) (sym powers) (quiet_after c.args.plan.image home.told c.power_leaves_an_image.ensures whole)) made left.stores powered_so
-    (at_some off.told (λ was. HasHeader was.parts → TellsOf (StandsAsBefore was) last.told) powered_so.images.now powered_so.images.told_is c.show_recovered.ensures.standing))
-
-pub returns-clause-never_falls : goal.returns-clause-never_falls
-returns-clause-never_falls g c =
-    let state = g.T.Bench.state in
-    let start = state c.args.bench.now in
-    let came = c.run_calls-ended.result.closed in
-    let ran = c.run_calls-ended.ensures.ran in
+    let at_off : (basis : Basis) (counts : List ℕ) → IsBegun basis counts → Lived basis counts off.told = λ basis counts begun.
+    stopped_off basis stream.all stream.shown c.args.plan.image counts start.told home.told off.told c.images_follow_calls.ensures.quiet c.power_leaves_an_image.ensures c.requires.quiet whole powers (at_home basis counts begun) in
+    let last = state c.show_recovered-told.new.bench in
+    let told = c.show_recovered-told.result in
+    let recovery = c.show_recovered-told.ensures in
+    let taken = c.give_back.ensures.taken in
+    let power = c.in_ok-power.ensures.off in
     let sums = sum_by g.T.Part.Lines.fault_count came.parts.items + sum_by g.T.Store.Backing.fault_count came.stores.items in
-    let home_faults : (state c.give_back.new.self).faults ≡ saturated (start.faults + sums) =
-    ap (λ (s : BenchState). s.faults) c.give_back.ensures.taken ∙ ap (λ (s : BenchState). saturated (s.faults + sums)) c.arm.ensures in
-    let grew : failed_before c.args.pass ≤ sums = subst (λ count. count ≤ sums) (failed_same c.args.pass ran.0 ran.1.run_out.mount ran.1.run_out.spare) ran.3.grew in
-    omega (arith, home_faults, grew, ap (λ (s : BenchState). s.faults) c.in_ok-power.ensures.off, c.show_recovered.ensures.never_falls)
+    let kept = kept_calls calls stream.outcome c.in_ok-kept.kept c.in_ok-kept.was stream.kept in
+    let sorted = kept.0 in
+    let out : HasOutcome mount.fds c.args.plan stream.all.calls pass (Ok sorted) zero = subst (λ outcome. HasOutcome mount.fds c.args.plan stream.all.calls pass outcome zero) kept.1 stream.ran in
+    let same : last.settled ≡ off.faults = ap (λ (s : BenchState). s.settled) recovery.back ∙ ap (λ (s : BenchState). s.settled) power ∙ sym (ap (λ (s : BenchState). s.faults) power) in
+    let at_last : max off.faults last.settled ≡ last.settled = omega (arith, same) in
+    let home_faults : home.faults ≡ saturated (start.faults + sums) = ap (λ (s : BenchState). s.faults) taken ∙ ap (λ (s : BenchState). saturated (s.faults + sums)) c.arm.ensures in
+    let no_less : saturated (start.faults + sums) ≤ last.faults = omega (arith, home_faults, ap (λ (s : BenchState). s.faults) power, recovery.never_falls) in
+    let never = λ (basis : Basis) (counts : List ℕ) (begun : IsBegun basis counts).
+    never_told g.T.Part.Lines.device g.T.Part.Lines.history g.T.Part.Lines.fault_count g.T.Part.Lines.room g.T.Store.Backing.device g.T.Store.Backing.history g.T.Store.Backing.fault_count mount pass zero c.args.plan stream.all sorted came.parts.items
+    came.stores.items came.placed came.tail c.args.k start (state c.arm.new.self) home off last runnable c.requires.new out did.ran.2 by c.arm.ensures taken c.give_back.ensures.told whole power recovery.back c.power_leaves_an_image.ensures basis begun.0 begun.1 in
+    let behind = λ (basis : Basis) (counts : List ℕ) (begun : IsBegun basis counts).
+    told_behind g.T.Part.Lines.device g.T.Part.Lines.history g.T.Part.Lines.fault_count g.T.Part.Lines.room g.T.Store.Backing.device g.T.Store.Backing.history g.T.Store.Backing.fault_count mount pass zero c.args.plan stream.all sorted came.parts.items
+    came.stores.items came.placed came.tail c.args.k start (state c.arm.new.self) home off last runnable c.requires.new out did.ran.2 by c.arm.ensures taken c.give_back.ensures.told whole power recovery.back c.power_leaves_an_image.ensures basis begun.0 begun.1 in
+    record {
+      ended = ended;
+      told = told;
+      answered = c.answer.ensures;
+      all = stream.all;
+      shown = stream.shown;
+      streamed = streamed;
+      memory = λ wanting. never_wanting calls c.in_ok-kept.kept told c.in_ok-kept.was (did.memory wanting);
+      runnable = runnable;
+      turns = recovery.turns;
+      settled = λ armed. subst (λ settled. IsSettledStop settled last.faults told) at_last (counted_settled off.faults last.faults last.settled told (omega (arith, same)) recovery.cause);
+      cause = λ same. absurd (omega (arith, same, ap (λ (s : BenchState). s.arms) recovery.back, ap (λ (s : BenchState). s.arms) power, ap (λ (s : BenchState). s.arms) taken, ap (λ (s : BenchState). s.arms) c.arm.ensures));
+      never = λ why is basis counts begun. never basis counts begun c.images_stand_for_files.ensures.good c.a_header_has_one_answer.ensures.read why (recovery.refused why is);
+      life = λ basis counts begun. stopped_recovered basis stream.all stream.shown counts start.told off.told last.told c.images_follow_calls.ensures.quiet
+          (subst (λ told. IfSome told IsQuietHolding) (sym powers) (quiet_after c.args.plan.image home.told c.power_leaves_an_image.ensures whole)) recovery.standing (at_off basis counts begun);
+      ran = IfOk-weaker told
+          (λ text. IfSome off.told (λ holding. (sorted : SortedCalls) → AreKeptOf c.in_ok-kept.kept sorted → ShowsRecovered holding sorted [] last.told (history_lines 0 (map placed_call sorted.placed.items) ++ text.items)))
+          (λ text. (basis : Basis) (counts : List ℕ) → IsBegun basis counts → IfSome start.told (λ left. IsAway basis.names left
+          → HasStoppedBehind (Rose (saturated (start.faults + failed_before pass)) last.faults) c.args.plan.worker c.args.plan.image start.picked basis stream.all stream.shown (1 + mount.board.opened.sizes.entries + length pass.spare) left.stores last text.items))
+          (λ text shows basis counts begun.
+          behind basis counts begun c.requires.names c.requires.quiet no_less c.runs_are_told.ensures c.history_of_threads_is_legal.ensures.legal c.history_of_threads_is_legal.ensures.files c.open_calls_are_the_faults.ensures.kept c.runs_are_faithful.ensures.faithful
+          c.runs_are_faithful.ensures.numbers c.images_stand_for_files.ensures.files c.runs_are_faithful.ensures.kept c.in_ok-kept.kept kept.2 stream.shown (all_placed stream.outcome sorted stream.shown kept.1 stream.all_shown) text.items shows)
+          recovery.shown;
+    }
