@@ -350,7 +350,7 @@ def disks(program, folder):
         # The parts have their pages, so the log takes the write; the file has none for it, so it stays in the log.
         fill(disk)
         beyond = b"file a\nfd 0 a rw\n0 pwrite 0 %d 21\n" % PAGE
-        yield "a full disk, a run", call(program, [disk, *RUN, "--pages", "65"], beyond), DEVICE
+        yield "a full disk, a run", call(program, [disk, *RUN, "--pages", "65"], beyond), (b"0 0 pwrite 0 4096 1 = 1\n" + DEVICE[0], 5)
         yield "a full disk, a recovery", call(program, [disk, "recover"]), DEVICE
         os.unlink(disk + "/filler")
         shown = (b"hello".ljust(PAGE, b"\0") + b"!").hex().encode()
@@ -366,10 +366,14 @@ def full_disks(program, folder):
             if disk is None:
                 return
             text, status = call(program, [disk, *RUN], trace)
-            yield f"a disk of {pages} pages: {text[:80]!r}, status {status}", status == 0 or (text, status) == DEVICE, True
+            shown = text.splitlines()[: -1 if status else WRITES]
+            is_front = shown == [b"%d 0 pwrite 0 %d 1 = 1" % (i, i) for i in range(len(shown))]
+            ended = status == 0 or status == 5 and text.endswith(DEVICE[0])
+            yield f"a disk of {pages} pages: {text[:80]!r}, status {status}", (is_front, ended), (True, True)
             remount(disk, f"size={64 * PAGE}")
             text, status_then = call(program, [disk, "recover"])
-            fits = left_by(text, status_then, WRITES) is not None
+            left = left_by(text, status_then, WRITES)
+            fits = left is not None and max(left, 0) >= len(shown)
             yield f"room behind {pages} pages: {text[:80]!r}, status {status_then}", fits, True
 
 
