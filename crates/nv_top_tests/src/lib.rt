@@ -13,3 +13,5 @@ mod loads;
 mod regions;
 #[cfg(test)]
 mod schedules;
+#[cfg(test)]
+mod streams;
