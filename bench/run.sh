@@ -1,16 +1,17 @@
 #!/usr/bin/env bash
 # Prints how long `nv_sim run` takes for a trace of 200,000 calls, or of as many as the first word says, by one thread and by four, with a worker beside them: three writes of 64 bytes to one read of 64,
 # over 64 pages; the middle one of five runs, and a call's part less the run of a trace of no calls; and the peak memory in bytes a byte of the trace. For reads of no bytes, without a worker, it
-# prints the bytes of memory a call.
+# prints the bytes of memory a call. The memory is what GNU time tells: what Python is told of its child counts what Python itself has.
 set -eu
 cd "$(dirname "$0")/../crates/nv_sim"
 [ -x out/nv_sim ] || rt run -- run --noworker < stdin > /dev/null
 room=$(mktemp -d)
 trap 'rm -rf "$room"' EXIT
 python3 - "$PWD/out/nv_sim" "$room" "${1:-200000}" <<'PY'
-import os, statistics, subprocess, sys, time
+import os, shutil, subprocess, sys, time
 
 PROGRAM, ROOM = sys.argv[1:3]
+TIME = shutil.which("time") or sys.exit("run.sh needs GNU time")
 CALLS = int(sys.argv[3])
 HEAD = "file a\nfd 0 a rw\n"
 
@@ -34,14 +35,15 @@ def make(name, block, calls, threads):
 
 def run(path, *words):
     """Seconds and peak memory of a run; where it isn't done, nothing."""
-    with open(path, "rb") as given, open(os.devnull, "wb") as shown:
+    told = os.path.join(ROOM, "told")
+    with open(path, "rb") as given:
         start = time.monotonic()
-        process = subprocess.Popen([PROGRAM, "run", *words], stdin=given, stdout=shown)
-        _, status, used = os.wait4(process.pid, 0)
+        done = subprocess.run([TIME, "-f", "%M", "-o", told, PROGRAM, "run", *words], stdin=given, stdout=subprocess.DEVNULL)
         seconds = time.monotonic() - start
-    if status:
-        sys.exit(f"nv_sim ended with {status}")
-    return seconds, used.ru_maxrss * 1024
+    if done.returncode:
+        sys.exit(f"nv_sim ended with {done.returncode}")
+    with open(told) as file:
+        return seconds, int(file.read()) * 1024
 
 
 def middle(path, *words):
