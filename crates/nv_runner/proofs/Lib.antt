@@ -6,6 +6,7 @@ pub mod SortedLaws
 pub mod LineLaws
 pub mod draws
 pub mod ShiftRuns
+pub mod ShownLifeLaws
 pub mod RunLaws
 pub mod RefusalWords
 pub mod RefusalSteps

@@ -39,10 +39,9 @@ use Rattle.nv_runner.specs.Calls.{call_on, fd_of, opened_on}
 use Rattle.nv_runner.specs.EndedRuns.{HasOutcome, IsClosedBy, batch_of}
 use Rattle.nv_runner.specs.Faithful.{Basis, descriptors_in, file_call, history_of}
 use Rattle.nv_runner.specs.FaithfulRuns.{IsMountOf}
-use Rattle.nv_runner.specs.Histories.{AreAtPlaces, AreHistory, CallsOnFiles, PlacedCall, placed_calls, placed_in_answer}
+use Rattle.nv_runner.specs.Histories.{AreHistory, CallsOnFiles, PlacedCall, placed_calls, placed_in_answer}
 use Rattle.nv_runner.specs.Lists.{MadeCall, calls_made}
 use Rattle.nv_runner.specs.Lives.{IsHistoryOf, RecoversBehind, RunsLeaveLives}
-use Rattle.nv_runner.specs.ShownLives.{RunsLeaveShownLives}
 use Rattle.nv_runner.specs.declared.plan.Plan.{Plan}
 use Rattle.nv_runner.specs.declared.run_error.RunError.{RunError}
 use Rattle.nv_runner.specs.declared.sorted.SortedCalls.{SortedCalls}
@@ -258,13 +257,3 @@ runs_leave_lives basis trace fds plan start ended outcome part_values store_valu
     let sorted = sorted_by (λ (p : PlacedCall). p.place) (placed_calls out.made) in
     let left = left_by basis trace fds plan start ended outcome part_values store_values parts stores faults count tail formed lines is region new out closed sorted.0 sorted.1 (falls_nowhere (λ (p : PlacedCall). p.place) sorted.0 sorted.2) in
     record { history = sorted.0; is = left.is; images = left.images }
-
--- the first of some places
-first_places : (from : ℕ) (first later : List PlacedCall) → AreAtPlaces from (first ++ later) → AreAtPlaces from first
-first_places from [] later at = tt
-first_places from (p ∷ first) later at = (at.0, first_places (from + 1) first later at.1)
-
-pub runs_leave_shown_lives : RunsLeaveShownLives
-runs_leave_shown_lives basis trace fds plan start ended outcome shown part_values store_values parts stores faults count tail formed lines is region new out first closed =
-    let left = left_by basis trace fds plan start ended outcome part_values store_values parts stores faults count tail formed lines is region new out closed (shown ++ first.later) first.all first.by_place in
-    (first_places 0 shown first.later left.are.places, record { later = first.later; is = left.is; images = left.images })

@@ -19,6 +19,7 @@ pub mod Newcomers
 pub mod Refusals
 pub mod TryLaws
 pub mod Told
+pub mod ToldRounds
 pub mod OpenRuns
 pub mod FaithfulRuns
 pub mod KeptCalls

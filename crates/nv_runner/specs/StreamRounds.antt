@@ -13,7 +13,7 @@ use Rattle.nv_runner.specs.declared.sorted.SortedCalls.{SortedCalls}
 use Rattle.nv_runner.specs.declared.stream.StreamError.{StreamError}
 use Rattle.nv_runner.specs.declared.stream.StreamError.TheVariants.{NoMemory, Read, Write}
 use Rattle.nv_runner.specs.Histories.{PlacedCall, placed_calls}
-use Rattle.nv_runner.specs.KeptRounds.{AreKept}
+use Rattle.nv_runner.specs.KeptRounds.{AreKept, AreRoundsOver}
 use Rattle.nv_runner.specs.Lists.{MadeCall, calls_made}
 use Rattle.nv_runner.specs.Reports.{history_lines}
 use Rattle.nv_runner.specs.Rounds.{AreCallsOf, HasRunRound}
@@ -91,6 +91,7 @@ pub record HasRunRead (fds : List Fd) (worker : Option ℕ) (more : Bool) (first
   pub opened : List OpenedCall
   pub placed_are : IsPermutation (placed_calls made) (placed ++ later)
   pub in_turn : StandInTurn (placed ++ later)
+  pub over : AreRoundsOver all.calls made later
   pub parted : ended ≢ Err NoMemory → ArePartedAs made placed refused opened
   pub kept_are : ended ≢ Err NoMemory → AreKept kept placed refused opened
   pub written : HasWritten before now ended (history_lines 0 placed)

@@ -20,7 +20,7 @@ use Rattle.nv_runner.specs.declared.stream.StreamError.{StreamError}
 use Rattle.nv_runner.specs.declared.stream.StreamError.TheVariants.{NoMemory, Read, Write}
 use Rattle.nv_runner.specs.EndedRuns.{HasOutcome}
 use Rattle.nv_runner.specs.Histories.{PlacedCall}
-use Rattle.nv_runner.specs.KeptRounds.{AreFirstPlaced, IsKeptOf}
+use Rattle.nv_runner.specs.KeptRounds.{AreFirstPlaced, AreRoundsOver, IsKeptOf}
 use Rattle.nv_runner.specs.Reports.{history_lines}
 use Rattle.nv_runner.specs.Sorted.{placed_call}
 
@@ -103,6 +103,7 @@ pub record HasStreamed (fds : List Fd) (plan : Plan) (start : PassState) (more :
   pub kept : IsKeptOf calls outcome
   pub shown : List PlacedCall
   pub first_shown : AreFirstPlaced ran.made shown
+  pub over : AreRoundsOver all.calls ran.made first_shown.later
   pub all_shown : IfOk outcome (λ sorted. shown ≡ map placed_call sorted.placed.items)
   pub written : HasWritten before now ended (history_lines 0 shown)
   -- a sink can fail only where there is a line to write

@@ -161,7 +161,8 @@ pub fn runs_leave_lives()
     ensures { RunsLeaveLives }
 {}
 
-/// So they are left also behind the first calls that have a place, by their places, as those whose lines were written before the run ended: the history begins with these, and they are at the places from 0 on.
+/// So they are left also behind the first calls that have a place, by their places, as those whose lines were written before the run ended: the history begins with these, and they are at the places from 0 on. Where the rounds
+/// before the last are over, what is behind them in the history is of the last round, and unless devices failed each call of the others is among them, or was refused with a cause.
 pub fn runs_leave_shown_lives()
     ensures { RunsLeaveShownLives }
 {}

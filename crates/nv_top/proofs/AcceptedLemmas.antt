@@ -3,6 +3,7 @@ use Rattle.std.proofs.Common.{◌≡◌, ◌⊎◌, ℕ, ◌≤◌, Bool, true, 
 use Rattle.std.specs.Global.{Vec}
 use Rattle.std.specs.Prelude.{IfOk, IfSome, IsOk, is_ok, slice_index_or}
 use Rattle.std.proofs.lemmas.Bool.{eqb-true, true≢false}
+use Rattle.nv_plain.specs.Faults.{Rose}
 use Rattle.nv_plain.specs.Files.{Files}
 use Rattle.nv_plain.specs.Images.{Image, header_of}
 use Rattle.nv_plain.specs.Layouts.{mount_layout}
@@ -39,6 +40,7 @@ use Rattle.nv_open.proofs.Stands.{durable_images}
 use Rattle.nv_trace.specs.Traced.{Traced}
 use Rattle.nv_trace.specs.declared.trace.Form.{Form}
 use Rattle.nv_trace.specs.declared.trace.Form.TheVariants as forms
+use Rattle.nv_runner.specs.ToldRounds.{TellsRounds}
 use Rattle.nv_runner.specs.Faithful.{Basis}
 use Rattle.nv_runner.specs.Histories.{PlacedCall}
 use Rattle.nv_runner.specs.Lives.{RecoversBehind}
@@ -48,7 +50,7 @@ use Rattle.nv_top.specs.Commands.{IsBasis, IsLookedAt}
 use Rattle.nv_top.specs.Endings.{OfRead}
 use Rattle.nv_top.specs.Headline.{IsShown, IsShownOf, UsesTurns}
 use Rattle.nv_top.specs.Leaving.{Leaves}
-use Rattle.nv_top.specs.Lives.{LeavesLife, LeavesRecovery, LeavesRun}
+use Rattle.nv_top.specs.Lives.{LeavesLife, LeavesRecovery, LeavesRun, TellsNothing}
 use Rattle.nv_top.specs.Loads.{load_options}
 use Rattle.nv_top.specs.Ready.{IsReady}
 use Rattle.nv_top.specs.Reported.{HasReported}
@@ -210,7 +212,7 @@ module _ (one_so : QuietPartHasOneImage) (power_so : PowerLeavesAnImage) (was : 
         same : {x y : Holding} → Some x ≡ Some y → x ≡ y
         same {x} {y} is = cc
 
-    run_left : (options : RunOptions) (trace : Traced) (shown : List PlacedCall) → LeavesRun options was trace shown told → Accepts here
+    run_left : {Tells : Basis → Traced → (shown later : List PlacedCall) → Type 0} (options : RunOptions) (trace : Traced) (shown : List PlacedCall) → LeavesRun Tells options was trace shown told → Accepts here
     run_left options trace shown run = elim (run.stands stands) [
       | inl none ↦ elim none.1 [
         | inl same ↦ same_told same
@@ -225,12 +227,12 @@ module _ (one_so : QuietPartHasOneImage) (power_so : PowerLeavesAnImage) (was : 
       | inl blank ↦ told_so (IsUntouched was) (leaves.untouched (λ good. true≢false (sym blank ∙ not_blank was.parts good))) (λ now is. same_left now (ap (λ (h : Holding). h.parts) is.now_is))
     ]
 
-    trace_left : (options : RunOptions) (shown : List PlacedCall) (form : Form) (input : Option (List ℕ)) → OfRead form input (λ trace. LeavesRun options was trace shown told) → Accepts here
-    trace_left options shown form input run = of_read form input _ (Accepts here) (λ trace leaves. run_left options trace shown leaves) run
+    trace_left : (Tells : Basis → Traced → (shown later : List PlacedCall) → Type 0) (options : RunOptions) (shown : List PlacedCall) (form : Form) (input : Option (List ℕ)) → OfRead form input (λ trace. LeavesRun Tells options was trace shown told) → Accepts here
+    trace_left Tells options shown form input run = of_read form input _ (Accepts here) (λ trace leaves. run_left options trace shown leaves) run
 
-    rounds_left : (options : RunOptions) (shown : List PlacedCall) (input : Option (List ℕ)) → OfRounds input (λ trace. LeavesRun options was trace shown told) → Accepts here
-    rounds_left options shown None run = trace_left options shown forms.Run None run
-    rounds_left options shown (Some input) run = trace_left options shown forms.Run (Some run.0) run.2
+    rounds_left : (Tells : Basis → Traced → (shown later : List PlacedCall) → Type 0) (options : RunOptions) (shown : List PlacedCall) (input : Option (List ℕ)) → OfRounds input (λ trace. LeavesRun Tells options was trace shown told) → Accepts here
+    rounds_left Tells options shown None run = trace_left Tells options shown forms.Run None run
+    rounds_left Tells options shown (Some input) run = trace_left Tells options shown forms.Run (Some run.0) run.2
 
 some_parts : (one other : Holding) → Some one ≡ Some other → one.parts ≡ other.parts
 some_parts one other is = ap (λ (h : Holding). h.parts) (same is)
@@ -249,16 +251,16 @@ module _ (one_so : QuietPartHasOneImage) (power_so : PowerLeavesAnImage) (given 
   still_was = told_at old.told IsQuietHolding was told_was ready.at_home.quiet
 
   by_command : (command : Command) → HasReported (Some command) given left before now old new shown result → IsAcceptedBehindPower (is_blank was.parts ≡ true) here
-  by_command (Run options) came = elim (told_at old.told (λ was. LeavesLife (Run options) given was shown new.told) was told_was (came.life (Run options) refl)) [
+  by_command (Run options) came = elim (told_at old.told (λ was. LeavesLife (Rose old.faults new.faults) (Run options) given was shown new.told) was told_was (came.life (Run options) refl)) [
     | inl same ↦ same_told one_so power_so was sound still_was here new.told told_here same.1 whole
     | inr run ↦ elim run [
-      | inl all ↦ trace_left one_so power_so was sound still_was here new.told told_here options shown forms.Run given all whole
-      | inr rounds ↦ rounds_left one_so power_so was sound still_was here new.told told_here options shown given rounds whole
+      | inl all ↦ trace_left one_so power_so was sound still_was here new.told told_here (TellsRounds (Rose old.faults new.faults) options.worker) options shown forms.Run given all whole
+      | inr rounds ↦ rounds_left one_so power_so was sound still_was here new.told told_here (TellsRounds (Rose old.faults new.faults) options.worker) options shown given rounds whole
     ]
   ]
-  by_command (Sched options) came = elim (told_at old.told (λ was. LeavesLife (Sched options) given was shown new.told) was told_was (came.life (Sched options) refl)) [
+  by_command (Sched options) came = elim (told_at old.told (λ was. LeavesLife (Rose old.faults new.faults) (Sched options) given was shown new.told) was told_was (came.life (Sched options) refl)) [
     | inl same ↦ same_told one_so power_so was sound still_was here new.told told_here same whole
-    | inr run ↦ trace_left one_so power_so was sound still_was here new.told told_here options [] forms.Sched given run whole
+    | inr run ↦ trace_left one_so power_so was sound still_was here new.told told_here TellsNothing options [] forms.Sched given run whole
   ]
   by_command Recover came = recovered_left one_so power_so was sound still_was here new.told told_here (told_at old.told _ was told_was (came.life Recover refl)) whole
   by_command (Look files) came = same_left one_so power_so was sound still_was here (looked files old new was here (came.back (Look files) refl) told_was told_here) whole

@@ -47,6 +47,14 @@ error_grows before now (open_errors.Refused why) cause = omega (arith, cause)
 error_grows before now open_errors.Fault cause = cause.never_falls
 error_grows before now open_errors.NoMemory cause = omega (arith, cause)
 
+-- a count that rose is no lower later
+pub rose_on : (before now last : ℕ) → now ≤ last → Rose before now → Rose before last
+rose_on before now last grew rose = record { never_falls = omega (arith, grew, rose.never_falls); more = omega (arith, grew, rose.more) }
+
+-- one that rose in a sum that stands still
+pub rose_within : (other before now first last : ℕ) → first ≡ saturated (other + before) → last ≡ saturated (other + now) → Rose before now → Rose first last
+rose_within other before now first last a b rose = record { never_falls = omega (arith, a, b, rose.never_falls); more = omega (arith, a, b, rose.more) }
+
 -- ---- what ends a run
 
 may_end : (first parts mid last : ℕ) (stop : Stop) → first ≤ parts + mid → ((why : Refusal) → stop ≡ Region why → ⊥) → StopHasCause mid last stop → MayEndRun first (parts + last) stop
@@ -77,6 +85,22 @@ pub told_cause : {T : Type 0} (first parts mid last : ℕ) (result : Result T St
     → RunHasCause first (parts + last) result
 told_cause first parts mid last (Ok value) grew never cause = omega (arith, grew, cause)
 told_cause first parts mid last (Err stop) grew never cause = may_end first parts mid last stop grew (λ why is. never why (ap Err is)) cause
+
+run_grows : {T : Type 0} (before now : ℕ) (result : Result T Stop) → RunHasCause before now result → before ≤ now
+run_grows before now (Ok value) cause = cause
+run_grows before now (Err Usage) cause = absurd cause
+run_grows before now (Err (BadLine bad)) cause = absurd cause
+run_grows before now (Err InputLong) cause = absurd cause
+run_grows before now (Err Read) cause = absurd cause
+run_grows before now (Err Write) cause = absurd cause
+run_grows before now (Err Device) cause = cause.never_falls
+run_grows before now (Err (Region why)) cause = absurd cause
+run_grows before now (Err NoMemory) cause = cause
+run_grows before now (Err Turns) cause = absurd cause
+
+-- what a result has as its cause leaves a count, or it rose
+pub cause_grows : {T : Type 0} (before now : ℕ) (result : Result T Stop) → ((why : Refusal) → result ≡ Err (Region why) → ⊥) → CountHasCause before now result → before ≤ now
+cause_grows before now result never cause = (let grew = told_cause before 0 before now result (omega arith) never cause in let more = run_grows before (0 + now) result grew in omega (arith, more))
 
 -- a run that wasn't brought to its end
 pub ended_cause : {T : Type 0} (first now : ℕ) (error : RunError) (stop : Stop) (result : Result T Stop) → result ≡ Err stop → stop ≡ stop_of_run error → first ≤ now → (error ≡ Fault → Rose first now)

@@ -51,7 +51,7 @@ use Rattle.nv_runner.specs.Lives.{RecoversBehind}
 use Rattle.nv_runner.specs.ShownLives.{LeaveLifeBehind}
 use Rattle.nv_load.specs.Generated.{generated}
 use Rattle.nv_top.specs.Loads.{load_options}
-use Rattle.nv_top.specs.Lives.{AreLeftSo, HasLived, LeavesLife, LeavesRun}
+use Rattle.nv_top.specs.Lives.{AreLeftSo, HasLived, LeavesLife, LeavesRun, TellsNothing}
 use Rattle.nv_top.specs.Ready.{IsRunnable}
 use Rattle.nv_words.specs.declared.words.RunOptions.{RunOptions}
 use Rattle.nv_top.proofs.CommandLemmas.{if_told, told_at}
@@ -103,11 +103,11 @@ module _ (basis : Basis) (trace : Traced) where
       let read = (every (record { contents = map (λ (store : Store). store.durable) held }) (durable_images held whole)).names_are in
       every bytes (subst (λ stores. AreStoreImages stores bytes) same (subst (λ names. AreStoreImages (stores_named names all) bytes) read are))
 
-  pub lived_home : {X Y : Type 0} (shown : List PlacedCall) (history : X → lines.PartHistory) (held : Y → stores.StoreHistory)
-      (parts : List X) (backing : List Y) (counts : List ℕ) (told : Option Holding) (home : List NamedStore) (whole : (holding : Holding) → told ≡ Some holding → AreWholeStores holding) → AreLeftSo history held basis trace shown counts parts backing
+  pub lived_home : {X Y : Type 0} {Tells : Basis → Traced → (shown later : List PlacedCall) → Type 0} (shown : List PlacedCall) (history : X → lines.PartHistory) (held : Y → stores.StoreHistory)
+      (parts : List X) (backing : List Y) (counts : List ℕ) (told : Option Holding) (home : List NamedStore) (whole : (holding : Holding) → told ≡ Some holding → AreWholeStores holding) → AreLeftSo Tells history held basis trace shown counts parts backing
       → ((disks : List Store) → AreNow (map held backing) disks → stores_named basis.names (home ++ named_stores basis.names disks) ≡ disks)
       → ((now : List Part) (disks : List Store) → AreNow (map history parts) now → AreNow (map held backing) disks → told ≡ Some (record { parts = now; stores = home ++ named_stores basis.names disks }))
-      → HasLived basis trace shown counts home told
+      → HasLived Tells basis trace shown counts home told
   lived_home shown history held parts backing counts told home whole left same gives =
       let now = present (map history parts) left.parts_tell in
       let disks = present (map held backing) left.stores_tell in
@@ -117,6 +117,7 @@ module _ (basis : Basis) (trace : Traced) where
       record {
         history = shown ++ left.life.later;
         begins = (left.life.later, refl);
+        rounds = left.rounds;
         is = left.life.is;
         images = record {
           now = record { parts = now.states; stores = all };
@@ -134,15 +135,16 @@ module _ (basis : Basis) (trace : Traced) where
 
   -- ---- power
 
-  pub lived_powered : {shown : List PlacedCall} → QuietPartHasOneImage → PowerLeavesAnImage → (pick : Pick) (counts : List ℕ) (stores : List NamedStore) → All (λ (named : NamedStore). IsQuietStore named.store) stores → (home off : Option Holding) → ((holding : Holding) → home ≡ Some holding → AreWholeStores holding) → off ≡ option_map (powered pick) home
-      → HasLived basis trace shown counts stores home → HasLived basis trace shown counts stores off
-  lived_powered {shown} one power pick counts stores still home off whole powers lived =
+  pub lived_powered : {Tells : Basis → Traced → (shown later : List PlacedCall) → Type 0} {shown : List PlacedCall} → QuietPartHasOneImage → PowerLeavesAnImage → (pick : Pick) (counts : List ℕ) (stores : List NamedStore) → All (λ (named : NamedStore). IsQuietStore named.store) stores → (home off : Option Holding) → ((holding : Holding) → home ≡ Some holding → AreWholeStores holding) → off ≡ option_map (powered pick) home
+      → HasLived Tells basis trace shown counts stores home → HasLived Tells basis trace shown counts stores off
+  lived_powered {Tells} {shown} one power pick counts stores still home off whole powers lived =
       let before = lived.images.now in
       let after = powered pick before in
       let both = power pick before (whole before lived.images.told_is) in
       record {
         history = lived.history;
         begins = lived.begins;
+        rounds = lived.rounds;
         is = lived.is;
         images = record {
           now = after;
@@ -166,9 +168,9 @@ module _ (basis : Basis) (trace : Traced) where
 
   -- ---- a recovery
 
-  pub lived_recovered : {shown : List PlacedCall} → QuietPartHasOneImage → (was : Option Holding) (told : Option Holding) → IfSome was IsQuietHolding → (counts : List ℕ) (stores : List NamedStore) (lived : HasLived basis trace shown counts stores was) → (HasHeader lived.images.now.parts → TellsOf (StandsAsBefore lived.images.now) told)
-      → HasLived basis trace shown counts stores told
-  lived_recovered {shown} one was told quiet counts stores lived stands =
+  pub lived_recovered : {Tells : Basis → Traced → (shown later : List PlacedCall) → Type 0} {shown : List PlacedCall} → QuietPartHasOneImage → (was : Option Holding) (told : Option Holding) → IfSome was IsQuietHolding → (counts : List ℕ) (stores : List NamedStore) (lived : HasLived Tells basis trace shown counts stores was) → (HasHeader lived.images.now.parts → TellsOf (StandsAsBefore lived.images.now) told)
+      → HasLived Tells basis trace shown counts stores told
+  lived_recovered {Tells} {shown} one was told quiet counts stores lived stands =
       let before = lived.images.now in
       let still : IsQuietHolding before = subst (λ (one : Option Holding). IfSome one IsQuietHolding) lived.images.told_is quiet in
       let first = row_words before.parts in
@@ -182,6 +184,7 @@ module _ (basis : Basis) (trace : Traced) where
       record {
         history = lived.history;
         begins = lived.begins;
+        rounds = lived.rounds;
         is = lived.is;
         images = record {
           now = after.now;
@@ -212,10 +215,11 @@ module _ (basis : Basis) (trace : Traced) where
 
   -- ---- by what the bench held before the stores were lent
 
-  pub lived_on : {shown : List PlacedCall} → (counts made : List ℕ) (stores : List NamedStore) (told : Option Holding) → counts ≡ made → HasLived basis trace shown counts (without_stores basis.names stores) told → HasLived basis trace shown made stores told
-  lived_on {shown} counts made stores told same lived = record {
+  pub lived_on : {Tells : Basis → Traced → (shown later : List PlacedCall) → Type 0} {shown : List PlacedCall} → (counts made : List ℕ) (stores : List NamedStore) (told : Option Holding) → counts ≡ made → HasLived Tells basis trace shown counts (without_stores basis.names stores) told → HasLived Tells basis trace shown made stores told
+  lived_on {Tells} {shown} counts made stores told same lived = record {
     history = lived.history;
     begins = lived.begins;
+    rounds = lived.rounds;
     is = lived.is;
     images = record {
       now = lived.images.now;
@@ -288,10 +292,11 @@ same_states (history ∷ row) (x ∷ one) [] a b = absurd b
 same_states {S} (history ∷ row) (x ∷ one) (y ∷ other) a b =
     ap (λ (s : S). s ∷ one) (same_first x y a.0.past b.0.past (sym a.0.is ∙ b.0.is)) ∙ ap (λ (rest : List S). y ∷ rest) (same_states row one other a.1 b.1)
 
-pub rest_lives : {X Y : Type 0} (history : X → lines.PartHistory) (held : Y → stores.StoreHistory) (basis : Basis) (trace : Traced) (parts : List X) (backing : List Y) (states : List Part) (disks : List Store) (next : ℕ)
-    → AreNow (map history parts) states → AreNow (map held backing) disks → RowTells (map history parts) (IsAtRest mount_layout basis.sizes.page basis.sizes.entries basis.names next) → AreQuietStores disks → files_of disks ≡ basis.files
-    → AreLeftSo history held basis trace [] (line_counts states) parts backing
-rest_lives history held basis trace parts backing states disks next are disks_are rest quiet files_are = record {
+pub rest_lives : {X Y : Type 0} {Tells : Basis → Traced → (shown later : List PlacedCall) → Type 0} (history : X → lines.PartHistory) (held : Y → stores.StoreHistory) (basis : Basis) (trace : Traced) (parts : List X) (backing : List Y) (states : List Part) (disks : List Store) (next : ℕ)
+    → AreNow (map history parts) states → AreNow (map held backing) disks → RowTells (map history parts) (IsAtRest mount_layout basis.sizes.page basis.sizes.entries basis.names next) → AreQuietStores disks → files_of disks ≡ basis.files → Tells basis trace [] []
+    → AreLeftSo Tells history held basis trace [] (line_counts states) parts backing
+rest_lives history held basis trace parts backing states disks next are disks_are rest quiet files_are tells = record {
+  rounds = tells;
   parts_tell = all_tell (map history parts) states are;
   stores_tell = all_tell (map held backing) disks disks_are;
   lines_are = row_tells_from (map history parts) (λ now. line_counts now ≡ line_counts states) (λ now now_are. ap line_counts (same_states (map history parts) now states now_are are));
@@ -318,13 +323,28 @@ rest_lives history held basis trace parts backing states disks next are disks_ar
 }
 
 -- stores that tell the same
-pub left_same : {X Y : Type 0} (history : X → lines.PartHistory) (held : Y → stores.StoreHistory) (basis : Basis) (trace : Traced) (shown : List PlacedCall) (counts : List ℕ) (parts was : List X) (backing before : List Y) → map history parts ≡ map history was → map held backing ≡ map held before
-    → AreLeftSo history held basis trace shown counts was before → AreLeftSo history held basis trace shown counts parts backing
+pub left_same : {X Y : Type 0} {Tells : Basis → Traced → (shown later : List PlacedCall) → Type 0} (history : X → lines.PartHistory) (held : Y → stores.StoreHistory) (basis : Basis) (trace : Traced) (shown : List PlacedCall) (counts : List ℕ) (parts was : List X) (backing before : List Y) → map history parts ≡ map history was → map held backing ≡ map held before
+    → AreLeftSo Tells history held basis trace shown counts was before → AreLeftSo Tells history held basis trace shown counts parts backing
 left_same history held basis trace shown counts parts was backing before same_parts same_stores left = record {
   parts_tell = subst AllTell (sym same_parts) left.parts_tell;
   stores_tell = subst AllTell (sym same_stores) left.stores_tell;
   lines_are = subst (λ row. RowTells row (λ now. line_counts now ≡ counts)) (sym same_parts) left.lines_are;
-  life = subst (λ row. LeaveLifeBehind basis trace shown row (map held backing)) (sym same_parts) (subst (λ row. LeaveLifeBehind basis trace shown (map history was) row) (sym same_stores) left.life);
+  life = record { later = left.life.later; is = left.life.is; images = subst (Images (map held backing)) (sym same_parts) (subst (λ row. Images row (map history was)) (sym same_stores) left.life.images) };
+  rounds = left.rounds;
+}
+  where
+    Images : List stores.StoreHistory → List lines.PartHistory → Type 0
+    Images store_row part_row = RowTells part_row (InEachRowImage (λ image. RowTells store_row (λ held. (bytes : Files) → AreStoreImages held bytes → RecoversBehind basis trace (shown ++ left.life.later) image bytes)))
+
+-- what was told of the rounds tells this too
+pub left_tells : {X Y : Type 0} {Tells Others : Basis → Traced → (shown later : List PlacedCall) → Type 0} (history : X → lines.PartHistory) (held : Y → stores.StoreHistory) (basis : Basis) (trace : Traced) (shown : List PlacedCall) (counts : List ℕ) (parts : List X) (backing : List Y)
+    → ((later : List PlacedCall) → Tells basis trace shown later → Others basis trace shown later) → AreLeftSo Tells history held basis trace shown counts parts backing → AreLeftSo Others history held basis trace shown counts parts backing
+left_tells history held basis trace shown counts parts backing tells left = record {
+  parts_tell = left.parts_tell;
+  stores_tell = left.stores_tell;
+  lines_are = left.lines_are;
+  life = left.life;
+  rounds = tells left.life.later left.rounds;
 }
 
 -- the lines of parts that come out of a mount, by those that it was opened with
@@ -335,30 +355,25 @@ lines_home parts begun ended was spare same alike keeps =
     (subst (λ (values : List Value). RowTells parts (λ now. line_counts now ≡ mounted_lines (mount_of ended) values)) alike keeps)
 
 -- a run of a bench of which nothing was lent
-pub still_run : (old new : BenchState) (options : RunOptions) (trace : Traced) → QuietPartHasOneImage → new ≡ with_faults new.faults old → IfSome old.told IsQuietHolding → IfSome old.told (λ was. LeavesRun options was trace [] new.told)
-still_run old new options trace one is quiet =
-    if_told old.told (λ was. LeavesRun options was trace [] new.told) (λ was told. record {
+pub still_run : (Tells : Basis → Traced → (shown later : List PlacedCall) → Type 0) (old new : BenchState) (options : RunOptions) (trace : Traced) → QuietPartHasOneImage → new ≡ with_faults new.faults old → IfSome old.told IsQuietHolding → IfSome old.told (λ was. LeavesRun Tells options was trace [] new.told)
+still_run Tells old new options trace one is quiet =
+    if_told old.told (λ was. LeavesRun Tells options was trace [] new.told) (λ was told. record {
       stands = λ stand. inl (refl, inl (ap (λ (bench : BenchState). bench.told) is ∙ told));
       untouched = λ kept bad. (refl, still_untouched old new was is told);
     })
 
 -- ---- by the input
 
--- a run, or a schedule, of the trace that the whole input is
-pub life_from : (options : RunOptions) (left : Option (List ℕ)) (old told : Option Holding) (trace : Traced) → trace.form ≡ forms.Run → IsRunnable trace → IfSome left (λ input. ending_of forms.Run input ≡ Whole trace) → IfSome old (λ was. LeavesRun options was trace [] told)
-    → IfSome old (λ was. LeavesLife (Run options) left was [] told)
-life_from options left old told trace is_form runnable whole leaves =
-    if_told old (λ was. LeavesLife (Run options) left was [] told) (λ was is. inr (inl (of_read forms.Run left trace (λ trace. LeavesRun options was trace [] told) is_form runnable whole (told_at old (λ was. LeavesRun options was trace [] told) was is leaves))))
-
-pub schedule_from : (options : RunOptions) (left : Option (List ℕ)) (old told : Option Holding) (trace : Traced) → trace.form ≡ forms.Sched → IsRunnable trace → IfSome left (λ input. ending_of forms.Sched input ≡ Whole trace) → IfSome old (λ was. LeavesRun options was trace [] told)
-    → IfSome old (λ was. LeavesLife (Sched options) left was [] told)
-schedule_from options left old told trace is_form runnable whole leaves =
-    if_told old (λ was. LeavesLife (Sched options) left was [] told) (λ was is. inr (of_read forms.Sched left trace (λ trace. LeavesRun options was trace [] told) is_form runnable whole (told_at old (λ was. LeavesRun options was trace [] told) was is leaves)))
+-- a schedule of the trace that the whole input is
+pub schedule_from : (failed : Type 0) (options : RunOptions) (left : Option (List ℕ)) (old told : Option Holding) (trace : Traced) → trace.form ≡ forms.Sched → IsRunnable trace → IfSome left (λ input. ending_of forms.Sched input ≡ Whole trace) → IfSome old (λ was. LeavesRun TellsNothing options was trace [] told)
+    → IfSome old (λ was. LeavesLife failed (Sched options) left was [] told)
+schedule_from failed options left old told trace is_form runnable whole leaves =
+    if_told old (λ was. LeavesLife failed (Sched options) left was [] told) (λ was is. inr (of_read forms.Sched left trace (λ trace. LeavesRun TellsNothing options was trace [] told) is_form runnable whole (told_at old (λ was. LeavesRun TellsNothing options was trace [] told) was is leaves)))
 
 -- a command whose bench wasn't opened
-pub life_unread : (command : Command) (left : Option (List ℕ)) (old new : BenchState) → QuietPartHasOneImage → new ≡ with_faults new.faults old → IfSome old.told IsQuietHolding → IfSome old.told (λ was. LeavesLife command left was [] new.told)
-life_unread (Run options) left old new one is quiet = if_told old.told (λ was. LeavesLife (Run options) left was [] new.told) (λ was told. inl (refl, ap (λ (bench : BenchState). bench.told) is ∙ told))
-life_unread (Sched options) left old new one is quiet = if_told old.told (λ was. LeavesLife (Sched options) left was [] new.told) (λ was told. inl (ap (λ (bench : BenchState). bench.told) is ∙ told))
-life_unread Recover left old new one is quiet = if_told old.told (λ was. LeavesLife Recover left was [] new.told) (λ was told. record { stands = λ readable. still_stands old new was is told quiet readable; untouched = λ bad. still_untouched old new was is told })
-life_unread (Look files) left old new one is quiet = if_told old.told (λ was. LeavesLife (Look files) left was [] new.told) (λ was told. tt)
-life_unread (Gen load) left old new one is quiet = still_run old new load_options (generated load) one is quiet
+pub life_unread : (failed : Type 0) (command : Command) (left : Option (List ℕ)) (old new : BenchState) → QuietPartHasOneImage → new ≡ with_faults new.faults old → IfSome old.told IsQuietHolding → IfSome old.told (λ was. LeavesLife failed command left was [] new.told)
+life_unread failed (Run options) left old new one is quiet = if_told old.told (λ was. LeavesLife failed (Run options) left was [] new.told) (λ was told. inl (refl, ap (λ (bench : BenchState). bench.told) is ∙ told))
+life_unread failed (Sched options) left old new one is quiet = if_told old.told (λ was. LeavesLife failed (Sched options) left was [] new.told) (λ was told. inl (ap (λ (bench : BenchState). bench.told) is ∙ told))
+life_unread failed Recover left old new one is quiet = if_told old.told (λ was. LeavesLife failed Recover left was [] new.told) (λ was told. record { stands = λ readable. still_stands old new was is told quiet readable; untouched = λ bad. still_untouched old new was is told })
+life_unread failed (Look files) left old new one is quiet = if_told old.told (λ was. LeavesLife failed (Look files) left was [] new.told) (λ was told. tt)
+life_unread failed (Gen load) left old new one is quiet = still_run TellsNothing old new load_options (generated load) one is quiet

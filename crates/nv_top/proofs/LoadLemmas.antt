@@ -14,7 +14,7 @@ use Rattle.nv_runner.specs.Streams.{HasWritten}
 use Rattle.nv_runner.specs.declared.stream.StreamError.{StreamError}
 use Rattle.nv_runner.specs.declared.stream.StreamError.TheVariants as ends
 use Rattle.nv_top.specs.Headline.{IsRunRefused}
-use Rattle.nv_top.specs.Lives.{LeavesRun}
+use Rattle.nv_top.specs.Lives.{LeavesRun, TellsNothing}
 use Rattle.nv_top.specs.Ran.{IsUnstreamed, answer_of}
 use Rattle.nv_top.specs.RunInputs.{HasRunToEnd}
 use Rattle.nv_top.specs.Stops.{CountHasCause}
@@ -121,7 +121,7 @@ pub record HasLoadRun (load : Load) (given left : Option (List ℕ)) (reads read
   pub cause : CountHasCause old.faults new.faults result
   pub ran : IfOk result (λ text. IfSome old.told (λ holding. HasRunOn (Summary load) load_options holding new.told (generated load) text.items))
   pub refused : (why : Refusal) → result ≡ Err (Region why) → IfSome old.told (λ holding. IsRunRefused load_options holding (generated load).names old new why)
-  pub life : IfSome old.told (λ was. LeavesRun load_options was (generated load) [] new.told)
+  pub life : IfSome old.told (λ was. LeavesRun TellsNothing load_options was (generated load) [] new.told)
   pub unread : (left ≡ given) × (reads_now ≡ reads)
   pub unwritten : Appends before now [] × (writes_now ≡ writes)
 
@@ -135,7 +135,7 @@ load_run load options input given left reads reads_now before now writes writes_
     let none : ran.shown ≡ [] = ran.streamed.may_show in
     let Shows : RunOptions → Traced → List PlacedCall → Type 0 = λ options all shown. IfOk ran.told (λ text. IfSome old.told (λ holding. HasRunOnBehind (Summary load) options holding new.told all shown text.items)) in
     let shows : Shows load_options (generated load) [] = subst (Shows load_options (generated load)) none (subst (λ all. Shows load_options all ran.shown) all (subst (λ options. Shows options ran.all ran.shown) options_are ran.ran)) in
-    let Lives : RunOptions → Traced → List PlacedCall → Type 0 = λ options all shown. IfSome old.told (λ was. LeavesRun options was all shown new.told) in
+    let Lives : RunOptions → Traced → List PlacedCall → Type 0 = λ options all shown. IfSome old.told (λ was. LeavesRun TellsNothing options was all shown new.told) in
     record {
       cause = subst (λ told. CountHasCause old.faults new.faults told) same ran.cause;
       ran = subst (λ told. IfOk told (λ text. IfSome old.told (λ holding. HasRunOn (Summary load) load_options holding new.told (generated load) text.items))) same

@@ -1,7 +1,11 @@
 -- The calls of a run, as what is shown of it needs them, and what it read and wrote meanwhile.
-use Rattle.std.proofs.Common.{◌≡◌, ℕ, Bool, true, false, List, [], ◌++◌, map, Option, Some, None, Result, Ok, Err, inl, refl, sym, ap, subst, ◌∙◌, arith}
+use Rattle.std.proofs.Common.{◌≡◌, ℕ, Bool, true, false, List, [], ◌++◌, map, Option, Some, None, Result, Ok, Err, inl, refl, sym, ap, subst, ◌∙◌, arith, ◌≤◌}
 use Rattle.std.specs.Prelude.{◌≢◌, IfSome, IsOk}
 use Rattle.std.proofs.lemmas.List.{append-nil}
+use Rattle.std.proofs.lemmas.List.Elements.{All-nil}
+use Rattle.std.specs.Prelude.{All}
+use Rattle.nv_runner.specs.Streams.{IsRoundAtHand}
+use Rattle.nv_runner.proofs.histories.HistoryMembers.{of_one}
 use Rattle.nv_plain.specs.Faults.{Rose}
 use Rattle.nv_pmem.specs.Steps.{PartHistory}
 use Rattle.nv_store.specs.Steps.{StoreHistory}
@@ -20,6 +24,8 @@ use Rattle.nv_trace.specs.Traced.{Traced}
 use Rattle.nv_trace.specs.declared.read_error.ReadError.TheVariants as read_errors
 use Rattle.nv_trace.specs.declared.reader.LineReader.{LineReader}
 use Rattle.nv_trace.specs.declared.trace.Descriptor.{Descriptor}
+use Rattle.nv_mount.specs.RisenCounts.{SawStop}
+use Rattle.nv_trace.specs.declared.trace_call.TracedCall.{TracedCall}
 use Rattle.nv_runner.specs.EndedRuns.{IsClosedBy}
 use Rattle.nv_runner.specs.Faithful.{Basis, descriptors_in}
 use Rattle.nv_runner.specs.FaithfulRuns.{IsMountOf, as_fd}
@@ -27,6 +33,7 @@ use Rattle.nv_runner.specs.Histories.{PlacedCall}
 use Rattle.nv_runner.specs.Lists.{MadeCall}
 use Rattle.nv_runner.specs.Lives.{LeaveLife, RunsLeaveLives}
 use Rattle.nv_runner.specs.ShownLives.{LeaveLifeBehind, RunsLeaveShownLives}
+use Rattle.nv_runner.specs.ToldRounds.{TellsRounds}
 use Rattle.nv_load.specs.declared.load.Load.{Load}
 use Rattle.nv_runner.specs.Streams.{HasStreamed, IsAllRead}
 use Rattle.nv_runner.specs.declared.kept.KeptCalls.{KeptCalls}
@@ -42,7 +49,7 @@ use Rattle.std.specs.Global.{Vec}
 use Rattle.nv_bench.specs.Benches.{BenchState}
 use Rattle.nv_open.specs.declared.error.Refusal.{Refusal}
 use Rattle.nv_top.specs.Headline.{IsRunRefused}
-use Rattle.nv_top.specs.Lives.{LeavesRun}
+use Rattle.nv_top.specs.Lives.{LeavesRun, tells_as}
 use Rattle.nv_top.specs.RunInputs.{HasRunToEnd}
 use Rattle.nv_top.specs.Stops.{StopHasCause}
 use Rattle.nv_top.specs.declared.ending.Stop.{Stop}
@@ -70,13 +77,13 @@ abbrev as_outcome : SortedCalls → Result SortedCalls RunError
 as_outcome sorted = Ok sorted
 
 -- of a run that was brought to its end all calls that have a place were shown before it
-pub shown_is : (show : Show) (made : List MadeCall) (outcome : Result SortedCalls RunError) (sorted : SortedCalls) (shown : List PlacedCall) → outcome ≡ Ok sorted → AreShown show made outcome shown → shown ≡ shown_of show sorted
-shown_is shows.Report made (Ok one) sorted shown is are = are.1 ∙ ap (shown_of shows.Report) (same_sorted one sorted is)
+pub shown_is : (show : Show) (calls : List TracedCall) (made : List MadeCall) (outcome : Result SortedCalls RunError) (sorted : SortedCalls) (shown : List PlacedCall) → outcome ≡ Ok sorted → AreShown show calls made outcome shown → shown ≡ shown_of show sorted
+shown_is shows.Report calls made (Ok one) sorted shown is are = are.2 ∙ ap (shown_of shows.Report) (same_sorted one sorted is)
   where
     same_sorted : (one other : SortedCalls) → as_outcome one ≡ as_outcome other → one ≡ other
     same_sorted one other is = cc
-shown_is shows.Report made (Err error) sorted shown is are = cc
-shown_is (shows.Summary load) made outcome sorted shown is are = are
+shown_is shows.Report calls made (Err error) sorted shown is are = cc
+shown_is (shows.Summary load) calls made outcome sorted shown is are = are
 
 pub shown_report_is : (show : Show) (sorted : SortedCalls) → show ≡ shows.Report → shown_of show sorted ≡ shown_of shows.Report sorted
 shown_report_is show sorted is = ap (λ show. shown_of show sorted) is
@@ -183,16 +190,41 @@ unread show input given written reads writes at_hand formed = record {
 pub life_behind : (basis : Basis) (trace : Traced) (parts : List PartHistory) (stores : List StoreHistory) → LeaveLife basis trace parts stores → LeaveLifeBehind basis trace [] parts stores
 life_behind basis trace parts stores life = record { later = life.history; is = life.is; images = life.images }
 
--- Whatever a run came to, a life is left that begins with what was shown of it.
+-- what is told where a pass has seen STOP set is told where devices failed, if they did then
+pub told_failed : {seen failed : Type 0} (worker : Bool) (basis : Basis) (trace : Traced) (shown later : List PlacedCall) → (seen → failed) → TellsRounds seen worker basis trace shown later → TellsRounds failed worker basis trace shown later
+told_failed worker basis trace shown later stops tells = record { late = tells.late; told = λ unfailed. tells.told (λ saw. unfailed (stops saw)) }
+
+pub told_as_failed : {seen failed : Type 0} (show : Show) (worker : Bool) (basis : Basis) (trace : Traced) (shown later : List PlacedCall) → (seen → failed) → tells_as show seen worker basis trace shown later → tells_as show failed worker basis trace shown later
+told_as_failed shows.Report worker basis trace shown later stops tells = told_failed worker basis trace shown later stops tells
+told_as_failed (shows.Summary load) worker basis trace shown later stops tells = tt
+
+-- of one round at hand there is nothing to tell: none is before it
+pub told_at_hand : (failed : Type 0) (worker : Bool) (basis : Basis) (more : Bool) (trace : Traced) (reader : LineReader) → IsRoundAtHand more trace reader → TellsRounds failed worker basis trace [] []
+told_at_hand failed worker basis more trace reader hand = record {
+  late = All-nil (λ (p : PlacedCall). All (λ (call : TracedCall). call.round ≤ p.call.round) trace.calls);
+  told = λ unfailed call earlier.
+      (let less = earlier.1.2 in
+      let here = of_one (λ (c : TracedCall). c.round ≡ hand.round) trace.calls call hand.one earlier.0 in
+      let there = of_one (λ (c : TracedCall). c.round ≡ hand.round) trace.calls earlier.1.0 hand.one earlier.1.1 in
+      absurd (omega (arith, less, here, there)));
+}
+
+pub told_of_first : (show : Show) (failed : Type 0) (worker : Bool) (basis : Basis) (input : Input) → IsRunInput show input → tells_as show failed worker basis (trace_run show input.trace) [] []
+told_of_first shows.Report failed worker basis input hand = told_at_hand failed worker basis input.more input.trace input.reader hand
+told_of_first (shows.Summary load) failed worker basis input hand = tt
+
+-- Whatever a run came to, a life is left that begins with what was shown of it, and what is told of its rounds is so.
 pub life_all : (show : Show) (basis : Basis) (all : Traced) (fds : List Fd) (plan : Plan) (start zero : PassState) (calls : Result RanCalls RunError) (shown : List PlacedCall) (part_values store_values : List Value) (parts : List PartHistory)
-    (stores : List StoreHistory) (faults placed tail : ℕ)
+    (stores : List StoreHistory) (faults placed tail : ℕ) (failed : Type 0)
     → RunsLeaveLives → RunsLeaveShownLives → IsRunnable all → IsMountOf basis all start.view.opened fds → OpensRegion (mount_of start.view.opened) basis.names → start.view ≡ first_view start.view.opened
-    → HasRunCalls show fds plan start calls all shown zero → IsClosedBy zero part_values store_values parts stores faults placed tail → LeaveLifeBehind basis all shown parts stores
-life_all shows.Report basis all fds plan start zero calls shown part_values store_values parts stores faults placed tail lives shown_lives runnable mount region new run by =
-    (shown_lives basis all fds plan start zero run.outcome shown part_values store_values parts stores faults placed tail runnable.well_formed runnable.lines mount region new run.ran run.first.0 by).1
-life_all (shows.Summary load) basis all fds plan start zero calls shown part_values store_values parts stores faults placed tail lives shown_lives runnable mount region new run by =
+    → HasRunCalls show fds plan start calls all shown zero → IsClosedBy zero part_values store_values parts stores faults placed tail → (SawStop zero.view → failed)
+    → (life : LeaveLifeBehind basis all shown parts stores) × tells_as show failed plan.worker basis all shown life.later
+life_all shows.Report basis all fds plan start zero calls shown part_values store_values parts stores faults placed tail failed lives shown_lives runnable mount region new run by stops =
+    let life = shown_lives basis all fds plan start zero run.outcome shown part_values store_values parts stores faults placed tail runnable.well_formed runnable.lines mount region new run.ran run.first.0 by in
+    (life.1, told_failed plan.worker basis all shown life.1.later stops (life.2 (omega (arith, runnable.few)) run.first.1))
+life_all (shows.Summary load) basis all fds plan start zero calls shown part_values store_values parts stores faults placed tail failed lives shown_lives runnable mount region new run by stops =
     let life = lives basis all fds plan start zero run.outcome part_values store_values parts stores faults placed tail runnable.well_formed runnable.lines mount region new run.ran by in
-    subst (λ shown. LeaveLifeBehind basis all shown parts stores) (sym run.first) (life_behind basis all parts stores life)
+    (subst (λ shown. LeaveLifeBehind basis all shown parts stores) (sym run.first) (life_behind basis all parts stores life), tt)
 
 -- ---- the rounds of an input
 
@@ -243,7 +275,7 @@ abbrev as_stop : Stop → Result (Vec ℕ) Stop
 as_stop stop = Err stop
 
 pub unrun : (show : Show) (options : RunOptions) (input : Input) (given written : Option (List ℕ)) (reads writes : ℕ) (old new : BenchState) (all : Traced) (result : Result (Vec ℕ) Stop) (stop : Stop) → IsErrAnd result (λ error. error ≡ stop)
-    → HasStreamedOn show input given given reads reads written written writes writes (Err ends.NoMemory) all [] → IsRunnable all → StopHasCause old.faults new.faults stop → IfSome old.told (λ was. LeavesRun options was all [] new.told)
+    → HasStreamedOn show input given given reads reads written written writes writes (Err ends.NoMemory) all [] → IsRunnable all → StopHasCause old.faults new.faults stop → IfSome old.told (λ was. LeavesRun (tells_as show (Rose old.faults new.faults) options.worker) options was all [] new.told)
     → ((why : Refusal) → stop ≡ Region why → IfSome old.told (λ holding. IsRunRefused options holding all.names old new why))
     → HasRunToEnd show options input given given reads reads written written writes writes old new result
 unrun show options input given written reads writes old new all (Ok text) stop is streamed runnable cause life refused = absurd is

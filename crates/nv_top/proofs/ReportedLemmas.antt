@@ -21,6 +21,7 @@ use Rattle.nv_open.specs.declared.error.OpenError.{OpenError}
 use Rattle.nv_open.specs.declared.error.OpenError.TheVariants as open_errors
 use Rattle.nv_open.specs.declared.error.Refusal.{Refusal}
 use Rattle.nv_open.specs.declared.error.Refusal.TheVariants as refusals
+use Rattle.nv_runner.specs.Faithful.{Basis}
 use Rattle.nv_runner.specs.Histories.{PlacedCall}
 use Rattle.nv_runner.specs.Reports.{history_lines}
 use Rattle.nv_trace.specs.Reading.{Bad, Long, Whole, ending_of}
@@ -189,7 +190,7 @@ module _ (command : Command) (given left : Option (List ℕ)) (before now : ℕ)
       → Takes command given left result → Arms command given old new result → (result ≡ Err Turns → EndsInTurns command given old new)
       → ((why : Refusal) → result ≡ Err (Region why) → IfSome old.told (λ holding. IsCommandRefused command given old new holding why))
       → ((why : Refusal) → result ≡ Err (Region why) → IfSome old.told (λ holding. (new.arms ≡ old.arms) × (shown ≡ [])))
-      → IfSome old.told (λ was. LeavesLife command given was shown new.told)
+      → IfSome old.told (λ was. LeavesLife (Rose old.faults new.faults) command given was shown new.told)
       → IfOk result (λ text. IfSome old.told (λ holding. IsShown command given old new holding (history_lines 0 shown ++ text.items)))
       → HasReported (Some command) given left before now old new shown result
   settled_shown early sound back cause grows takes arms turns refused unarmed life report =
@@ -221,7 +222,7 @@ module _ (command : Command) (given left : Option (List ℕ)) (before now : ℕ)
             (settled_done command given old new (Rose before now) settled new.faults result cause refused);
         counts = settled_counts settled new.faults result cause;
         never_falls = grows;
-        life = for_it (λ command. IfSome old.told (λ was. LeavesLife command given was shown new.told)) life;
+        life = for_it (λ command. IfSome old.told (λ was. LeavesLife (Rose old.faults new.faults) command given was shown new.told)) life;
         stopped = settled_opened settled new.faults result
             (λ stop. ((new ≡ old) × (shown ≡ []) × (IsRun (Some command) → HasNoRounds stop given)) ⊎ ((options : RunOptions) × (Some command ≡ Some (Run options)) × IfSome old.told (HasRunRounds options stop given shown old new))) cause;
         report = shown_for result report;
@@ -238,7 +239,7 @@ module _ (command : Command) (given left : Option (List ℕ)) (faults : ℕ) (ol
       → Takes command given left result → Arms command given old new result → (result ≡ Err Turns → EndsInTurns command given old new)
       → ((why : Refusal) → result ≡ Err (Region why) → IfSome old.told (λ holding. IsCommandRefused command given old new holding why))
       → ((why : Refusal) → result ≡ Err (Region why) → IfSome old.told (λ holding. new.arms ≡ old.arms))
-      → IfSome old.told (λ was. LeavesLife command given was [] new.told)
+      → IfSome old.told (λ was. LeavesLife (Rose old.faults new.faults) command given was [] new.told)
       → IfOk result (λ text. IfSome old.told (λ holding. IsShown command given old new holding text.items))
       → HasReported (Some command) given left faults faults old new [] result
   settled_reported back cause grows takes arms turns refused unarmed life report =
@@ -265,7 +266,7 @@ module _ (over : Option Command) (given left : Option (List ℕ)) (before now : 
       → (stop ≡ Read → Rose before now) → (stop ≢ Read → now ≡ before)
       → ((command : Command) → over ≡ Some command → Takes command given left (Err stop))
       → ((command : Command) → over ≡ Some command → (holding : Holding) → IsUnhindered command given holding (Rose before now) (Rose (expected_faults bench bench) bench.faults) → IsOwnStop stop)
-      → ((command : Command) → over ≡ Some command → IfSome bench.told (λ was. LeavesLife command given was [] bench.told))
+      → ((command : Command) → over ≡ Some command → IfSome bench.told (λ was. LeavesLife (Rose bench.faults bench.faults) command given was [] bench.told))
       → (ComesFromInput stop → IsRun over → HasNoRounds stop given)
       → HasReported over given left before now bench bench [] (Err stop)
   early_reported home early usage none cause fault sound takes own life unrun = record {
@@ -300,7 +301,7 @@ module _ (over : Option Command) (given left : Option (List ℕ)) (before now : 
 
 -- the words are none, or memory is wanting for them
 pub words_reported : (over : Option Command) (given : Option (List ℕ)) (faults : ℕ) (bench : BenchState) (error : WordsError) → IsAtHome bench → (error ≡ words_errors.Usage → over ≡ None)
-    → ((command : Command) → over ≡ Some command → IfSome bench.told (λ was. LeavesLife command given was [] bench.told))
+    → ((command : Command) → over ≡ Some command → IfSome bench.told (λ was. LeavesLife (Rose bench.faults bench.faults) command given was [] bench.told))
     → HasReported over given given faults faults bench bench [] (Err (stop_of_words error))
 words_reported over given faults bench words_errors.Usage home usage life =
     let none = usage refl in
@@ -382,7 +383,7 @@ module _ (command : Command) (given left : Option (List ℕ)) (before now : ℕ)
   pub read_reported : IsAtHome bench → (HasInput command given → (bytes : List ℕ) × (given ≡ Some bytes) × IsTrace (form_of command) bytes)
       → Takes command given left (Err (stop_of_read error))
       → IfSome given (IsRefusedAs (form_of command) error) → (error ≡ read_errors.Failed → Rose before now) → (error ≢ read_errors.Failed → now ≡ before)
-      → IfSome bench.told (λ was. LeavesLife command given was [] bench.told) → (ComesFromInput (stop_of_read error) → IsRun (Some command) → HasNoRounds (stop_of_read error) given)
+      → IfSome bench.told (λ was. LeavesLife (Rose bench.faults bench.faults) command given was [] bench.told) → (ComesFromInput (stop_of_read error) → IsRun (Some command) → HasNoRounds (stop_of_read error) given)
       → HasReported (Some command) given left before now bench bench [] (Err (stop_of_read error))
   read_reported home reads takes refused failed kept life unrun =
       early_reported (Some command) given left before now bench (stop_of_read error) home (early error) (λ is. absurd (not_usage error is)) (λ none. absurd (not_none command none)) (read_cause (form_of command) given error refused)
@@ -390,7 +391,7 @@ module _ (command : Command) (given left : Option (List ℕ)) (before now : ℕ)
       (λ other is. subst (λ command. Takes command given left (Err (stop_of_read error))) (same_some is) takes)
       (λ other is. subst (λ command. (holding : Holding) → IsUnhindered command given holding (Rose before now) (Rose (expected_faults bench bench) bench.faults) → IsOwnStop (stop_of_read error)) (same_some is)
       (λ holding free. read_own (form_of command) given before now error refused failed free.read (reads free.has_input)))
-      (λ other is. subst (λ command. IfSome bench.told (λ was. LeavesLife command given was [] bench.told)) (same_some is) life) unrun
+      (λ other is. subst (λ command. IfSome bench.told (λ was. LeavesLife (Rose bench.faults bench.faults) command given was [] bench.told)) (same_some is) life) unrun
     where
       early : (error : ReadError) → IsEarly (stop_of_read error)
       early (read_errors.Bad bad) = tt
@@ -419,7 +420,7 @@ module _ (command : Command) (given left : Option (List ℕ)) (faults : ℕ) (ol
   pub counted_reported : IsReady old → IsLeftBy command old new → new.settled ≡ old.settled → new.arms ≡ old.arms → CountHasCause old.faults new.faults result
       → Takes command given left result → Arms command given old new result
       → ((why : Refusal) → result ≡ Err (Region why) → IfSome old.told (λ holding. IsCommandRefused command given old new holding why))
-      → IfSome old.told (λ was. LeavesLife command given was [] new.told)
+      → IfSome old.told (λ was. LeavesLife (Rose old.faults new.faults) command given was [] new.told)
       → IfOk result (λ text. IfSome old.told (λ holding. IsShown command given old new holding text.items))
       → HasReported (Some command) given left faults faults old new [] result
   counted_reported ready back settled arms cause takes cuts refused life shown =
@@ -479,11 +480,11 @@ module _ (options : RunOptions) (wanted names : List (List ℕ)) (old new : Benc
       })
 
   -- and the files stand as before
-  pub refused_life : (trace : Traced) → names ≡ trace.names → (sizes : Geometry) → sizes.page ≡ options.page → sizes.entries ≡ options.entries
+  pub refused_life : (Tells : Basis → Traced → (shown later : List PlacedCall) → Type 0) (trace : Traced) → names ≡ trace.names → (sizes : Geometry) → sizes.page ≡ options.page → sizes.entries ≡ options.entries
       → IfSome old.told (λ was. StandForFiles was.parts → TellsOf (StandsUnopened was sizes wanted) new.told)
-      → IfSome old.told (λ was. is_blank was.parts ≡ false → ¬ (IsGood was.parts) → TellsOf (IsUntouched was) new.told) → IfSome old.told (λ was. LeavesRun options was trace [] new.told)
-  refused_life trace are sizes page_is entries_are standing untouched =
-      if_told old.told (λ was. LeavesRun options was trace [] new.told) (λ was told. record {
+      → IfSome old.told (λ was. is_blank was.parts ≡ false → ¬ (IsGood was.parts) → TellsOf (IsUntouched was) new.told) → IfSome old.told (λ was. LeavesRun Tells options was trace [] new.told)
+  refused_life Tells trace are sizes page_is entries_are standing untouched =
+      if_told old.told (λ was. LeavesRun Tells options was trace [] new.told) (λ was told. record {
         untouched = λ kept bad. (refl, told_at old.told (λ was. is_blank was.parts ≡ false → ¬ (IsGood was.parts) → TellsOf (IsUntouched was) new.told) was told untouched kept bad);
         stands = λ stand.
             let left = told_at old.told (λ was. StandForFiles was.parts → TellsOf (StandsUnopened was sizes wanted) new.told) was told standing stand in

@@ -2,6 +2,7 @@
 use Rattle.std.proofs.Common.{◌≡◌, ◌≢◌, ◌⊎◌, ℕ, ◌≤◌, List, [], ◌++◌, Option, Some, None, Result, Ok, Err, inl, inr, refl, sym, ap, subst, ◌∙◌}
 use Rattle.std.specs.Prelude.{Bool, true, false, IfOk, IfSome, IsErr, IsOk, OnOk}
 use Rattle.std.specs.Global.{Vec}
+use Rattle.nv_runner.specs.ToldRounds.{TellsRounds}
 use Rattle.nv_plain.specs.Faults.{Rose}
 use Rattle.nv_bench.specs.Benches.{BenchState}
 use Rattle.nv_bench.specs.Holding.{Holding}
@@ -106,7 +107,7 @@ module _ (options : RunOptions) (given left : Option (List ℕ)) (before now : �
 
   streamed_reported : IsLeftAfter options.stop options.image old new → (stop ≡ Write → shown ≢ []) → IfSome given (IsCauseOf forms.Run stop) → (stop ≡ Read → Rose before now) → (stop ≢ Read → now ≡ before)
       → (stop ≢ Write → new.faults ≤ expected_faults old new) → ((holding : Holding) → IsUnhindered (Run options) given holding (Rose before now) (Rose (expected_faults old new) new.faults) → IsOwnStop stop)
-      → old.faults ≤ new.faults → IfSome old.told (λ was. LeavesLife (Run options) given was shown new.told) → (ComesFromInput stop → IfSome old.told (HasRunRounds options stop given shown old new))
+      → old.faults ≤ new.faults → IfSome old.told (λ was. LeavesLife (Rose old.faults new.faults) (Run options) given was shown new.told) → (ComesFromInput stop → IfSome old.told (HasRunRounds options stop given shown old new))
       → HasReported (Some (Run options)) given left before now old new shown (Err stop)
   streamed_reported back lines cause failed kept low own grows life rounds = record {
     early = inr (options, refl);
@@ -134,7 +135,7 @@ module _ (options : RunOptions) (given left : Option (List ℕ)) (before now : �
         (if_told old.told (λ holding. IsUnhindered (Run options) given holding (Rose before now) (Rose (expected_faults old new) new.faults) → IsOwnStop stop) (λ holding told. own holding));
     counts = tt;
     never_falls = grows;
-    life = λ command is. subst (λ command. IfSome old.told (λ was. LeavesLife command given was shown new.told)) (same_some is) life;
+    life = λ command is. subst (λ command. IfSome old.told (λ was. LeavesLife (Rose old.faults new.faults) command given was shown new.told)) (same_some is) life;
     stopped = λ first. inr (options, refl, rounds first);
     report = tt;
   }
@@ -164,10 +165,10 @@ module _ (options : RunOptions) (input : Input) (given mid left : Option (List �
   read : IfSome given (λ bytes. IsReadAs ran.ended bytes ran.all)
   read = was_all_read input mid ran.ended ran.all given begun ran.streamed.trace.1
 
-  life : IfSome old.told (λ was. LeavesLife (Run options) given was ran.shown new.told)
+  life : IfSome old.told (λ was. LeavesLife (Rose old.faults new.faults) (Run options) given was ran.shown new.told)
   life =
-      if_told old.told (λ was. LeavesLife (Run options) given was ran.shown new.told) (λ was told.
-      inr (read_so_far ran.all (λ trace. LeavesRun options was trace ran.shown new.told) form ran.runnable (told_at old.told (λ was. LeavesRun options was ran.all ran.shown new.told) was told ran.life) given ran.ended read))
+      if_told old.told (λ was. LeavesLife (Rose old.faults new.faults) (Run options) given was ran.shown new.told) (λ was told.
+      inr (read_so_far ran.all (λ trace. LeavesRun (TellsRounds (Rose old.faults new.faults) options.worker) options was trace ran.shown new.told) form ran.runnable (told_at old.told (λ was. LeavesRun (TellsRounds (Rose old.faults new.faults) options.worker) options was ran.all ran.shown new.told) was told ran.life) given ran.ended read))
 
   region_refused : (why : Refusal) → ran.told ≡ Err (Region why) → IfSome old.told (λ holding. IsCommandRefused (Run options) given old new holding why)
   region_refused why is =

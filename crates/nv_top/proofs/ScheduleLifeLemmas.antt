@@ -36,7 +36,7 @@ use Rattle.nv_schedule.specs.Lives.{SchedulesLeaveLives}
 use Rattle.nv_schedule.specs.Scheduled.{HasScheduled}
 use Rattle.nv_schedule.specs.declared.schedule_error.ScheduleError.{ScheduleError}
 use Rattle.nv_schedule.specs.declared.scheduled.ScheduledCalls.{ScheduledCalls}
-use Rattle.nv_top.specs.Lives.{HasLived}
+use Rattle.nv_top.specs.Lives.{HasLived, TellsNothing}
 use Rattle.nv_top.specs.Runs.{BeginsMount}
 use Rattle.nv_top.specs.Stopping.{IsAway}
 use Rattle.nv_top.proofs.RanLemmas.{life_behind}
@@ -50,7 +50,7 @@ pub scheduled_home : {X Y : Type 0} (history : X → lines.PartHistory) (held : 
     → pass.view ≡ first_view mount.board.opened → HasScheduled mount trace.tokens trace.calls batch pass zero start armed outcome → IsClosedBy zero part_values store_values (map history parts) (map held backing) faults placed tail
     → length (map held backing) ≡ mount.board.opened.sizes.files → AreFileNames mount_layout start.lent → IsArmedOnly start armed
     → ((now : List Part) (disks : List Store) → AreNow (map history parts) now → AreNow (map held backing) disks → home ≡ told_back now disks armed) → ((holding : Holding) → home ≡ Some holding → AreWholeStores holding)
-    → (basis : Basis) → BeginsMount basis trace mount pass → basis.names ≡ start.lent → IfSome start.told (λ left. IsAway basis.names left → HasLived basis trace [] (mounted_lines (mount_of mount.board.opened) pass.spare) left.stores home)
+    → (basis : Basis) → BeginsMount basis trace mount pass → basis.names ≡ start.lent → IfSome start.told (λ left. IsAway basis.names left → HasLived TellsNothing basis trace [] (mounted_lines (mount_of mount.board.opened) pass.spare) left.stores home)
 scheduled_home history held trace mount pass zero part_values store_values parts backing faults placed tail batch start armed outcome home lives_so formed rise no_rounds new scheduled closed many allowed armed_is gives whole basis begins named =
     let over : HasClosedOver basis trace mount pass zero part_values store_values (map history parts) (map held backing) faults placed tail = record {
       begins = begins;
@@ -67,8 +67,8 @@ scheduled_home history held trace mount pass zero part_values store_values parts
     let apart = (subst (λ names. AreFileNames mount_layout names) (sym named) allowed).distinct in
     let made = mounted_lines (mount_of mount.board.opened) pass.spare in
     let counted = lines_home (map history parts) mount.board.opened zero.view.opened pass.spare zero.spare (here ∙ sym scheduled.opened) scheduled.spare closed.lines in
-    if_some start.told (λ left. IsAway basis.names left → HasLived basis trace [] made left.stores home) (λ left told_is away.
-    lived_home basis trace [] history held parts backing made home left.stores whole (record { parts_tell = tell.0; stores_tell = tell.1; lines_are = counted; life = life_behind basis trace (map history parts) (map held backing) life })
+    if_some start.told (λ left. IsAway basis.names left → HasLived TellsNothing basis trace [] made left.stores home) (λ left told_is away.
+    lived_home basis trace [] history held parts backing made home left.stores whole (record { parts_tell = tell.0; stores_tell = tell.1; lines_are = counted; life = life_behind basis trace (map history parts) (map held backing) life; rounds = tt })
     (λ disks are. all_behind basis.names left.stores (named_stores basis.names disks) away ∙ own_stores basis.names disks (begins.is_mount.names ∙ sym many ∙ sym (length_now (map held backing) disks are)) apart)
     (λ now disks now_are disks_are. gives now disks now_are disks_are
     ∙ ap (λ (s : BenchState). told_back now disks s) armed_is
@@ -77,7 +77,7 @@ scheduled_home history held trace mount pass zero part_values store_values parts
 
 -- behind the loss of power and a recovery, whatever that came to
 pub scheduled_recovered : (basis : Basis) (trace : Traced) (pick : Pick) (counts : List ℕ) (stores : List NamedStore) → All (λ (named : NamedStore). IsQuietStore named.store) stores → (home off told : Option Holding) → QuietPartHasOneImage → PowerLeavesAnImage → ((holding : Holding) → home ≡ Some holding → AreWholeStores holding)
-    → off ≡ option_map (powered pick) home → IfSome off (λ was. HasHeader was.parts → TellsOf (StandsAsBefore was) told) → HasLived basis trace [] counts stores home → HasLived basis trace [] counts stores told
+    → off ≡ option_map (powered pick) home → IfSome off (λ was. HasHeader was.parts → TellsOf (StandsAsBefore was) told) → HasLived TellsNothing basis trace [] counts stores home → HasLived TellsNothing basis trace [] counts stores told
 scheduled_recovered basis trace pick counts stores still home off told one power whole powers stands lived =
     let off_lived = lived_powered basis trace one power pick counts stores still home off whole powers lived in
     lived_recovered basis trace one off told (subst (λ told. IfSome told IsQuietHolding) (sym powers) (quiet_after pick home power whole)) counts stores off_lived

@@ -43,10 +43,11 @@ use Rattle.nv_runner.specs.Faithful.{Basis}
 use Rattle.nv_runner.specs.FaithfulRuns.{IsMountOf, RunsAreFaithful, RunsAreNumbered}
 use Rattle.nv_runner.specs.Histories.{PlacedCall, ThreadsAreLegal}
 use Rattle.nv_runner.specs.KeptCalls.{OpenCallsAreKeptWhole}
-use Rattle.nv_runner.specs.KeptRounds.{AreFirstPlaced, AreKeptOf, IsKeptOf}
+use Rattle.nv_runner.specs.KeptRounds.{AreFirstPlaced, AreKeptOf, AreRoundsOver, IsKeptOf}
 use Rattle.nv_runner.specs.OpenRuns.{LeftOpenAreKept}
 use Rattle.nv_runner.specs.Reports.{history_lines}
 use Rattle.nv_runner.specs.ShownLives.{RunsLeaveShownLives}
+use Rattle.nv_runner.specs.ToldRounds.{TellsRounds}
 use Rattle.nv_runner.specs.Sorted.{placed_call}
 use Rattle.nv_runner.specs.Told.{DescriptorsSayFiles, RunsAreTold}
 use Rattle.nv_runner.specs.declared.kept.KeptCalls.{KeptCalls}
@@ -71,6 +72,7 @@ use Rattle.nv_top.specs.declared.input.Input.{Input}
 use Rattle.nv_top.specs.declared.show.Show.TheVariants.{Report}
 use Rattle.nv_top.proofs.LifeLemmas.{lines_home, lived_home, lived_powered, lived_recovered}
 use Rattle.nv_top.proofs.PoweredHomes.{part_shown, parts_counted, store_shown}
+use Rattle.nv_top.proofs.RanLemmas.{told_failed}
 use Rattle.nv_top.proofs.StoppingLemmas.{HasClosedOver, HasRunToClose, at_some, closed_over, devices_tell, failed_same, given_home, has_stopped, home_with, if_some, left_behind, none_unless, rose_home}
 use Rattle.nv_top.proofs.UnrefusedLemmas.{never_refused}
 
@@ -112,12 +114,12 @@ all_placed outcome sorted shown is all = subst (λ (outcome : Result SortedCalls
 
 -- whatever it came to, all that was lent came back to a bench that had been armed
 pub stopped_home : {X Y : Type 0} (history : X → lines.PartHistory) (held : Y → stores.StoreHistory) (mount : MountState) (pass zero : PassState) (plan : Plan) (all : Traced) (outcome : Result SortedCalls RunError) (shown : List PlacedCall)
-    (part_values store_values : List Value) (parts : List X) (backing : List Y) (faults placed tail k : ℕ) (start armed : BenchState) (home : Option Holding) → RunsLeaveShownLives → IsRunnable all → pass.view ≡ first_view mount.board.opened
-    → (ran : HasOutcome mount.fds plan all.calls pass outcome zero) → AreFirstPlaced ran.made shown → IsClosedBy zero part_values store_values (map history parts) (map held backing) faults placed tail
+    (part_values store_values : List Value) (parts : List X) (backing : List Y) (faults placed tail k : ℕ) (start armed : BenchState) (home : Option Holding) (last : ℕ) → RunsLeaveShownLives → IsRunnable all → pass.view ≡ first_view mount.board.opened
+    → (ran : HasOutcome mount.fds plan all.calls pass outcome zero) (first : AreFirstPlaced ran.made shown) → AreRoundsOver all.calls ran.made first.later → saturated (start.faults + faults) ≤ last → IsClosedBy zero part_values store_values (map history parts) (map held backing) faults placed tail
     → length (map held backing) ≡ mount.board.opened.sizes.files → AreFileNames mount_layout start.lent → armed ≡ armed_with k start
     → ((now : List Part) (disks : List Store) → AreNow (map history parts) now → AreNow (map held backing) disks → home ≡ told_back now disks armed) → ((holding : Holding) → home ≡ Some holding → AreWholeStores holding)
-    → (basis : Basis) → BeginsMount basis all mount pass → basis.names ≡ start.lent → IfSome start.told (λ left. IsAway basis.names left → HasLived basis all shown (mounted_lines (mount_of mount.board.opened) pass.spare) left.stores home)
-stopped_home history held mount pass zero plan all outcome shown part_values store_values parts backing faults placed tail k start armed home lives_so runnable new ran first closed many allowed armed_is gives whole basis begins named =
+    → (basis : Basis) → BeginsMount basis all mount pass → basis.names ≡ start.lent → IfSome start.told (λ left. IsAway basis.names left → HasLived (TellsRounds (Rose (saturated (start.faults + failed_before pass)) last) plan.worker) basis all shown (mounted_lines (mount_of mount.board.opened) pass.spare) left.stores home)
+stopped_home history held mount pass zero plan all outcome shown part_values store_values parts backing faults placed tail k start armed home last lives_so runnable new ran first rounds no_less closed many allowed armed_is gives whole basis begins named =
     let over : HasClosedOver basis all mount pass zero part_values store_values (map history parts) (map held backing) faults placed tail = record {
       begins = begins;
       new = new;
@@ -127,32 +129,34 @@ stopped_home history held mount pass zero plan all outcome shown part_values sto
     } in
     let here : mount.board.opened ≡ pass.view.opened = sym (ap (λ (v : PassView). v.opened) new) in
     let tell = devices_tell basis all mount pass zero part_values store_values (map history parts) (map held backing) faults placed tail over in
-    let life =
-    (lives_so basis all mount.fds plan pass zero outcome shown part_values store_values (map history parts) (map held backing) faults placed tail runnable.well_formed runnable.lines
-    (subst (λ (o : Opened). IsMountOf basis all o mount.fds) here begins.is_mount) (subst (λ (o : Opened). OpensRegion (mount_of o) basis.names) here begins.region) (new ∙ ap first_view here) ran first closed).1 in
+    let both =
+    lives_so basis all mount.fds plan pass zero outcome shown part_values store_values (map history parts) (map held backing) faults placed tail runnable.well_formed runnable.lines
+    (subst (λ (o : Opened). IsMountOf basis all o mount.fds) here begins.is_mount) (subst (λ (o : Opened). OpensRegion (mount_of o) basis.names) here begins.region) (new ∙ ap first_view here) ran first closed in
+    let failed : Type 0 = Rose (saturated (start.faults + failed_before pass)) last in
+    let stops : SawStop zero.view → failed = λ seen. rose_home start.faults (failed_before pass) faults last no_less (subst (λ count. Rose count faults) (failed_same pass zero ran.run_out.mount ran.run_out.spare) (closed.stopped seen)) in
     let apart = (subst (λ names. AreFileNames mount_layout names) (sym named) allowed).distinct in
     let made = mounted_lines (mount_of mount.board.opened) pass.spare in
     let counted = lines_home (map history parts) mount.board.opened zero.view.opened pass.spare zero.spare (here ∙ sym ran.run_out.mount) ran.run_out.spare closed.lines in
-    if_some start.told (λ left. IsAway basis.names left → HasLived basis all shown made left.stores home) (λ left told_is away.
-    lived_home basis all shown history held parts backing made home left.stores whole (record { parts_tell = tell.0; stores_tell = tell.1; lines_are = counted; life = life })
+    if_some start.told (λ left. IsAway basis.names left → HasLived (TellsRounds failed plan.worker) basis all shown made left.stores home) (λ left told_is away.
+    lived_home basis all shown history held parts backing made home left.stores whole (record { parts_tell = tell.0; stores_tell = tell.1; lines_are = counted; life = both.1; rounds = told_failed plan.worker basis all shown both.1.later stops (both.2 (omega (arith, runnable.few)) rounds) })
     (λ disks are. all_behind basis.names left.stores (named_stores basis.names disks) away ∙ own_stores basis.names disks (begins.is_mount.names ∙ sym many ∙ sym (length_now (map held backing) disks are)) apart)
     (λ now disks now_are disks_are. given_home k start armed home left (map history parts) (map held backing) gives armed_is told_is now disks now_are disks_are ∙ ap (λ names. Some (home_with left names now disks)) (sym named)))
 
 -- power went off
-pub stopped_off : (basis : Basis) (all : Traced) (shown : List PlacedCall) (pick : Pick) (counts : List ℕ) (start home off : Option Holding) → QuietPartHasOneImage → PowerLeavesAnImage → IfSome start IsQuietHolding
+pub stopped_off : (Tells : Basis → Traced → (shown later : List PlacedCall) → Type 0) (basis : Basis) (all : Traced) (shown : List PlacedCall) (pick : Pick) (counts : List ℕ) (start home off : Option Holding) → QuietPartHasOneImage → PowerLeavesAnImage → IfSome start IsQuietHolding
     → ((holding : Holding) → home ≡ Some holding → AreWholeStores holding) → off ≡ option_map (powered pick) home
-    → IfSome start (λ left. IsAway basis.names left → HasLived basis all shown counts left.stores home) → IfSome start (λ left. IsAway basis.names left → HasLived basis all shown counts left.stores off)
-stopped_off basis all shown pick counts start home off one power quiet whole powers lived =
-    if_some start (λ left. IsAway basis.names left → HasLived basis all shown counts left.stores off) (λ left told away.
+    → IfSome start (λ left. IsAway basis.names left → HasLived Tells basis all shown counts left.stores home) → IfSome start (λ left. IsAway basis.names left → HasLived Tells basis all shown counts left.stores off)
+stopped_off Tells basis all shown pick counts start home off one power quiet whole powers lived =
+    if_some start (λ left. IsAway basis.names left → HasLived Tells basis all shown counts left.stores off) (λ left told away.
     lived_powered basis all one power pick counts left.stores (at_some start IsQuietHolding left told quiet).stores home off whole powers
-    (at_some start (λ left. IsAway basis.names left → HasLived basis all shown counts left.stores home) left told lived away))
+    (at_some start (λ left. IsAway basis.names left → HasLived Tells basis all shown counts left.stores home) left told lived away))
 
 -- and then a recovery was made, whatever that came to
-pub stopped_recovered : (basis : Basis) (all : Traced) (shown : List PlacedCall) (counts : List ℕ) (start off last : Option Holding) → QuietPartHasOneImage → IfSome off IsQuietHolding → IfSome off (λ was. HasHeader was.parts → TellsOf (StandsAsBefore was) last)
-    → IfSome start (λ left. IsAway basis.names left → HasLived basis all shown counts left.stores off) → IfSome start (λ left. IsAway basis.names left → HasLived basis all shown counts left.stores last)
-stopped_recovered basis all shown counts start off last one quiet stands lived =
-    if_some start (λ left. IsAway basis.names left → HasLived basis all shown counts left.stores last) (λ left told away.
-    let life = at_some start (λ left. IsAway basis.names left → HasLived basis all shown counts left.stores off) left told lived away in
+pub stopped_recovered : (Tells : Basis → Traced → (shown later : List PlacedCall) → Type 0) (basis : Basis) (all : Traced) (shown : List PlacedCall) (counts : List ℕ) (start off last : Option Holding) → QuietPartHasOneImage → IfSome off IsQuietHolding → IfSome off (λ was. HasHeader was.parts → TellsOf (StandsAsBefore was) last)
+    → IfSome start (λ left. IsAway basis.names left → HasLived Tells basis all shown counts left.stores off) → IfSome start (λ left. IsAway basis.names left → HasLived Tells basis all shown counts left.stores last)
+stopped_recovered Tells basis all shown counts start off last one quiet stands lived =
+    if_some start (λ left. IsAway basis.names left → HasLived Tells basis all shown counts left.stores last) (λ left told away.
+    let life = at_some start (λ left. IsAway basis.names left → HasLived Tells basis all shown counts left.stores off) left told lived away in
     lived_recovered basis all one off last quiet counts left.stores life (at_some off (λ was. HasHeader was.parts → TellsOf (StandsAsBefore was) last) life.images.now life.images.told_is stands))
 
 -- ---- what is told of it
@@ -175,7 +179,7 @@ as_error (Err error) stop is = ap as_told is
 pub given_up : {IsBegun : Basis → List ℕ → Traced → Type 0} {worker : Bool} {pick : Pick} {failed : ℕ} {many : ℕ} {input : Input} {given left : Option (List ℕ)} {reads reads_now : ℕ} {before now : Option (List ℕ)} {writes writes_now : ℕ}
     {old new : BenchState} {result : Result (Vec ℕ) Stop} (ended : Result (Unit {0}) StreamError) (all : Traced) (shown : List PlacedCall)
     → HasStreamedOn Report input given left reads reads_now before now writes writes_now ended all shown → IsRunnable all → result ≡ answer_of ended (Err NoMemory) → new.faults ≤ new.settled → new.arms ≡ old.arms + 1
-    → ((basis : Basis) (counts : List ℕ) → IsBegun basis counts all → IfSome old.told (λ home. IsAway basis.names home → HasLived basis all shown counts home.stores new.told))
+    → ((basis : Basis) (counts : List ℕ) → IsBegun basis counts all → IfSome old.told (λ home. IsAway basis.names home → HasLived (TellsRounds (Rose failed new.faults) worker) basis all shown counts home.stores new.told))
     → HasStoppedInput IsBegun worker pick failed many input given left reads reads_now before now writes writes_now old new result
 given_up ended all shown streamed runnable answered low armed life = record {
   ended = ended;

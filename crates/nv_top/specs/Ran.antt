@@ -12,9 +12,10 @@ use Rattle.nv_trace.specs.declared.read_error.ReadError.{ReadError}
 use Rattle.nv_trace.specs.declared.read_error.ReadError.TheVariants as read_errors
 use Rattle.nv_trace.specs.declared.reader.LineReader.{LineReader}
 use Rattle.nv_trace.specs.declared.trace.Form.TheVariants as forms
+use Rattle.nv_trace.specs.declared.trace_call.TracedCall.{TracedCall}
 use Rattle.nv_runner.specs.EndedRuns.{HasOutcome}
 use Rattle.nv_runner.specs.Histories.{PlacedCall}
-use Rattle.nv_runner.specs.KeptRounds.{AreFirstPlaced, AreKeptOf}
+use Rattle.nv_runner.specs.KeptRounds.{AreFirstPlaced, AreKeptOf, AreRoundsOver}
 use Rattle.nv_runner.specs.Lists.{MadeCall}
 use Rattle.nv_runner.specs.Reports.{history_lines}
 use Rattle.nv_runner.specs.Sorted.{placed_call}
@@ -76,10 +77,10 @@ abbrev pub shown_of : Show → SortedCalls → List PlacedCall
 shown_of Report sorted = map placed_call sorted.placed.items
 shown_of (Summary load) sorted = []
 
--- These are: first ones by their places, and all of them, where the run was brought to its end.
-abbrev pub AreShown : Show → (made : List MadeCall) → Result SortedCalls RunError → (shown : List PlacedCall) → Type 0
-AreShown Report made outcome shown = AreFirstPlaced made shown × IfOk outcome (λ sorted. shown ≡ shown_of Report sorted)
-AreShown (Summary load) made outcome shown = shown ≡ []
+-- These are, of the calls of a trace that were made: first ones by their places, all but some of the last round, and all of them, where the run was brought to its end.
+abbrev pub AreShown : Show → (calls : List TracedCall) (made : List MadeCall) → Result SortedCalls RunError → (shown : List PlacedCall) → Type 0
+AreShown Report calls made outcome shown = (first : AreFirstPlaced made shown) × AreRoundsOver calls made first.later × IfOk outcome (λ sorted. shown ≡ shown_of Report sorted)
+AreShown (Summary load) calls made outcome shown = shown ≡ []
 
 -- ---- what is read and written meanwhile
 
@@ -119,7 +120,7 @@ pub record HasRunCalls (show : Show) (fds : List Fd) (plan : Plan) (start : Pass
   pub outcome : Result SortedCalls RunError
   pub ran : HasOutcome fds plan all.calls start outcome zero
   pub told : IsToldAs show calls outcome
-  pub first : AreShown show ran.made outcome shown
+  pub first : AreShown show all.calls ran.made outcome shown
 
 -- ---- how it ends
 

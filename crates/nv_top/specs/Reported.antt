@@ -58,8 +58,8 @@ pub record HasReported (over : Option Command) (given left : Option (List ℕ)) 
   -- Whatever it comes to, the count of the bench's faults is no lower than it was.
   pub never_falls : old.faults ≤ new.faults
   -- Whatever it comes to, a bench that stood for files stands for them still, or for those after a legal history of calls of the trace, which begins with those that were shown, and some other calls, each whole, in whatever state power
-  -- leaves it. It has as many parts as before, or as were made of a blank region, and its other stores are as they were; and a region that is refused for its bytes is as it was.
-  pub life : (command : Command) → over ≡ Some command → IfSome old.told (λ was. LeavesLife command given was shown new.told)
+  -- leaves it. What is in that history of a run and wasn't shown is of the last round that was read, and unless devices failed each call of the earlier ones was shown, or refused with a cause. It has as many parts as before, or as were made of a blank region, and its other stores are as they were; and a region that is refused for its bytes is as it was.
+  pub life : (command : Command) → over ≡ Some command → IfSome old.told (λ was. LeavesLife (Rose old.faults new.faults) command given was shown new.told)
   -- Where the words or the input stopped it the bench is as it was, and nothing was shown: a run's input has no round that could be run then, unless the source failed. Or a run was one of first rounds, as many as could be run, all of whose
   -- placed calls were shown.
   pub stopped : IfErr result (λ stop. ComesFromInput stop

@@ -13,7 +13,8 @@ use Rattle.nv_runner.specs.declared.stream.StreamError.{StreamError}
 use Rattle.nv_runner.specs.declared.stream.StreamError.TheVariants as ends
 use Rattle.nv_top.specs.Commands.{HasRunOnBehind}
 use Rattle.nv_top.specs.Headline.{IsLeftAfter, IsRunRefused, IsShownOf, expected_faults, history_of_shown}
-use Rattle.nv_top.specs.Lives.{HasLived, LeavesRun}
+use Rattle.nv_runner.specs.ToldRounds.{TellsRounds}
+use Rattle.nv_top.specs.Lives.{HasLived, LeavesRun, tells_as}
 use Rattle.nv_top.specs.Ran.{HasStreamedOn, answer_of}
 use Rattle.nv_top.specs.Ready.{IsRunnable}
 use Rattle.nv_top.specs.Stopped.{HasStoppedBehind}
@@ -39,7 +40,7 @@ pub record HasRunToEnd (show : Show) (options : RunOptions) (input : Input) (giv
   pub memory : ended ≡ Err ends.NoMemory → IsErr told
   pub runnable : IsRunnable all
   pub cause : CountHasCause old.faults new.faults told
-  pub life : IfSome old.told (λ was. LeavesRun options was all shown new.told)
+  pub life : IfSome old.told (λ was. LeavesRun (tells_as show (Rose old.faults new.faults) options.worker) options was all shown new.told)
   pub ran : IfOk told (λ text. IfSome old.told (λ holding. HasRunOnBehind show options holding new.told all shown text.items))
   pub refused : (why : Refusal) → told ≡ Err (Region why) → IfSome old.told (λ holding. IsRunRefused options holding all.names old new why)
   pub unbegun : (why : Refusal) → told ≡ Err (Region why) → (shown ≡ []) × (ended ≡ Err ends.NoMemory)
@@ -60,7 +61,7 @@ pub record HasStoppedInput (IsBegun : Basis → (counts : List ℕ) → Traced �
   pub settled : new.arms ≡ old.arms + 1 → IsSettledStop new.settled new.faults told
   pub cause : new.arms ≡ old.arms → CountHasCause failed new.faults told
   pub never : (why : Refusal) → told ≡ Err (Region why) → (basis : Basis) (counts : List ℕ) → IsBegun basis counts all → old.told ≡ None
-  pub life : (basis : Basis) (counts : List ℕ) → IsBegun basis counts all → IfSome old.told (λ home. IsAway basis.names home → HasLived basis all shown counts home.stores new.told)
+  pub life : (basis : Basis) (counts : List ℕ) → IsBegun basis counts all → IfSome old.told (λ home. IsAway basis.names home → HasLived (TellsRounds (Rose failed new.faults) worker) basis all shown counts home.stores new.told)
   pub ran : IfOk told (λ text. (basis : Basis) (counts : List ℕ) → IsBegun basis counts all → IfSome old.told (λ home. IsAway basis.names home → HasStoppedBehind (Rose failed new.faults) worker pick old.picked basis all shown many home.stores new text.items))
 
 -- A run over a bench, which may be stopped.
@@ -77,7 +78,7 @@ pub record HasRunInput (stop : Option ℕ) (options : RunOptions) (input : Input
   pub cause : IsSettledStop (expected_faults old new) new.faults told
   pub turns : told ≢ Err Turns
   pub never_falls : old.faults ≤ new.faults
-  pub life : IfSome old.told (λ was. LeavesRun options was all shown new.told)
+  pub life : IfSome old.told (λ was. LeavesRun (TellsRounds (Rose old.faults new.faults) options.worker) options was all shown new.told)
   pub ran : IfOk told (λ text. IfSome old.told (λ holding.
       (run : IsShownOf stop options old new holding all (history_lines 0 shown ++ text.items)) × (history_of_shown stop options old new holding all (history_lines 0 shown ++ text.items) run ≡ shown)))
   pub refused : (why : Refusal) → told ≡ Err (Region why) → IfSome old.told (λ holding. IsRunRefused options holding all.names old new why)

@@ -4,7 +4,7 @@ ghost use Rattle.nv_load.specs.Generated.{IsLoad, generated};
 ghost use Rattle.nv_trace.specs.Streams.{Appends};
 ghost use Rattle.nv_top.specs.Commands.{IsGivenBack};
 ghost use Rattle.nv_top.specs.Headline.{IsRunRefused};
-ghost use Rattle.nv_top.specs.Lives.{LeavesRun};
+ghost use Rattle.nv_top.specs.Lives.{LeavesRun, TellsNothing};
 ghost use Rattle.nv_top.specs.Loads.{HasGenerated, load_options};
 ghost use Rattle.nv_top.specs.Ready.{IsAtHome};
 ghost use Rattle.nv_top.specs.Stops.{CountHasCause};
@@ -40,7 +40,7 @@ pub(crate) fn run_load<R: Threads + Wait + Sync, T: Bench, G: Gate + Sync, I: So
     ensures ran { IfOk result (λ text. IfSome (T.state bench.old).told (λ holding. HasGenerated load holding (T.state bench.new).told text.items)) }
     ensures refused { (why : _) → result ≡ Err (stops.Region why)
         → IfSome (T.state bench.old).told (λ holding. IsRunRefused load_options holding (generated load).names (T.state bench.old) (T.state bench.new) why) }
-    ensures life { IfSome (T.state bench.old).told (λ was. LeavesRun load_options was (generated load) [] (T.state bench.new).told) }
+    ensures life { IfSome (T.state bench.old).told (λ was. LeavesRun TellsNothing load_options was (generated load) [] (T.state bench.new).told) }
     ensures cause { CountHasCause (T.state bench.old).faults (T.state bench.new).faults result }
     ensures unread { (I.left src.new ≡ I.left src.old) × (I.fault_count src.new ≡ I.fault_count src.old) }
     ensures unwritten { Appends (O.written out.old) (O.written out.new) [] × (O.fault_count out.new ≡ O.fault_count out.old) }

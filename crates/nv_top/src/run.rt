@@ -22,7 +22,8 @@ ghost use Rattle.nv_trace.specs.Said.{said_place};
 ghost use Rattle.nv_trace.specs.Shape.{IsWellFormed};
 ghost use Rattle.nv_trace.specs.Traced.{Traced};
 ghost use Rattle.nv_top.specs.Commands.{IsGivenBack};
-ghost use Rattle.nv_top.specs.Lives.{AreLeftSo};
+ghost use Rattle.nv_top.specs.Lives.{AreLeftSo, tells_as};
+ghost use Rattle.nv_plain.specs.Faults.{Rose};
 ghost use Rattle.nv_top.specs.Outcomes.{shown_report};
 ghost use Rattle.nv_top.specs.Ran.{AreOf, HasStreamedOn, IsRunInput, shown_of};
 ghost use Rattle.nv_top.specs.Ready.{IsAtHome};
@@ -154,7 +155,8 @@ fn run_region<
         × HasStreamedOn show input.old (I.left src.old) (I.left src.new) (I.fault_count src.old) (I.fault_count src.new)
         (O.written out.old) (O.written out.new) (O.fault_count out.old) (O.fault_count out.new) result.ended all shown
         × ((parts : List Part) (now : List Store) → AreNow (map L.history region.parts.items) parts → AreNow (map B.history stores.items) now
-        → AreLeftSo L.history B.history (basis_over region options.pages (files_of now)) all shown (line_counts parts) result.parts.items result.stores.items)
+        → AreLeftSo (tells_as show (Rose (sum_by L.fault_count region.parts.items + sum_by B.fault_count stores.items) (sum_by L.fault_count result.parts.items + sum_by B.fault_count result.stores.items)) options.worker)
+        L.history B.history (basis_over region options.pages (files_of now)) all shown (line_counts parts) result.parts.items result.stores.items)
         × IfOk result.report (λ text. (parts : List Part) (now : List Store) → AreNow (map L.history region.parts.items) parts → AreNow (map B.history stores.items) now
         → HasRunBehind L.history B.history show options.worker (basis_over region options.pages (files_of now)) all shown text.items result.parts.items result.stores.items) }
     ensures memory { result.ended ≡ Err ends.NoMemory → IsErr result.report }
@@ -227,7 +229,8 @@ fn run_mount<
     ensures ran { (all : Traced) × (shown : List PlacedCall)
         × HasStreamedOn show input.old (I.left src.old) (I.left src.new) (I.fault_count src.old) (I.fault_count src.new)
         (O.written out.old) (O.written out.new) (O.fault_count out.old) (O.fault_count out.new) result.ended all shown
-        × ((basis : Basis) → BeginsMount basis all mount pass → AreLeftSo L.history B.history basis all shown
+        × ((basis : Basis) → BeginsMount basis all mount pass
+        → AreLeftSo (tells_as show (Rose (failed_before pass) (sum_by L.fault_count result.parts.items + sum_by B.fault_count result.stores.items)) plan.worker) L.history B.history basis all shown
         (mounted_lines (mount_of mount.board.opened) pass.spare) result.parts.items result.stores.items)
         × IfOk result.report (λ text. (basis : Basis) → BeginsMount basis all mount pass → basis.names ≡ names.now → All IsQuietSpare pass.spare
         → HasRunBehind L.history B.history show plan.worker basis all shown text.items result.parts.items result.stores.items) }

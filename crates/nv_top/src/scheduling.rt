@@ -23,7 +23,7 @@ ghost use Rattle.nv_schedule.specs.declared.schedule_error.ScheduleError.TheVari
 ghost use Rattle.nv_schedule.specs.declared.scheduled.ScheduledCalls.{ScheduledCalls as AnyCalls};
 ghost use Rattle.nv_top.specs.Commands.{HasRecovered, IsGivenBack};
 ghost use Rattle.nv_top.specs.Headline.{HasFollowed, expected_faults, HasUsedTurnsOn, IsRunRefused};
-ghost use Rattle.nv_top.specs.Lives.{HasLived, LeavesRun};
+ghost use Rattle.nv_top.specs.Lives.{HasLived, LeavesRun, TellsNothing};
 ghost use Rattle.nv_top.specs.Runs.{BeginsMount, HasCache, basis_over};
 ghost use Rattle.nv_top.specs.Scheduling.{HasScheduledOn, HasUsedTurns, IsArmedAt, IsArmedAtSome, ShowsOutcome};
 ghost use Rattle.nv_top.specs.Stopping.{IsAllBack, IsAway, IsPickedOnce, IsSettledStop, ShowsRecovered};
@@ -77,7 +77,7 @@ pub(crate) fn schedule<T: Bench>(
     ensures turns { result ≡ Err stops.Turns → (T.state bench.new).picked ≡ options.image ∷ (T.state bench.old).picked }
     ensures used { result ≡ Err stops.Turns → IfSome (T.state bench.old).told (λ holding. HasUsedTurnsOn options (T.state bench.old) (T.state bench.new) holding trace.now) }
     ensures never_falls { (T.state bench.old).faults ≤ (T.state bench.new).faults }
-    ensures life { IfSome (T.state bench.old).told (λ was. LeavesRun options was trace.now [] (T.state bench.new).told) }
+    ensures life { IfSome (T.state bench.old).told (λ was. LeavesRun TellsNothing options was trace.now [] (T.state bench.new).told) }
     ensures followed { IfOk result (λ text. IfSome (T.state bench.old).told (λ holding.
         HasFollowed (Rose (T.state bench.old).faults (T.state bench.new).faults) options (T.state bench.old).picked holding (T.state bench.new) trace.now text.items)) }
     ensures refused { (why : _) → result ≡ Err (stops.Region why) → IfSome (T.state bench.old).told (λ holding. IsRunRefused options holding trace.now.names (T.state bench.old) (T.state bench.new) why
@@ -129,7 +129,7 @@ fn schedule_region<T: Bench>(
         → (T.state bench.old).told ≡ None }
     ensures turns { result ≡ Err stops.Turns → (T.state bench.new).picked ≡ options.image ∷ (T.state bench.old).picked }
     ensures life { (parts : List Part) (now : List Store) → AreNow (map T.Part.history opened.region.parts.items) parts → AreNow (map T.Store.history opened.stores.items) now
-        → IfSome (T.state bench.old).told (λ home. IsAway opened.region.names home → HasLived (basis_over opened.region options.pages (files_of now)) trace.now [] (line_counts parts) home.stores (T.state bench.new).told) }
+        → IfSome (T.state bench.old).told (λ home. IsAway opened.region.names home → HasLived TellsNothing (basis_over opened.region options.pages (files_of now)) trace.now [] (line_counts parts) home.stores (T.state bench.new).told) }
     ensures used { result ≡ Err stops.Turns → (parts : List Part) (now : List Store)
         → AreNow (map T.Part.history opened.region.parts.items) parts → AreNow (map T.Store.history opened.stores.items) now
         → IfSome (T.state bench.old).told (λ home. IsAway opened.region.names home
@@ -194,7 +194,7 @@ fn schedule_mount<T: Bench>(
         → basis.names ≡ (T.state bench.old).lent → (T.state bench.old).told ≡ None }
     ensures turns { result ≡ Err stops.Turns → (T.state bench.new).picked ≡ options.image ∷ (T.state bench.old).picked }
     ensures life { (basis : Basis) → BeginsMount basis trace.now mount pass → basis.names ≡ (T.state bench.old).lent
-        → IfSome (T.state bench.old).told (λ home. IsAway basis.names home → HasLived basis trace.now [] (mounted_lines (mount_of mount.board.opened) pass.spare) home.stores (T.state bench.new).told) }
+        → IfSome (T.state bench.old).told (λ home. IsAway basis.names home → HasLived TellsNothing basis trace.now [] (mounted_lines (mount_of mount.board.opened) pass.spare) home.stores (T.state bench.new).told) }
     ensures used { result ≡ Err stops.Turns → (basis : Basis) → BeginsMount basis trace.now mount pass → basis.names ≡ (T.state bench.old).lent
         → IfSome (T.state bench.old).told (λ home. IsAway basis.names home
         → HasUsedTurns (Rose (saturated ((T.state bench.old).faults + failed_before pass)) (T.state bench.new).faults)

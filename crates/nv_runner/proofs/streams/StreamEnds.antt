@@ -3,7 +3,9 @@ use Rattle.std.proofs.Common.{◌≡◌, ◌≢◌, ℕ, suc, ◌+◌, ◌<◌, 
 use Rattle.std.specs.Prelude.{All, IsPermutation, Option, Some, None, IfSome, Result, Ok, Err}
 use Rattle.std.proofs.lemmas.Bool.{false≢true}
 use Rattle.std.proofs.lemmas.List.{length-map, map-append}
-use Rattle.std.proofs.lemmas.List.Sorted.{IsPermutation-append, IsPermutation-append_comm, IsPermutation-trans, length_permutation}
+use Rattle.std.proofs.lemmas.List.Elements.{All-nil}
+use Rattle.std.proofs.lemmas.List.Sorted.{IsPermutation-append, IsPermutation-append_comm, IsPermutation-sym, IsPermutation-trans, length_permutation}
+use Rattle.nv_core.specs.state.Passes.{IsOneOf}
 use Rattle.nv_table.specs.state.States.{PassState}
 use Rattle.nv_mount.specs.declared.fds.Fd.{Fd}
 use Rattle.nv_trace.specs.NextRound.{IsRoundRefused, ahead}
@@ -20,16 +22,16 @@ use Rattle.nv_runner.specs.declared.kept.KeptCalls.{KeptCalls}
 use Rattle.nv_runner.specs.declared.sorted.SortedCalls.{SortedCalls}
 use Rattle.nv_runner.specs.declared.stream.StreamError.{StreamError}
 use Rattle.nv_runner.specs.declared.stream.StreamError.TheVariants.{NoMemory, Read, Write}
-use Rattle.nv_runner.specs.Histories.{PlacedCall, placed_calls}
-use Rattle.nv_runner.specs.KeptRounds.{AreKept}
+use Rattle.nv_runner.specs.Histories.{PlacedCall, placed_calls, placed_in_answer}
+use Rattle.nv_runner.specs.KeptRounds.{AreKept, AreRoundsOver}
 use Rattle.nv_runner.specs.Lists.{MadeCall, calls_made}
 use Rattle.nv_runner.specs.Reports.{history_lines}
 use Rattle.nv_runner.specs.Rounds.{AreCallsOf, HasRunRound}
 use Rattle.nv_runner.specs.Sorted.{AreSortedOut, OpenedCall, RefusedCall, opened_call, placed_call, refused_call}
 use Rattle.nv_runner.specs.StreamRounds.{ArePartedAs, HasKeptRound, HasRunRead, HasRunSorted, HasRunWritten, StandInTurn}
 use Rattle.nv_runner.specs.Streams.{HasWritten, IsAllRead, stream_error}
-use Rattle.nv_runner.proofs.histories.HistoryMembers.{of_each, of_one, one_either, one_left, one_mapped, one_moved, one_right}
-use Rattle.nv_runner.proofs.LifeLaws.{falls_nowhere, sorted_by}
+use Rattle.nv_runner.proofs.histories.HistoryMembers.{of_each, of_one, one_either, one_left, one_mapped, one_moved, one_of_joined, one_right}
+use Rattle.nv_runner.proofs.LifeLaws.{falls_nowhere, placed_among, sorted_by}
 use Rattle.nv_runner.proofs.streams.StreamLists.{turn_by_place}
 use Rattle.nv_runner.proofs.streams.StreamParts.{parted_so, parts_few, parts_joined, placed_joined}
 use Rattle.nv_runner.proofs.streams.StreamReads.{HandIs, hand_ended, hand_refused}
@@ -59,6 +61,16 @@ taken_behind (x ∷ first) n later =
 none_behind : (first later : List PlacedCall) → first ++ later ≡ [] → later ≡ []
 none_behind [] later none = none
 none_behind (p ∷ first) later none = absurd (cc)
+
+-- ---- rounds that are over
+
+-- all calls were made, and all that have a place are shown
+all_over : (calls : List TracedCall) (made : List MadeCall) → IsPermutation (calls_made made) calls → AreRoundsOver calls made []
+all_over calls made all = record {
+  few = (let long = length_permutation (calls_made made) calls all in let same = length-map made (λ (m : MadeCall). m.call) in omega (arith, long, same));
+  all_made = λ call earlier. one_moved calls (calls_made made) call (IsPermutation-sym (calls_made made) calls all) earlier.0;
+  late = All-nil (λ (p : PlacedCall). All (λ (c : TracedCall). c.round ≤ p.call.round) calls);
+}
 
 -- ---- one round
 
@@ -195,6 +207,7 @@ module _ (more : Bool) (first now : Traced) (reader : LineReader) (before : List
           opened = run.opened ++ round.opened;
           placed_are = subst (IsPermutation (placed_calls (written.made ++ run.made))) (sym (append-nil all)) both.placed_are;
           in_turn = subst StandInTurn (sym (append-nil all)) both.in_turn;
+          over = all_over (before ++ now.calls) (written.made ++ run.made) (all_calls written.made round.all);
           parted = λ _. both;
           kept_are = λ _. round.kept run.placed run.refused run.opened run.kept_are;
           written = (
@@ -205,6 +218,41 @@ module _ (more : Bool) (first now : Traced) (reader : LineReader) (before : List
           );
           wrote = λ is none. round.wrote is (none_behind run.placed round.placed none);
         }
+
+    -- what was made of the round at hand is of the last round, and all of the earlier ones was made
+    over_here : (made : List MadeCall) (later : List PlacedCall) → HasRunRound fds worker now.calls run.made made zero → IsPermutation (placed_calls made) later → AreRoundsOver (before ++ now.calls) (made ++ run.made) later
+    over_here made later ran moved = record {
+      few =
+          (let joined = length-append made run.made in
+          let calls = length-append before now.calls in
+          let long = length_permutation (calls_made run.made) before run.all in
+          let same = length-map run.made (λ (m : MadeCall). m.call) in
+          let few = ran.few in
+          omega (arith, joined, calls, long, same, few));
+      all_made = λ call earlier.
+          (let other = earlier.1.0 in
+          let less = earlier.1.2 in
+          let most = at_most other earlier.1.1 in
+          elim (one_either before now.calls call earlier.0) [
+            | inl old ↦
+                subst (λ l. IsOneOf l call) (sym (map-append (λ (m : MadeCall). m.call) made run.made))
+                (one_right (calls_made made) (calls_made run.made) call (one_moved before (calls_made run.made) call (IsPermutation-sym (calls_made run.made) before run.all) old))
+            | inr new ↦ absurd (let is = of_one (λ (c : TracedCall). c.round ≡ trace.hand.round) now.calls call trace.hand.one new in omega (arith, less, most, is))
+          ]);
+      late = of_each (λ (p : PlacedCall). All (λ (c : TracedCall). c.round ≤ p.call.round) (before ++ now.calls)) later (λ p one.
+          of_each (λ (c : TracedCall). c.round ≤ p.call.round) (before ++ now.calls) (λ c there.
+          let most = at_most c there in
+          let from = one_of_joined (λ (m : MadeCall). placed_in_answer m.call m.answer) made p (one_moved later (placed_calls made) p (IsPermutation-sym (placed_calls made) later moved) one) in
+          let same = ap (λ (t : TracedCall). t.round) (placed_among from.0.call from.0.answer p from.2) in
+          let is = of_one (λ (t : TracedCall). t.round ≡ trace.hand.round) now.calls from.0.call trace.hand.one (ran.within from.0 from.1) in
+          omega (arith, most, same, is)));
+    }
+      where
+        at_most : (c : TracedCall) → IsOneOf (before ++ now.calls) c → c.round ≤ trace.hand.round
+        at_most c one = elim (one_either before now.calls c one) [
+          | inl old ↦ (let less = of_one (λ (t : TracedCall). t.round < trace.hand.round) before c trace.earlier old in omega (arith, less))
+          | inr new ↦ (let is = of_one (λ (t : TracedCall). t.round ≡ trace.hand.round) now.calls c trace.hand.one new in omega (arith, is))
+        ]
 
     -- memory was wanting
     memory_ended : HasRunWritten fds worker now.calls run.made zero text new_text kept new_kept (Err NoMemory) → HasRunRead fds worker first_more first start_reader told start new_text new_kept zero (Err NoMemory)
@@ -228,6 +276,7 @@ module _ (more : Bool) (first now : Traced) (reader : LineReader) (before : List
           opened = run.opened;
           placed_are = both.0;
           in_turn = both.1;
+          over = over_here written.made some.0 written.ran some.1;
           parted = λ differ. absurd (differ refl);
           kept_are = λ differ. absurd (differ refl);
           written = subst (λ t. Appends start t (history_lines 0 run.placed)) (sym written.ended) run.written;
@@ -267,6 +316,7 @@ module _ (first now : Traced) (reader : LineReader) (before : List TracedCall) (
     opened = run.opened;
     placed_are = subst (IsPermutation (placed_calls run.made)) (sym (append-nil run.placed)) run.parted.placed_are;
     in_turn = subst StandInTurn (sym (append-nil run.placed)) run.parted.in_turn;
+    over = all_over (before ++ now.calls) run.made run.all;
     parted = λ _. run.parted;
     kept_are = λ _. run.kept_are;
     written = written;

@@ -24,7 +24,7 @@ use Rattle.nv_runner.specs.declared.stream.StreamError.{StreamError}
 use Rattle.nv_runner.specs.declared.stream.StreamError.TheVariants.{NoMemory}
 use Rattle.nv_runner.specs.EndedRuns.{HasOutcome, IsClosedBy, IsOutcomeOf, batch_of}
 use Rattle.nv_runner.specs.Histories.{PlacedCall, placed_calls}
-use Rattle.nv_runner.specs.KeptRounds.{AreFirstPlaced, AreKept}
+use Rattle.nv_runner.specs.KeptRounds.{AreFirstPlaced, AreKept, AreRoundsOver}
 use Rattle.nv_runner.specs.Lists.{MadeCall}
 use Rattle.nv_runner.specs.Rounds.{AreInLineOrder, AreInRoundOrder}
 use Rattle.nv_runner.specs.Sorted.{opened_call, refused_call}
@@ -83,8 +83,12 @@ module _ (alloc : Global) (fds : List Fd) (plan : Plan) (start zero was : PassSt
     by_place = lined outcome out same;
   }
 
+  over_of : (outcome : Result SortedCalls RunError) (out : HasOutcome fds plan calls start outcome zero) → out.made ≡ read.made → AreRoundsOver calls out.made read.later
+  over_of outcome out same = subst (λ made. AreRoundsOver calls made read.later) (sym same) read.over
+
   -- it was not brought to its end
   not_ended : (error : RunError) → Gives fds plan calls start zero read.made (Err error) → HasStreamed fds plan start more first reader told before now ended (Err error) zero
+  unfolding first_of
   not_ended error gives =
       let out = gives (Err error) refl in
       record {
@@ -96,6 +100,7 @@ module _ (alloc : Global) (fds : List Fd) (plan : Plan) (start zero was : PassSt
         kept = refl;
         shown = read.placed;
         first_shown = first_of (Err error) out.0 out.1;
+        over = over_of (Err error) out.0 out.1;
         all_shown = tt;
         written = read.written;
         wrote = read.wrote;
@@ -103,6 +108,7 @@ module _ (alloc : Global) (fds : List Fd) (plan : Plan) (start zero was : PassSt
 
   -- all was made
   all_ended : ended ≢ Err NoMemory → Gives fds plan calls start zero read.made (Ok tt) → HasStreamed fds plan start more first reader told before now ended (Ok kept) zero
+  unfolding first_of
   all_ended there gives =
       let parted = read.parted there in
       let early = gives (Err run_errors.NoMemory) refl in
@@ -121,6 +127,7 @@ module _ (alloc : Global) (fds : List Fd) (plan : Plan) (start zero was : PassSt
             (subst (λ l. AreKept kept read.placed l (map opened_call sorting.sorted.open_calls.items)) (sym sorting.refused_are) (subst (AreKept kept read.placed read.refused) (sym sorting.opened_are) (read.kept_are there)));
         shown = read.placed;
         first_shown = first_of (Ok sorting.sorted) out.0 out.1;
+        over = over_of (Ok sorting.sorted) out.0 out.1;
         all_shown = sym sorting.placed_are;
         written = read.written;
         wrote = read.wrote;

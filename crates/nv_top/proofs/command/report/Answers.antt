@@ -1,5 +1,6 @@
 use Rattle.std.proofs.Common.{◌∙◌, ℕ, [], Err, Option, Some, map, refl, sym, subst, ap}
 use Rattle.std.specs.Prelude.{string_bytes}
+use Rattle.nv_plain.specs.Faults.{Rose}
 use Rattle.nv_bench.specs.Benches.{BenchState}
 use Rattle.nv_top.specs.Headline.{command_over}
 use Rattle.nv_top.specs.Lives.{LeavesLife}
@@ -45,7 +46,7 @@ returns-in_err-command g c =
     shown_none over given given faults faults old old c.from_residual.result _ _
     (by_error c.from_residual.result (stop_of_words error) (λ result. HasReported over given given faults faults old old [] result) c.from_residual.ensures.1
     (words_reported over given faults old error c.requires.ready.at_home (λ is. c.in_err-command.ensures.usage (ap Err is))
-    (λ command is. life_unread command given old old c.images_follow_calls.ensures.quiet refl c.requires.ready.at_home.quiet)))
+    (λ command is. life_unread (Rose old.faults old.faults) command given old old c.images_follow_calls.ensures.quiet refl c.requires.ready.at_home.quiet)))
 
 pub returns-in-Run : goal.returns-in-Run
 returns-in-Run g c =
@@ -74,7 +75,7 @@ returns-in-Recover g c =
     (subst (λ over. HasReported over given given faults faults old new [] c.recover.result) (sym (c.in_ok-command.ensures.command ∙ ap Some c.in-Recover.is))
     (counted_reported Recover given given faults old new c.recover.result c.requires.ready made.back (ap (λ (state : BenchState). state.settled) made.back) (ap (λ (state : BenchState). state.arms) made.back) made.cause
     refl tt (λ why is. recovery_refused given old new why (made.refused why is) (made.unwritten why is))
-    (if_told old.told (λ was. LeavesLife Recover given was [] new.told) (λ was told. record {
+    (if_told old.told (λ was. LeavesLife (Rose old.faults new.faults) Recover given was [] new.told) (λ was told. record {
       stands = told_at old.told (λ was. HasHeader was.parts → TellsOf (StandsAsBefore was) new.told) was told made.standing;
       untouched = told_at old.told (λ was. ¬ (IsGood was.parts) → TellsOf (IsUntouched was) new.told) was told made.untouched;
     }))
@@ -91,7 +92,7 @@ returns-in-Look g c =
     shown_none _ given given faults faults old new c.look.result _ _
     (subst (λ over. HasReported over given given faults faults old new [] c.look.result) (sym (c.in_ok-command.ensures.command ∙ ap Some c.in-Look.is))
     (counted_reported (Look files) given given faults old new c.look.result c.requires.ready made.left (look_settled files old new made.left) (look_unarmed files old new made.left) made.cause
-    refl tt made.refused (if_told old.told (λ was. LeavesLife (Look files) given was [] new.told) (λ was told. tt)) made.shown))
+    refl tt made.refused (if_told old.told (λ was. LeavesLife (Rose old.faults new.faults) (Look files) given was [] new.told) (λ was told. tt)) made.shown))
 
 pub returns-in-Gen : goal.returns-in-Gen
 returns-in-Gen g c =

@@ -1,5 +1,6 @@
 use Rattle.std.proofs.Common.{[], Err, ap, refl}
 use Rattle.std.specs.Prelude.{Some}
+use Rattle.nv_plain.specs.Faults.{Rose}
 use Rattle.nv_top.specs.Reported.{HasReported}
 use Rattle.nv_top.specs.Stops.{stop_of_read}
 use Rattle.nv_words.specs.declared.words.Command.TheVariants.{Run}
@@ -21,7 +22,7 @@ returns-in_err-input g c =
     (by_error c.from_residual.result (stop_of_read error) (λ result. HasReported (Some command) given left before now old old [] result) c.from_residual.ensures.1
     (read_reported command given left before now old error c.requires.ready.at_home (λ has. has) tt c.in_err-input.ensures.refused
     (λ is. c.in_err-input.ensures.failed (ap Err is)) (λ other. c.in_err-input.ensures.kept (λ is. other (cc)))
-    (life_unread command given old old c.images_follow_calls.ensures.quiet refl c.requires.ready.at_home.quiet) (λ first run. unrun_at given error c.in_err-input.ensures.unrun first)))
+    (life_unread (Rose old.faults old.faults) command given old old c.images_follow_calls.ensures.quiet refl c.requires.ready.at_home.quiet) (λ first run. unrun_at given error c.in_err-input.ensures.unrun first)))
 
 pub returns : goal.returns
 returns g c =

@@ -29,7 +29,7 @@ returns-in_err-trace g c =
     by_error c.from_residual.result (stop_of_read error) (λ result. HasReported (Some command) given left before now old old [] result) c.from_residual.ensures.1
     (read_reported command given left before now old error c.requires.ready.at_home (λ has. has) (λ turns. absurd (never_turns error turns)) c.in_err-trace.ensures.refused
     (λ is. c.in_err-trace.ensures.failed (ap Err is)) (λ other. c.in_err-trace.ensures.kept (λ is. other (cc)))
-    (life_unread command given old old c.images_follow_calls.ensures.quiet refl c.requires.ready.at_home.quiet) (λ first run. absurd (not_run c.args.options run)))
+    (life_unread (Rose old.faults old.faults) command given old old c.images_follow_calls.ensures.quiet refl c.requires.ready.at_home.quiet) (λ first run. absurd (not_run c.args.options run)))
 
 pub returns : goal.returns
 returns g c =
@@ -51,7 +51,7 @@ returns g c =
     (settled_reported (Sched options) given left faults old new result (made.back, made.picked) made.cause made.never_falls (λ followed. was_read forms.Sched given left trace read.whole read.at_end) (cuts, all) (λ is. (made.turns is, of_held forms.Sched given old.told trace (λ holding. HasUsedTurnsOn options old new holding) read.form made.runnable read.whole (made.used is)))
     (λ why is. schedule_refused options given old new trace why read.form made.runnable read.whole (made.refused why is))
     made.unarmed
-    (schedule_from options given old.told new.told trace read.form made.runnable read.whole made.life)
+    (schedule_from (Rose old.faults new.faults) options given old.told new.told trace read.form made.runnable read.whole made.life)
     (IfOk-weaker result
     (λ text. IfSome old.told (λ holding. HasFollowed (Rose old.faults new.faults) options old.picked holding new trace text.items))
     (λ text. IfSome old.told (λ holding. IsShown (Sched options) given old new holding text.items))

@@ -18,12 +18,12 @@ use Rattle.nv_top.proofs.loading.run_load.Goals as goal
 pub returns-in_err-declare-clause-life : goal.returns-in_err-declare-clause-life
 returns-in_err-declare-clause-life g c =
     let old = g.T.Bench.state c.args.bench.now in
-    still_run old old load_options (generated c.args.load) c.images_follow_calls.ensures.quiet refl c.requires.at_home.quiet
+    still_run _ old old load_options (generated c.args.load) c.images_follow_calls.ensures.quiet refl c.requires.at_home.quiet
 
 pub returns-in_err-input-clause-life : goal.returns-in_err-input-clause-life
 returns-in_err-input-clause-life g c =
     let old = g.T.Bench.state c.args.bench.now in
-    still_run old old load_options (generated c.args.load) c.images_follow_calls.ensures.quiet refl c.requires.at_home.quiet
+    still_run _ old old load_options (generated c.args.load) c.images_follow_calls.ensures.quiet refl c.requires.at_home.quiet
 
 pub returns-in_err-declare-clause-unwritten : goal.returns-in_err-declare-clause-unwritten
 returns-in_err-declare-clause-unwritten g c = (nothing_written (g.O.Sink.written c.args.out.now), refl)

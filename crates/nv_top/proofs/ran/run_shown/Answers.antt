@@ -19,7 +19,7 @@ returns-in-Report-clause-ran g c =
       streamed_on c.args.show c.args.mount.fds c.args.plan c.args.pass c.args.input.now _ _ _ _ _ _ _ _ c.run_stream-ended.result.ended c.run_stream-ended.result.calls zero stream
           came.at_end (λ last. ap g.I.Source.left (came.unread last)) came.read_failed came.read_kept came.write_failed came.write_kept c.in-Report.is,
       subst (λ (show : Show). HasRunCalls show c.args.mount.fds c.args.plan c.args.pass c.listed.result stream.all stream.shown zero) back
-          (record { outcome = stream.outcome; ran = stream.ran; told = c.listed.ensures.told stream.outcome stream.kept; first = (stream.first_shown, stream.all_shown) }),
+          (record { outcome = stream.outcome; ran = stream.ran; told = c.listed.ensures.told stream.outcome stream.kept; first = (stream.first_shown, stream.over, stream.all_shown) }),
       came.ran.2,
       came.ran.3,
     )

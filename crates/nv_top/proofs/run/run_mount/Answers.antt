@@ -1,5 +1,9 @@
+use Rattle.nv_top.specs.Lives.{tells_as}
+use Rattle.nv_top.proofs.CauseLemmas.{cause_grows}
+use Rattle.nv_top.proofs.CauseLemmas.{rose_on}
+use Rattle.nv_mount.specs.RisenCounts.{SawStop}
 use Rattle.nv_runner.specs.Reports.{history_lines}
-use Rattle.std.proofs.Common.{◌≡◌, ◌++◌, ◌+◌, ◌≤◌, ◌∙◌, ℕ, List, [], All, Ok, Err, length, map, sym, ap, subst, sum_by}
+use Rattle.std.proofs.Common.{◌≡◌, ◌++◌, ◌+◌, ◌≤◌, ◌∙◌, ℕ, List, [], All, Ok, Err, length, map, sym, ap, subst, sum_by, arith}
 use Rattle.std.specs.Prelude.{IfOk, Result}
 use Rattle.std.proofs.lemmas.List.{length-map}
 use Rattle.std.proofs.lemmas.Result.{IfOk-weaker}
@@ -74,15 +78,29 @@ returns-clause-ran g c =
     let here = sym c.requires.board.same_mount in
     let there : mount.board.opened ≡ zero.view.opened = here ∙ sym out.mount in
     let counts = mounted_lines (mount_of mount.board.opened) pass.spare in
-    let left : (basis : Basis) → BeginsMount basis all mount pass → AreLeftSo history held basis all shown counts came.parts.items came.stores.items = λ basis begins.
+    let parts_now = sum_by g.L.Lines.fault_count came.parts.items in
+    let stores_now = sum_by g.B.Backing.fault_count came.stores.items in
+    let stores_last = sum_by g.B.Backing.fault_count c.match-calls.stores.items in
+    let failed : Type 0 = Rose (failed_before pass) (parts_now + stores_last) in
+    let grew : stores_now ≤ stores_last = elim c.match-calls.branch [
+      | in-Ok w ↦
+          subst (λ stores. stores_now ≤ sum_by g.B.Backing.fault_count stores.items) (sym w.stores-is)
+          (cause_grows stores_now (sum_by g.B.Backing.fault_count w.show_run-report.new.stores.items) w.show_run-report.result w.show_run-report.ensures.never w.show_run-report.ensures.cause)
+      | in-Err w ↦ subst (λ stores. stores_now ≤ sum_by g.B.Backing.fault_count stores.items) (sym w.stores-is) (omega arith)
+    ] in
+    let stops : SawStop zero.view → failed = λ seen.
+    rose_on (failed_before pass) (parts_now + stores_now) (parts_now + stores_last) (omega (arith, grew)) (subst (λ count. Rose count (parts_now + stores_now)) (failed_same pass zero run.ran.run_out.mount run.ran.run_out.spare) (by.stopped seen)) in
+    let left : (basis : Basis) → BeginsMount basis all mount pass → AreLeftSo (tells_as show failed plan.worker) history held basis all shown counts came.parts.items came.stores.items = λ basis begins.
     let tell = by.telling basis.files (subst (λ (o : Opened). OpensLog (mount_of o) o.next) there begins.is_mount.log) (subst (λ (o : Opened). Opens (mount_of o) basis.files) there begins.is_mount.files)
     (subst (λ (values : List Value). All IsTelling values) (sym out.spare) begins.spare) in
+    let life = life_all show basis all mount.fds plan pass zero c.run_shown-closed.result.calls shown _ _ (map history came.parts.items) (map held came.stores.items) _ _ _ failed c.runs_leave_lives.ensures c.runs_leave_shown_lives.ensures runnable
+    (subst (λ (o : Opened). IsMountOf basis all o mount.fds) here begins.is_mount) (subst (λ (o : Opened). OpensRegion (mount_of o) basis.names) here begins.region) (c.requires.new ∙ ap first_view here) run by stops in
     record {
       parts_tell = tell.0;
       stores_tell = tell.1;
       lines_are = lines_home (map history came.parts.items) mount.board.opened zero.view.opened pass.spare zero.spare there out.spare by.lines;
-      life = life_all show basis all mount.fds plan pass zero c.run_shown-closed.result.calls shown _ _ (map history came.parts.items) (map held came.stores.items) _ _ _ c.runs_leave_lives.ensures c.runs_leave_shown_lives.ensures runnable
-          (subst (λ (o : Opened). IsMountOf basis all o mount.fds) here begins.is_mount) (subst (λ (o : Opened). OpensRegion (mount_of o) basis.names) here begins.region) (c.requires.new ∙ ap first_view here) run by;
+      life = life.0;
+      rounds = life.1;
     } in
     let Shows : List _ → List ℕ → Type 0 = λ backing text. (basis : Basis) → BeginsMount basis all mount pass → basis.names ≡ names → All IsQuietSpare pass.spare → HasRunBehind history held show plan.worker basis all shown text came.parts.items backing in (
       all,
@@ -97,7 +115,7 @@ returns-clause-ran g c =
             let told = told_calls show w.in-Ok.calls run.outcome (subst (λ (r : Result RanCalls RunError). IsToldAs show r run.outcome) w.in-Ok.is run.told) in
             let sorted = told.0 in
             let outcome : HasOutcome mount.fds plan all.calls pass (Ok sorted) zero = subst (λ outcome. HasOutcome mount.fds plan all.calls pass outcome zero) told.1 run.ran in
-            let these : shown ≡ shown_of show sorted = shown_is show run.ran.made run.outcome sorted shown told.1 run.first in
+            let these : shown ≡ shown_of show sorted = shown_is show all.calls run.ran.made run.outcome sorted shown told.1 run.first in
             let same_board = out.mount ∙ c.requires.board.same_mount in
             subst (λ report. IfOk report (λ text. Shows c.match-calls.stores.items text.items)) (sym w.report-is)
             (IfOk-weaker w.show_run-report.result

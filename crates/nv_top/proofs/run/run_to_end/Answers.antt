@@ -1,5 +1,7 @@
 use Rattle.std.proofs.Common.{arith, ◌+◌, ◌≡◌, ◌<◌, ◌∙◌, ℕ, List, All, Some, length, map, refl, sym, ap, subst}
 use Rattle.std.specs.Prelude.{IfOk, IfSome, IsErr, sum_by}
+use Rattle.nv_top.proofs.RanLemmas.{told_as_failed}
+use Rattle.nv_plain.specs.Faults.{Rose}
 use Rattle.nv_plain.specs.Faults.{saturated}
 use Rattle.nv_bench.specs.Benches.{BenchState}
 use Rattle.nv_runner.specs.Faithful.{Basis}
@@ -31,13 +33,13 @@ use Rattle.nv_open.specs.Lending.{without_stores}
 use Rattle.nv_open.specs.Unopened.{line_counts}
 use Rattle.nv_open.proofs.Homes.{back_again}
 use Rattle.nv_open.proofs.LogLaws.{states_many}
-use Rattle.nv_top.specs.Lives.{LeavesRun}
+use Rattle.nv_top.specs.Lives.{LeavesRun, tells_as}
 use Rattle.nv_top.proofs.CommandLemmas.{back_is}
 use Rattle.nv_top.proofs.HeadlineLemmas.{home_distinct}
 use Rattle.nv_bench.specs.Opening.{opened as opened_parts}
 use Rattle.nv_open.proofs.Layers.{good_begun}
-use Rattle.nv_top.proofs.LifeLemmas.{lived_home, lived_on, still_run}
-use Rattle.nv_top.proofs.CauseLemmas.{run_counted, run_not_refused}
+use Rattle.nv_top.proofs.LifeLemmas.{left_tells, lived_home, lived_on, still_run}
+use Rattle.nv_top.proofs.CauseLemmas.{rose_within, run_counted, run_not_refused}
 use Rattle.nv_top.proofs.run.run_to_end.Goals as goal
 use Rattle.nv_top.proofs.run.run_to_end.Goals.{then-faults-before, else-faults-before}
 
@@ -55,7 +57,7 @@ returns-in_err-wanted-clause-ran g c =
     let all = trace_run c.args.show c.args.input.now.trace in
     let streamed = unread c.args.show c.args.input.now _ _ _ _ c.requires.input c.requires.well_formed in
     unrun c.args.show c.args.options c.args.input.now _ _ _ _ old old all c.from_residual.result NoMemory c.from_residual.ensures.1 streamed (runnable_all c.args.show c.args.input.now _ _ all c.requires.input streamed.trace) refl
-    (still_run old old c.args.options all c.images_follow_calls.ensures.quiet refl c.requires.at_home.quiet) (λ why is. cc)
+    (still_run _ old old c.args.options all c.images_follow_calls.ensures.quiet refl c.requires.at_home.quiet) (λ why is. cc)
 
 pub returns-in_err-region-clause-ran : goal.returns-in_err-region-clause-ran
 returns-in_err-region-clause-ran g c =
@@ -69,7 +71,7 @@ returns-in_err-region-clause-ran g c =
     let wanted = c.in_ok-wanted.ensures ∙ c.names.ensures in
     unrun c.args.show c.args.options c.args.input.now _ _ _ _ old new all c.from_residual-in_err-region.result (stop_of_opening error) c.from_residual-in_err-region.ensures.1 streamed
     (runnable_all c.args.show c.args.input.now _ _ all c.requires.input streamed.trace) (opening_counted old.faults new.faults error made.cause)
-    (refused_life c.args.options _ c.args.input.now.trace.names old new wanted all (sym names) _ refl refl made.standing made.untouched)
+    (refused_life c.args.options _ c.args.input.now.trace.names old new wanted _ all (sym names) _ refl refl made.standing made.untouched)
     (λ why is.
     let error_is = opening_refused error why is in
     subst (λ names. IfSome old.told (λ holding. IsRunRefused c.args.options holding names old new why)) (sym names)
@@ -123,10 +125,11 @@ returns-clause-ran g c =
             (run_counted first last old.faults mid.faults after_it.faults came.report c.run_region-parts.ensures.cause lent faults (omega (arith, w.if-faults-before.false, c.faults.ensures, c.faults-before.ensures)))
       ];
       life =
-          if_told old.told (λ was. LeavesRun options was all shown after_it.told) (λ holding is.
+          if_told old.told (λ was. LeavesRun (tells_as show (Rose old.faults after_it.faults) options.worker) options was all shown after_it.told) (λ holding is.
           let opened = told_at old.told _ holding is made.opened in
           let parts = present (map history region.parts.items) (told_at old.told _ holding is made.tell) in
-          let left = ran.3 parts.states opened.files.held parts.are opened.files.are in
+          let left = left_tells history held (basis opened.files.held) all shown (line_counts parts.states) came.parts.items came.stores.items
+          (λ later tells. told_as_failed show options.worker (basis opened.files.held) all shown later (rose_within mid.faults first last old.faults after_it.faults lent faults) tells) (ran.3 parts.states opened.files.held parts.are opened.files.are) in
           let from = opened_basis options holding _ _ all.names _ _ _ _ _ opened refl refl (c.in_ok-wanted.ensures ∙ c.names.ensures ∙ sym names) in
           let counts = line_counts (opened_parts (Some from.geometry) holding.parts) in
           record {

@@ -29,7 +29,7 @@ use Rattle.nv_top.proofs.RowLemmas.{made_many, present}
 use Rattle.nv_top.proofs.SchedulingLemmas.{all_from_lent, armed_none, from_lent, used_from_lent}
 use Rattle.nv_top.proofs.StopLemmas.{err_has, opening_refused}
 use Rattle.std.proofs.Common.{inr}
-use Rattle.nv_top.specs.Lives.{HasLived, LeavesRun}
+use Rattle.nv_top.specs.Lives.{HasLived, LeavesRun, TellsNothing}
 use Rattle.nv_bench.specs.Opening.{opened as opened_parts}
 use Rattle.nv_open.proofs.Layers.{good_begun}
 use Rattle.nv_top.proofs.LifeLemmas.{lived_on, still_run}
@@ -163,7 +163,7 @@ returns-clause-all_cuts g c =
 pub returns-in_err-wanted-clause-life : goal.returns-in_err-wanted-clause-life
 returns-in_err-wanted-clause-life g c =
     let old = g.T.Bench.state c.args.bench.now in
-    still_run old old c.args.options c.args.trace.now c.images_follow_calls.ensures.quiet refl c.requires.ready.at_home.quiet
+    still_run _ old old c.args.options c.args.trace.now c.images_follow_calls.ensures.quiet refl c.requires.ready.at_home.quiet
 
 pub returns-clause-life : goal.returns-clause-life
 returns-clause-life g c =
@@ -174,7 +174,7 @@ returns-clause-life g c =
     let trace = c.args.trace.now in
     let made = c.in_ok-opened.ensures in
     let region = c.in_ok-opened.opened.region in
-    if_told old.told (λ was. LeavesRun c.args.options was trace [] new.told) (λ holding told.
+    if_told old.told (λ was. LeavesRun TellsNothing c.args.options was trace [] new.told) (λ holding told.
     let opened = told_at old.told _ holding told made.opened in
     let parts = present (map history region.parts.items) (told_at old.told _ holding told made.tell) in
     let basis = basis_over region c.args.options.pages (files_of opened.files.held) in
@@ -187,7 +187,7 @@ returns-clause-life g c =
         begun = begun;
         lived = lived_on basis trace (line_counts parts.states) (line_counts (opened_parts (Some begun.geometry) holding.parts)) holding.stores new.told
             (row_tells_at (map history region.parts.items) (λ now. line_counts now ≡ line_counts (opened_parts (Some begun.geometry) holding.parts)) parts.states parts.are (told_at old.told _ holding told made.lines))
-            (told_at mid.told (λ left. IsAway region.names left → HasLived basis trace [] (line_counts parts.states) left.stores new.told) left (mid_told old mid region.names holding made.lent c.requires.ready.at_home.home told)
+            (told_at mid.told (λ left. IsAway region.names left → HasLived TellsNothing basis trace [] (line_counts parts.states) left.stores new.told) left (mid_told old mid region.names holding made.lent c.requires.ready.at_home.home told)
             (c.schedule_region.ensures.life parts.states opened.files.held parts.are opened.files.are)
             (all_away region.names holding.stores (home_distinct old holding (g.met.T.Bench.named c.args.bench.now) told c.requires.ready.at_home.home)));
       });
@@ -225,4 +225,4 @@ returns-clause-used g c is =
 pub returns-in_err-opened-clause-life : goal.returns-in_err-opened-clause-life
 returns-in_err-opened-clause-life g c =
     let made = c.in_err-opened.ensures in
-    refused_life c.args.options _ c.args.trace.now.names (g.T.Bench.state c.args.bench.now) (g.T.Bench.state c.open.new.bench) (c.in_ok-wanted.ensures ∙ c.names.ensures) c.args.trace.now refl _ refl refl made.standing made.untouched
+    refused_life c.args.options _ c.args.trace.now.names (g.T.Bench.state c.args.bench.now) (g.T.Bench.state c.open.new.bench) (c.in_ok-wanted.ensures ∙ c.names.ensures) _ c.args.trace.now refl _ refl refl made.standing made.untouched

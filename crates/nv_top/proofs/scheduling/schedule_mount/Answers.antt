@@ -23,7 +23,7 @@ use Rattle.nv_top.proofs.SchedulingLemmas.{armed_at_all, armed_at_some, failed_c
 use Rattle.nv_top.proofs.PoweredHomes.{part_shown, parts_counted, store_shown}
 use Rattle.nv_top.proofs.StoppingLemmas.{HasClosedOver, at_some, failed_same, home_with, if_some, left_behind, none_unless, quiet_after, rose_home}
 use Rattle.nv_top.proofs.UnrefusedLemmas.{never_refused}
-use Rattle.nv_top.specs.Lives.{HasLived}
+use Rattle.nv_top.specs.Lives.{HasLived, TellsNothing}
 use Rattle.nv_top.proofs.ScheduleLifeLemmas.{scheduled_home, scheduled_recovered}
 use Rattle.nv_top.proofs.scheduling.schedule_mount.Goals as goal
 
@@ -293,7 +293,7 @@ returns-in_err-power-clause-life g c basis begins named =
     scheduled_home g.T.Part.Lines.history g.T.Store.Backing.history trace c.args.mount c.args.pass ran.0 _ _ came.parts.items came.stores.items _ came.placed came.tail c.args.options.batch start armed outcome home.told c.schedules_leave_lives.ensures
     c.requires.trace.well_formed c.requires.trace.lines c.requires.no_rounds c.requires.new scheduled ran.3 many c.requires.names c.run_schedule-closed.ensures.armed c.give_back.ensures.told (λ holding is. g.met.T.Bench.whole c.give_back.new.self holding is)
     basis begins named in
-    subst (λ told. IfSome start.told (λ left. IsAway basis.names left → HasLived basis trace [] made left.stores told)) (sym (ap (λ (s : BenchState). s.told) c.in_err-power.ensures.memory)) lived
+    subst (λ told. IfSome start.told (λ left. IsAway basis.names left → HasLived TellsNothing basis trace [] made left.stores told)) (sym (ap (λ (s : BenchState). s.told) c.in_err-power.ensures.memory)) lived
 
 pub returns-clause-life : goal.returns-clause-life
 returns-clause-life g c basis begins named =
@@ -315,8 +315,8 @@ returns-clause-life g c basis begins named =
     scheduled_home g.T.Part.Lines.history g.T.Store.Backing.history trace c.args.mount c.args.pass ran.0 _ _ came.parts.items came.stores.items _ came.placed came.tail c.args.options.batch start armed outcome home.told c.schedules_leave_lives.ensures
     c.requires.trace.well_formed c.requires.trace.lines c.requires.no_rounds c.requires.new scheduled ran.3 many c.requires.names c.run_schedule-closed.ensures.armed c.give_back.ensures.told (λ holding is. g.met.T.Bench.whole c.give_back.new.self holding is)
     basis begins named in
-    let Home : Holding → Type 0 = λ left. IsAway basis.names left → HasLived basis trace [] made left.stores home.told in
-    if_some start.told (λ left. IsAway basis.names left → HasLived basis trace [] made left.stores last.told) (λ left told_is away.
+    let Home : Holding → Type 0 = λ left. IsAway basis.names left → HasLived TellsNothing basis trace [] made left.stores home.told in
+    if_some start.told (λ left. IsAway basis.names left → HasLived TellsNothing basis trace [] made left.stores last.told) (λ left told_is away.
     scheduled_recovered basis trace c.args.options.image made left.stores (at_some start.told IsQuietHolding left told_is c.requires.quiet).stores home.told off.told last.told c.images_follow_calls.ensures.quiet c.power_leaves_an_image.ensures (λ holding is. g.met.T.Bench.whole c.give_back.new.self holding is)
     (ap (λ (s : BenchState). s.told) c.in_ok-power.ensures.off) c.show_outcome.ensures.standing (at_some start.told Home left told_is lived away))
 

@@ -23,7 +23,7 @@ use Rattle.std.proofs.lemmas.List.{length-map}
 use Rattle.nv_bench.specs.Holding.{Holding, named_stores}
 use Rattle.nv_open.proofs.Homes.{all_behind, own_stores}
 use Rattle.nv_store.proofs.RowReads.{length_now}
-use Rattle.nv_top.specs.Lives.{AreLeftSo, HasLived}
+use Rattle.nv_top.specs.Lives.{AreLeftSo, HasLived, TellsNothing}
 use Rattle.nv_top.proofs.LifeLemmas.{left_same, lived_home, rest_lives}
 use Rattle.nv_top.proofs.RunLemmas.{quiet_stores}
 use Rattle.nv_top.proofs.StoppingLemmas.{home_with, if_some}
@@ -76,7 +76,7 @@ returns-in-Ok-clause-life g c parts now parts_are now_are =
     let start = g.T.Bench.state c.args.bench.now in
     let last = g.T.Bench.state c.schedule_mount.new.bench in
     let basis = basis_over region c.args.options.pages (files_of now) in
-    subst (λ counts. IfSome start.told (λ left. IsAway region.names left → HasLived basis c.args.trace.now [] counts left.stores last.told))
+    subst (λ counts. IfSome start.told (λ left. IsAway region.names left → HasLived TellsNothing basis c.args.trace.now [] counts left.stores last.told))
     (row_tells_at (map g.T.Part.Lines.history region.parts.items) (λ told. mounted_lines (mount_of c.in-Ok.mount.board.opened) c.in-Ok.pass.spare ≡ line_counts told) parts parts_are c.in-Ok.ensures.lines)
     (c.schedule_mount.ensures.life basis (c.in-Ok.ensures.begins parts now parts_are now_are) (sym c.requires.lent))
 
@@ -90,9 +90,9 @@ returns-in-Err-clause-life g c parts now parts_are now_are =
     let start = g.T.Bench.state c.args.bench.now in
     let home = g.T.Bench.state c.give_back.new.self in
     let basis = basis_over region c.args.options.pages (files_of now) in
-    let rest = rest_lives history held basis trace region.parts.items stores parts now region.next parts_are now_are (region_as c.args.opened.version region.is_region).tells (quiet_stores held stores now now_are c.requires.synced) refl in
-    let left_so : AreLeftSo history held basis trace [] (line_counts parts) c.in-Err.field-0.parts.items c.in-Err.field-0.stores.items = left_same history held basis trace [] (line_counts parts) c.in-Err.field-0.parts.items region.parts.items c.in-Err.field-0.stores.items stores c.in-Err.ensures.same_parts c.in-Err.ensures.same_stores rest in
-    if_some start.told (λ left. IsAway region.names left → HasLived basis trace [] (line_counts parts) left.stores home.told) (λ left told_is away.
+    let rest = rest_lives {Tells = TellsNothing} history held basis trace region.parts.items stores parts now region.next parts_are now_are (region_as c.args.opened.version region.is_region).tells (quiet_stores held stores now now_are c.requires.synced) refl tt in
+    let left_so : AreLeftSo TellsNothing history held basis trace [] (line_counts parts) c.in-Err.field-0.parts.items c.in-Err.field-0.stores.items = left_same history held basis trace [] (line_counts parts) c.in-Err.field-0.parts.items region.parts.items c.in-Err.field-0.stores.items stores c.in-Err.ensures.same_parts c.in-Err.ensures.same_stores rest in
+    if_some start.told (λ left. IsAway region.names left → HasLived TellsNothing basis trace [] (line_counts parts) left.stores home.told) (λ left told_is away.
     lived_home basis trace [] history held c.in-Err.field-0.parts.items c.in-Err.field-0.stores.items (line_counts parts) home.told left.stores (λ holding is. g.met.T.Bench.whole c.give_back.new.self holding is) left_so
     (λ disks are. all_behind region.names left.stores (named_stores region.names disks) away
     ∙ own_stores region.names disks (sym (length_now (map held c.in-Err.field-0.stores.items) disks are ∙ ap length (c.in-Err.ensures.same_stores) ∙ length-map stores held ∙ c.requires.stores)) region.is_region.names_are.distinct)

@@ -1,6 +1,7 @@
 use Rattle.std.proofs.Common.{◌≡◌, ◌≤◌, ◌<◌, ◌+◌, ◌++◌, ◌∙◌, [], ◌∷◌, Result, ℕ, List, All, Err, None, Some, inl, inr, length, map, refl, sym, ap, subst, sum_by, arith}
 use Rattle.std.specs.Prelude.{IfSome, max}
 use Rattle.std.proofs.lemmas.Result.{IfOk-weaker}
+use Rattle.nv_runner.specs.ToldRounds.{TellsRounds}
 use Rattle.nv_plain.specs.Faults.{Rose, saturated}
 use Rattle.nv_pmem.specs.Part.{Part}
 use Rattle.nv_pmem.specs.RowStates.{AreNow, row_tells_at}
@@ -89,7 +90,7 @@ returns-in_err-wanted g c =
       cause = omega arith;
       turns = λ is. cc;
       never_falls = omega arith;
-      life = still_run old old c.args.options input.trace c.images_follow_calls.ensures.quiet refl c.requires.ready.at_home.quiet;
+      life = still_run _ old old c.args.options input.trace c.images_follow_calls.ensures.quiet refl c.requires.ready.at_home.quiet;
       ran = tt;
       refused = λ why is. absurd (no_region why is);
       unbegun = λ why is. absurd (no_region why is);
@@ -123,7 +124,7 @@ returns-in_err-opened g c =
       cause = counted_settled {T = Vec ℕ} old.faults new.faults new.settled (Err (stop_of_opening error)) low cause;
       turns = counted_not_turns {T = Vec ℕ} old.faults new.faults (Err (stop_of_opening error)) cause;
       never_falls = error_grows old.faults new.faults error made.cause;
-      life = refused_life options _ trace.names old new same trace refl _ refl refl made.standing made.untouched;
+      life = refused_life options _ trace.names old new same _ trace refl _ refl refl made.standing made.untouched;
       ran = tt;
       refused = λ why is.
           let error_is = opening_refused error why (region_of (stop_of_opening error) why is) in
@@ -192,7 +193,7 @@ returns g c =
       ];
       turns = ran.turns;
       never_falls = omega (arith, same, stopped.never_falls);
-      life = if_told old.told (λ was. LeavesRun options was ran.all ran.shown new.told) (λ holding told.
+      life = if_told old.told (λ was. LeavesRun (TellsRounds (Rose old.faults new.faults) options.worker) options was ran.all ran.shown new.told) (λ holding told.
           let opened = told_at old.told _ holding told made.opened in
           let parts = present (map history region.parts.items) (told_at old.told _ holding told made.tell) in
           let basis = basis_over region options.pages (files_of opened.files.held) in
@@ -203,10 +204,10 @@ returns g c =
             stands = λ stand. inr (record {
               basis = basis;
               begun = begun;
-              lived = lived_on basis ran.all (line_counts parts.states) (line_counts (opened_parts (Some begun.geometry) holding.parts)) holding.stores new.told
+              lived = subst (λ count. HasLived (TellsRounds (Rose count new.faults) options.worker) basis ran.all ran.shown (line_counts (opened_parts (Some begun.geometry) holding.parts)) holding.stores new.told) same (lived_on basis ran.all (line_counts parts.states) (line_counts (opened_parts (Some begun.geometry) holding.parts)) holding.stores new.told
                   (row_tells_at (map history region.parts.items) (λ now. line_counts now ≡ line_counts (opened_parts (Some begun.geometry) holding.parts)) parts.states parts.are (told_at old.told _ holding told made.lines))
-                  (told_at mid.told (λ left. IsAway region.names left → HasLived basis ran.all ran.shown (line_counts parts.states) left.stores new.told) left (mid_told old mid region.names holding made.lent at_home.home told)
-                  (ran.life basis (line_counts parts.states) (parts.states, opened.files.held, parts.are, opened.files.are, refl, refl)) (all_away region.names holding.stores (distinct holding told)));
+                  (told_at mid.told (λ left. IsAway region.names left → HasLived (TellsRounds (Rose lent new.faults) options.worker) basis ran.all ran.shown (line_counts parts.states) left.stores new.told) left (mid_told old mid region.names holding made.lent at_home.home told)
+                  (ran.life basis (line_counts parts.states) (parts.states, opened.files.held, parts.are, opened.files.are, refl, refl)) (all_away region.names holding.stores (distinct holding told))));
             });
           });
       ran = IfOk-weaker told

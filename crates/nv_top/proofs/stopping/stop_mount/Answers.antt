@@ -2,6 +2,7 @@ use Rattle.std.proofs.Common.{rules, ◌≡◌, ◌≢◌, ◌+◌, ◌≤◌, �
 use Rattle.std.specs.Prelude.{◌++◌, [], IfSome, Result, Ok, Err, Option, Some, max}
 use Rattle.std.proofs.lemmas.List.{length-map}
 use Rattle.std.proofs.lemmas.Result.{IfOk-weaker}
+use Rattle.nv_runner.specs.ToldRounds.{TellsRounds}
 use Rattle.nv_plain.specs.Faults.{Rose, saturated}
 use Rattle.nv_bench.specs.Benches.{BenchState}
 use Rattle.nv_bench.specs.Holding.{Holding, IsQuietHolding}
@@ -64,11 +65,16 @@ returns-in-Err-Write-clause-ran g c =
     streamed_on shows.Report mount.fds c.args.plan pass c.args.input.now _ (g.I.Source.left c.run_stream-closed.new.src) _ _ _ _ _ _ ended calls zero stream did.at_end (λ last. ap g.I.Source.left (did.unread last)) did.read_failed did.read_kept did.write_failed did.write_kept refl in
     let runnable = runnable_all shows.Report c.args.input.now _ ended stream.all c.requires.input streamed.trace in
     let whole : (holding : Holding) → home.told ≡ Some holding → AreWholeStores holding = λ holding is. g.met.T.Bench.whole c.give_back.new.self holding is in
+    let sums = sum_by g.T.Part.Lines.fault_count came.parts.items + sum_by g.T.Store.Backing.fault_count came.stores.items in
+    let last_faults : ℕ = (home).faults in
+    let failed : Type 0 = Rose (saturated (start.faults + failed_before pass)) last_faults in
+    let home_faults : home.faults ≡ saturated (start.faults + sums) = ap (λ (s : BenchState). s.faults) c.give_back.ensures.taken ∙ ap (λ (s : BenchState). saturated (s.faults + sums)) c.arm.ensures in
+    let no_less : saturated (start.faults + sums) ≤ last_faults = omega (arith, home_faults) in
     let came_home =
-    stopped_home g.T.Part.Lines.history g.T.Store.Backing.history mount pass zero c.args.plan stream.all stream.outcome stream.shown _ _ came.parts.items came.stores.items _ came.placed came.tail c.args.k start (state c.arm.new.self) home.told
-    c.runs_leave_shown_lives.ensures runnable c.requires.new stream.ran stream.first_shown by (length-map came.stores.items g.T.Store.Backing.history ∙ did.ran.2.many_stores) c.requires.names c.arm.ensures c.give_back.ensures.told whole in
+    stopped_home g.T.Part.Lines.history g.T.Store.Backing.history mount pass zero c.args.plan stream.all stream.outcome stream.shown _ _ came.parts.items came.stores.items _ came.placed came.tail c.args.k start (state c.arm.new.self) home.told last_faults
+    c.runs_leave_shown_lives.ensures runnable c.requires.new stream.ran stream.first_shown stream.over no_less by (length-map came.stores.items g.T.Store.Backing.history ∙ did.ran.2.many_stores) c.requires.names c.arm.ensures c.give_back.ensures.told whole in
     let made = mounted_lines (mount_of mount.board.opened) pass.spare in
-    let Lived : Basis → List ℕ → Option Holding → Type 0 = λ basis counts told. IfSome start.told (λ left. IsAway basis.names left → HasLived basis stream.all stream.shown counts left.stores told) in
+    let Lived : Basis → List ℕ → Option Holding → Type 0 = λ basis counts told. IfSome start.told (λ left. IsAway basis.names left → HasLived (TellsRounds failed c.args.plan.worker) basis stream.all stream.shown counts left.stores told) in
     let IsBegun : Basis → List ℕ → Type 0 = λ basis counts. BeginsMount basis stream.all mount pass × (basis.names ≡ start.lent) × (counts ≡ made) in
     let at_home : (basis : Basis) (counts : List ℕ) → IsBegun basis counts → Lived basis counts home.told = λ basis counts begun. subst (λ counts. Lived basis counts home.told) (sym begun.2) (came_home basis begun.0 begun.1) in
     let sink : c.in-Err-Write.field-0 ≡ ends.Write = (rw c.in-Err-Write.is at c.in-Err-Write.field-0-is) in
@@ -96,11 +102,16 @@ returns-in_err-power-clause-ran g c =
     streamed_on shows.Report mount.fds c.args.plan pass c.args.input.now _ (g.I.Source.left c.run_stream-closed.new.src) _ _ _ _ _ _ ended calls zero stream did.at_end (λ last. ap g.I.Source.left (did.unread last)) did.read_failed did.read_kept did.write_failed did.write_kept refl in
     let runnable = runnable_all shows.Report c.args.input.now _ ended stream.all c.requires.input streamed.trace in
     let whole : (holding : Holding) → home.told ≡ Some holding → AreWholeStores holding = λ holding is. g.met.T.Bench.whole c.give_back.new.self holding is in
+    let sums = sum_by g.T.Part.Lines.fault_count came.parts.items + sum_by g.T.Store.Backing.fault_count came.stores.items in
+    let last_faults : ℕ = (state c.power.new.self).faults in
+    let failed : Type 0 = Rose (saturated (start.faults + failed_before pass)) last_faults in
+    let home_faults : home.faults ≡ saturated (start.faults + sums) = ap (λ (s : BenchState). s.faults) c.give_back.ensures.taken ∙ ap (λ (s : BenchState). saturated (s.faults + sums)) c.arm.ensures in
+    let no_less : saturated (start.faults + sums) ≤ last_faults = omega (arith, home_faults, ap (λ (s : BenchState). s.faults) c.in_err-power.ensures.memory) in
     let came_home =
-    stopped_home g.T.Part.Lines.history g.T.Store.Backing.history mount pass zero c.args.plan stream.all stream.outcome stream.shown _ _ came.parts.items came.stores.items _ came.placed came.tail c.args.k start (state c.arm.new.self) home.told
-    c.runs_leave_shown_lives.ensures runnable c.requires.new stream.ran stream.first_shown by (length-map came.stores.items g.T.Store.Backing.history ∙ did.ran.2.many_stores) c.requires.names c.arm.ensures c.give_back.ensures.told whole in
+    stopped_home g.T.Part.Lines.history g.T.Store.Backing.history mount pass zero c.args.plan stream.all stream.outcome stream.shown _ _ came.parts.items came.stores.items _ came.placed came.tail c.args.k start (state c.arm.new.self) home.told last_faults
+    c.runs_leave_shown_lives.ensures runnable c.requires.new stream.ran stream.first_shown stream.over no_less by (length-map came.stores.items g.T.Store.Backing.history ∙ did.ran.2.many_stores) c.requires.names c.arm.ensures c.give_back.ensures.told whole in
     let made = mounted_lines (mount_of mount.board.opened) pass.spare in
-    let Lived : Basis → List ℕ → Option Holding → Type 0 = λ basis counts told. IfSome start.told (λ left. IsAway basis.names left → HasLived basis stream.all stream.shown counts left.stores told) in
+    let Lived : Basis → List ℕ → Option Holding → Type 0 = λ basis counts told. IfSome start.told (λ left. IsAway basis.names left → HasLived (TellsRounds failed c.args.plan.worker) basis stream.all stream.shown counts left.stores told) in
     let IsBegun : Basis → List ℕ → Type 0 = λ basis counts. BeginsMount basis stream.all mount pass × (basis.names ≡ start.lent) × (counts ≡ made) in
     let at_home : (basis : Basis) (counts : List ℕ) → IsBegun basis counts → Lived basis counts home.told = λ basis counts begun. subst (λ counts. Lived basis counts home.told) (sym begun.2) (came_home basis begun.0 begun.1) in
     let taken = c.give_back.ensures.taken in
@@ -132,17 +143,22 @@ returns-in_err-kept-clause-ran g c =
     streamed_on shows.Report mount.fds c.args.plan pass c.args.input.now _ (g.I.Source.left c.run_stream-closed.new.src) _ _ _ _ _ _ ended calls zero stream did.at_end (λ last. ap g.I.Source.left (did.unread last)) did.read_failed did.read_kept did.write_failed did.write_kept refl in
     let runnable = runnable_all shows.Report c.args.input.now _ ended stream.all c.requires.input streamed.trace in
     let whole : (holding : Holding) → home.told ≡ Some holding → AreWholeStores holding = λ holding is. g.met.T.Bench.whole c.give_back.new.self holding is in
+    let sums = sum_by g.T.Part.Lines.fault_count came.parts.items + sum_by g.T.Store.Backing.fault_count came.stores.items in
+    let last_faults : ℕ = (state c.power.new.self).faults in
+    let failed : Type 0 = Rose (saturated (start.faults + failed_before pass)) last_faults in
+    let home_faults : home.faults ≡ saturated (start.faults + sums) = ap (λ (s : BenchState). s.faults) c.give_back.ensures.taken ∙ ap (λ (s : BenchState). saturated (s.faults + sums)) c.arm.ensures in
+    let no_less : saturated (start.faults + sums) ≤ last_faults = omega (arith, home_faults, ap (λ (s : BenchState). s.faults) c.in_ok-power.ensures.off) in
     let came_home =
-    stopped_home g.T.Part.Lines.history g.T.Store.Backing.history mount pass zero c.args.plan stream.all stream.outcome stream.shown _ _ came.parts.items came.stores.items _ came.placed came.tail c.args.k start (state c.arm.new.self) home.told
-    c.runs_leave_shown_lives.ensures runnable c.requires.new stream.ran stream.first_shown by (length-map came.stores.items g.T.Store.Backing.history ∙ did.ran.2.many_stores) c.requires.names c.arm.ensures c.give_back.ensures.told whole in
+    stopped_home g.T.Part.Lines.history g.T.Store.Backing.history mount pass zero c.args.plan stream.all stream.outcome stream.shown _ _ came.parts.items came.stores.items _ came.placed came.tail c.args.k start (state c.arm.new.self) home.told last_faults
+    c.runs_leave_shown_lives.ensures runnable c.requires.new stream.ran stream.first_shown stream.over no_less by (length-map came.stores.items g.T.Store.Backing.history ∙ did.ran.2.many_stores) c.requires.names c.arm.ensures c.give_back.ensures.told whole in
     let made = mounted_lines (mount_of mount.board.opened) pass.spare in
-    let Lived : Basis → List ℕ → Option Holding → Type 0 = λ basis counts told. IfSome start.told (λ left. IsAway basis.names left → HasLived basis stream.all stream.shown counts left.stores told) in
+    let Lived : Basis → List ℕ → Option Holding → Type 0 = λ basis counts told. IfSome start.told (λ left. IsAway basis.names left → HasLived (TellsRounds failed c.args.plan.worker) basis stream.all stream.shown counts left.stores told) in
     let IsBegun : Basis → List ℕ → Type 0 = λ basis counts. BeginsMount basis stream.all mount pass × (basis.names ≡ start.lent) × (counts ≡ made) in
     let at_home : (basis : Basis) (counts : List ℕ) → IsBegun basis counts → Lived basis counts home.told = λ basis counts begun. subst (λ counts. Lived basis counts home.told) (sym begun.2) (came_home basis begun.0 begun.1) in
     let off = state c.power.new.self in
     let powers = ap (λ (s : BenchState). s.told) c.in_ok-power.ensures.off in
     let at_off : (basis : Basis) (counts : List ℕ) → IsBegun basis counts → Lived basis counts off.told = λ basis counts begun.
-    stopped_off basis stream.all stream.shown c.args.plan.image counts start.told home.told off.told c.images_follow_calls.ensures.quiet c.power_leaves_an_image.ensures c.requires.quiet whole powers (at_home basis counts begun) in
+    stopped_off (TellsRounds failed c.args.plan.worker) basis stream.all stream.shown c.args.plan.image counts start.told home.told off.told c.images_follow_calls.ensures.quiet c.power_leaves_an_image.ensures c.requires.quiet whole powers (at_home basis counts begun) in
     let taken = c.give_back.ensures.taken in
     let power = c.in_ok-power.ensures.off in
     let other : ended ≢ Err ends.Write = elim c.match-ended.branch [
@@ -172,30 +188,32 @@ returns-clause-ran g c =
     streamed_on shows.Report mount.fds c.args.plan pass c.args.input.now _ (g.I.Source.left c.run_stream-closed.new.src) _ _ _ _ _ _ ended calls zero stream did.at_end (λ last. ap g.I.Source.left (did.unread last)) did.read_failed did.read_kept did.write_failed did.write_kept refl in
     let runnable = runnable_all shows.Report c.args.input.now _ ended stream.all c.requires.input streamed.trace in
     let whole : (holding : Holding) → home.told ≡ Some holding → AreWholeStores holding = λ holding is. g.met.T.Bench.whole c.give_back.new.self holding is in
+    let sums = sum_by g.T.Part.Lines.fault_count came.parts.items + sum_by g.T.Store.Backing.fault_count came.stores.items in
+    let last_faults : ℕ = (state c.show_recovered-told.new.bench).faults in
+    let failed : Type 0 = Rose (saturated (start.faults + failed_before pass)) last_faults in
+    let home_faults : home.faults ≡ saturated (start.faults + sums) = ap (λ (s : BenchState). s.faults) c.give_back.ensures.taken ∙ ap (λ (s : BenchState). saturated (s.faults + sums)) c.arm.ensures in
+    let no_less : saturated (start.faults + sums) ≤ last_faults = omega (arith, home_faults, ap (λ (s : BenchState). s.faults) c.in_ok-power.ensures.off, c.show_recovered-told.ensures.never_falls) in
     let came_home =
-    stopped_home g.T.Part.Lines.history g.T.Store.Backing.history mount pass zero c.args.plan stream.all stream.outcome stream.shown _ _ came.parts.items came.stores.items _ came.placed came.tail c.args.k start (state c.arm.new.self) home.told
-    c.runs_leave_shown_lives.ensures runnable c.requires.new stream.ran stream.first_shown by (length-map came.stores.items g.T.Store.Backing.history ∙ did.ran.2.many_stores) c.requires.names c.arm.ensures c.give_back.ensures.told whole in
+    stopped_home g.T.Part.Lines.history g.T.Store.Backing.history mount pass zero c.args.plan stream.all stream.outcome stream.shown _ _ came.parts.items came.stores.items _ came.placed came.tail c.args.k start (state c.arm.new.self) home.told last_faults
+    c.runs_leave_shown_lives.ensures runnable c.requires.new stream.ran stream.first_shown stream.over no_less by (length-map came.stores.items g.T.Store.Backing.history ∙ did.ran.2.many_stores) c.requires.names c.arm.ensures c.give_back.ensures.told whole in
     let made = mounted_lines (mount_of mount.board.opened) pass.spare in
-    let Lived : Basis → List ℕ → Option Holding → Type 0 = λ basis counts told. IfSome start.told (λ left. IsAway basis.names left → HasLived basis stream.all stream.shown counts left.stores told) in
+    let Lived : Basis → List ℕ → Option Holding → Type 0 = λ basis counts told. IfSome start.told (λ left. IsAway basis.names left → HasLived (TellsRounds failed c.args.plan.worker) basis stream.all stream.shown counts left.stores told) in
     let IsBegun : Basis → List ℕ → Type 0 = λ basis counts. BeginsMount basis stream.all mount pass × (basis.names ≡ start.lent) × (counts ≡ made) in
     let at_home : (basis : Basis) (counts : List ℕ) → IsBegun basis counts → Lived basis counts home.told = λ basis counts begun. subst (λ counts. Lived basis counts home.told) (sym begun.2) (came_home basis begun.0 begun.1) in
     let off = state c.power.new.self in
     let powers = ap (λ (s : BenchState). s.told) c.in_ok-power.ensures.off in
     let at_off : (basis : Basis) (counts : List ℕ) → IsBegun basis counts → Lived basis counts off.told = λ basis counts begun.
-    stopped_off basis stream.all stream.shown c.args.plan.image counts start.told home.told off.told c.images_follow_calls.ensures.quiet c.power_leaves_an_image.ensures c.requires.quiet whole powers (at_home basis counts begun) in
+    stopped_off (TellsRounds failed c.args.plan.worker) basis stream.all stream.shown c.args.plan.image counts start.told home.told off.told c.images_follow_calls.ensures.quiet c.power_leaves_an_image.ensures c.requires.quiet whole powers (at_home basis counts begun) in
     let last = state c.show_recovered-told.new.bench in
     let told = c.show_recovered-told.result in
     let recovery = c.show_recovered-told.ensures in
     let taken = c.give_back.ensures.taken in
     let power = c.in_ok-power.ensures.off in
-    let sums = sum_by g.T.Part.Lines.fault_count came.parts.items + sum_by g.T.Store.Backing.fault_count came.stores.items in
     let kept = kept_calls calls stream.outcome c.in_ok-kept.kept c.in_ok-kept.was stream.kept in
     let sorted = kept.0 in
     let out : HasOutcome mount.fds c.args.plan stream.all.calls pass (Ok sorted) zero = subst (λ outcome. HasOutcome mount.fds c.args.plan stream.all.calls pass outcome zero) kept.1 stream.ran in
     let same : last.settled ≡ off.faults = ap (λ (s : BenchState). s.settled) recovery.back ∙ ap (λ (s : BenchState). s.settled) power ∙ sym (ap (λ (s : BenchState). s.faults) power) in
     let at_last : max off.faults last.settled ≡ last.settled = omega (arith, same) in
-    let home_faults : home.faults ≡ saturated (start.faults + sums) = ap (λ (s : BenchState). s.faults) taken ∙ ap (λ (s : BenchState). saturated (s.faults + sums)) c.arm.ensures in
-    let no_less : saturated (start.faults + sums) ≤ last.faults = omega (arith, home_faults, ap (λ (s : BenchState). s.faults) power, recovery.never_falls) in
     let never = λ (basis : Basis) (counts : List ℕ) (begun : IsBegun basis counts).
     never_told g.T.Part.Lines.device g.T.Part.Lines.history g.T.Part.Lines.fault_count g.T.Part.Lines.room g.T.Store.Backing.device g.T.Store.Backing.history g.T.Store.Backing.fault_count mount pass zero c.args.plan stream.all sorted came.parts.items
     came.stores.items came.placed came.tail c.args.k start (state c.arm.new.self) home off last runnable c.requires.new out did.ran.2 by c.arm.ensures taken c.give_back.ensures.told whole power recovery.back c.power_leaves_an_image.ensures basis begun.0 begun.1 in
@@ -215,7 +233,7 @@ returns-clause-ran g c =
       settled = λ armed. subst (λ settled. IsSettledStop settled last.faults told) at_last (counted_settled off.faults last.faults last.settled told (omega (arith, same)) recovery.cause);
       cause = λ same. absurd (omega (arith, same, ap (λ (s : BenchState). s.arms) recovery.back, ap (λ (s : BenchState). s.arms) power, ap (λ (s : BenchState). s.arms) taken, ap (λ (s : BenchState). s.arms) c.arm.ensures));
       never = λ why is basis counts begun. never basis counts begun c.images_stand_for_files.ensures.good c.a_header_has_one_answer.ensures.read why (recovery.refused why is);
-      life = λ basis counts begun. stopped_recovered basis stream.all stream.shown counts start.told off.told last.told c.images_follow_calls.ensures.quiet
+      life = λ basis counts begun. stopped_recovered (TellsRounds failed c.args.plan.worker) basis stream.all stream.shown counts start.told off.told last.told c.images_follow_calls.ensures.quiet
           (subst (λ told. IfSome told IsQuietHolding) (sym powers) (quiet_after c.args.plan.image home.told c.power_leaves_an_image.ensures whole)) recovery.standing (at_off basis counts begun);
       ran = IfOk-weaker told
           (λ text. IfSome off.told (λ holding. (sorted : SortedCalls) → AreKeptOf c.in_ok-kept.kept sorted → ShowsRecovered holding sorted [] last.told (history_lines 0 (map placed_call sorted.placed.items) ++ text.items)))

@@ -2,6 +2,9 @@ use Rattle.std.proofs.Common.{[], ◌≡◌, ◌+◌, ◌∙◌, ℕ, List, IfSo
 use Rattle.std.specs.Global.{Vec}
 use Rattle.std.specs.Prelude.{Err, Option, Some, option_map}
 use Rattle.std.proofs.lemmas.List.{length-map}
+use Rattle.nv_top.proofs.RanLemmas.{told_at_hand}
+use Rattle.nv_runner.specs.ToldRounds.{TellsRounds}
+use Rattle.nv_plain.specs.Faults.{Rose}
 use Rattle.nv_plain.specs.Faults.{saturated}
 use Rattle.nv_pmem.specs.Part.{Part}
 use Rattle.nv_pmem.specs.RowStates.{AreNow, row_tells_at}
@@ -62,12 +65,13 @@ returns-in-Err-clause-ran g c =
     let after = sum_by g.T.Part.Lines.fault_count failed.parts.items + sum_by g.T.Store.Backing.fault_count failed.stores.items in
     let cause : CountHasCause {T = Vec ℕ} (saturated (start.faults + before)) home.faults (Err failed.stop) =
     cause_saturated {T = Vec ℕ} start.faults before after (saturated (start.faults + before)) home.faults (Err failed.stop) refl (ap (λ (s : BenchState). s.faults) taken) c.in-Err.ensures.cause in
+    let tells : (basis : Basis) → TellsRounds (Rose (saturated (start.faults + before)) home.faults) c.args.options.worker basis trace [] [] = λ basis. told_at_hand _ c.args.options.worker basis input.more trace input.reader c.requires.input in
     let over_region = λ (parts : List Part) (now : List Store) (parts_are : AreNow (map history region.parts.items) parts) (now_are : AreNow (map held stores) now).
     let basis = basis_over region c.args.options.pages (files_of now) in
-    let rest = rest_lives history held basis trace region.parts.items stores parts now region.next parts_are now_are (region_as c.args.opened.version region.is_region).tells (quiet_stores held stores now now_are c.requires.synced) refl in
-    let left_so : AreLeftSo history held basis trace [] (line_counts parts) failed.parts.items failed.stores.items =
+    let rest = rest_lives {Tells = TellsRounds (Rose (saturated (start.faults + before)) home.faults) c.args.options.worker} history held basis trace region.parts.items stores parts now region.next parts_are now_are (region_as c.args.opened.version region.is_region).tells (quiet_stores held stores now now_are c.requires.synced) refl (tells basis) in
+    let left_so : AreLeftSo (TellsRounds (Rose (saturated (start.faults + before)) home.faults) c.args.options.worker) history held basis trace [] (line_counts parts) failed.parts.items failed.stores.items =
     left_same history held basis trace [] (line_counts parts) failed.parts.items region.parts.items failed.stores.items stores c.in-Err.ensures.same_parts c.in-Err.ensures.same_stores rest in
-    if_some start.told (λ left. IsAway region.names left → HasLived basis trace [] (line_counts parts) left.stores home.told) (λ left told_is away.
+    if_some start.told (λ left. IsAway region.names left → HasLived (TellsRounds (Rose (saturated (start.faults + before)) home.faults) c.args.options.worker) basis trace [] (line_counts parts) left.stores home.told) (λ left told_is away.
     lived_home basis trace [] history held failed.parts.items failed.stores.items (line_counts parts) home.told left.stores (λ holding is. g.met.T.Bench.whole c.give_back.new.self holding is) left_so
     (λ disks are. all_behind region.names left.stores (named_stores region.names disks) away
     ∙ own_stores region.names disks (sym (length_now (map held failed.stores.items) disks are ∙ ap length c.in-Err.ensures.same_stores ∙ length-map stores held ∙ c.requires.stores)) region.is_region.names_are.distinct)
@@ -89,7 +93,7 @@ returns-in-Err-clause-ran g c =
       life = λ basis counts over.
           let parts = over.0 in
           let lived = over_region parts over.1 over.2 over.3 in
-          let Lived : Basis → List ℕ → Type 0 = λ basis counts. IfSome start.told (λ left. IsAway basis.names left → HasLived basis trace [] counts left.stores home.told) in
+          let Lived : Basis → List ℕ → Type 0 = λ basis counts. IfSome start.told (λ left. IsAway basis.names left → HasLived (TellsRounds (Rose (saturated (start.faults + before)) home.faults) c.args.options.worker) basis trace [] counts left.stores home.told) in
           subst (λ basis. Lived basis counts) (sym over.4) (subst (λ counts. Lived (basis_over region c.args.options.pages (files_of over.1)) counts) (sym over.5) lived);
       ran = tt;
     }
