@@ -1,10 +1,11 @@
 -- Summaries: what is counted of a run of generated calls, and what the load alone says of it.
 use Rattle.std.specs.Prelude.{◌≡◌, ℕ, ◌+◌, ◌*◌, nat_eq, if◌then◌else◌, true, List, [], ◌∷◌, length, sum_by, fold, codes}
+use Rattle.std.specs.List.{concat}
 use lib.Pointwise.{pointwise}
 use Rattle.nv_plain.specs.Faults.{saturated}
 use Rattle.nv_plain.specs.Files.{overwritten}
 use Rattle.nv_plain.specs.declared.call.Reply.{Reply}
-use Rattle.nv_plain.specs.declared.call.Reply.TheVariants.{Bytes, Count, Done}
+use Rattle.nv_plain.specs.declared.call.Reply.TheVariants.{Bytes, Parts, Count, Done}
 use Rattle.nv_trace.specs.declared.trace_call.TraceCall.{TraceCall}
 use Rattle.nv_trace.specs.declared.trace_call.TraceCall.TheVariants.{Pread, Pwrite, Fsync}
 use Rattle.nv_trace.specs.declared.trace_call.TracedCall.{TracedCall}
@@ -26,6 +27,7 @@ bytes_written (Fsync fd) = 0
 -- how many bytes a reply gives
 abbrev pub bytes_read : Reply → ℕ
 bytes_read (Bytes bytes) = length bytes
+bytes_read (Parts parts) = length (concat parts)
 bytes_read (Count count) = 0
 bytes_read Done = 0
 

@@ -1,10 +1,12 @@
 //! What is counted of calls that were made.
-ghost use Rattle.std.specs.Prelude.{◌≡◌, ◌∷◌, ◌++◌, List, []};
+ghost use Rattle.std.specs.Prelude.{◌≡◌, ◌∷◌, ◌++◌, length, List, []};
+ghost use Rattle.std.specs.List.{concat};
+ghost use Rattle.nv_plain.specs.Faults.{saturated};
 ghost use Rattle.nv_runner.specs.Lists.{MadeCall};
 ghost use Rattle.nv_load.specs.Counts.{counts_of};
 ghost use Rattle.nv_load.specs.Summaries.{bytes_read, bytes_written};
 
-use nv_plain::Reply;
+use nv_plain::{Bytes, Reply};
 use nv_runner::Answer;
 use nv_trace::{TraceCall, TracedCall};
 
@@ -62,12 +64,24 @@ fn bytes_written(call: &TraceCall) -> u64
     }
 }
 
-// How many bytes a reply gives.
+// How many bytes a reply gives, up to 2^64 - 1.
 fn bytes_read(reply: &Reply) -> u64
-    ensures { result ≡ bytes_read reply.now }
+    ensures { result ≡ saturated (bytes_read reply.now) }
 {
     match reply {
         Reply::Bytes(bytes) => bytes.len() as u64,
+        Reply::Parts(parts) => bytes_in(parts.as_slice()),
         Reply::Count(_) | Reply::Done => 0,
     }
+}
+
+// How many bytes some parts have, up to 2^64 - 1.
+fn bytes_in(parts: &[Bytes]) -> u64
+    ensures { result ≡ saturated (length (concat parts.now)) }
+{
+    let mut all: u64 = 0;
+    for part in parts {
+        all = all.saturating_add(part.len() as u64);
+    }
+    all
 }

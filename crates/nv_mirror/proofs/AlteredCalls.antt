@@ -59,6 +59,7 @@ called_same mirror call is refusal place start now mid same called = record {
   made = made_so now mid same called.still call called.steps start called.own called.made;
   own = called.own;
   refused = called.refused;
+  plain = called.plain;
   placed = called.placed;
   later = record { number = called.later.number; ended = called.later.ended; made = called.later.made };
   spare = called.spare;

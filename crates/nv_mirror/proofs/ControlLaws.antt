@@ -3,12 +3,12 @@ use Rattle.std.proofs.Common.{◌≡◌, ℕ, true, List, [], ◌∷◌, inl, re
 use Rattle.std.specs.Prelude.{Option, Some, None}
 use Rattle.nv_plain.specs.Histories.{Answered}
 use Rattle.nv_plain.specs.declared.call.FileCall.{FileCall}
-use Rattle.nv_plain.specs.declared.call.FileCall.TheVariants.{Read, Write, Sync}
+use Rattle.nv_plain.specs.declared.call.FileCall.TheVariants.{Read, Write, Readv, Writev, Sync}
 use Rattle.nv_plain.specs.declared.call.Reply.{Reply}
 use Rattle.nv_core.specs.state.Core.{values_stepped}
 use Rattle.nv_core.specs.steps.Ops.{Op, Place}
 use Rattle.nv_core.specs.steps.Order.{Values, Work, next_step, plain_reply}
-use Rattle.nv_core.specs.state.Passes.{Pass, TakePlace}
+use Rattle.nv_core.specs.state.Passes.{Pass, TakePlace, plain_call}
 use Rattle.nv_core.specs.steps.PassSteps.{stepped, left_after, mine_after}
 use Rattle.nv_core.specs.content.Content.{RunsKeepContent}
 use Rattle.nv_core.specs.invariant.InvariantLaws.{RunsAreSound}
@@ -74,6 +74,7 @@ module _ {State : Type 0} (mirror : Mirror State) (call : FileCall) (opens : Opt
       subst (λ opens_then. (then_called : InCall mirror call opens_then then_is refusal_then place_then start new) × (then_called.steps ≡ step_made step.works found ∷ called.steps)) opened_then (
         record {
           idle = called.idle;
+          plain = called.plain;
           steps = step_made step.works found ∷ called.steps;
           made = (now, called.made, taken_by now now new opens core_op found (between_self now) step);
           own = subst (λ (o : Opened). AreOwn o.sizes call (step_made step.works found ∷ called.steps)) (sym opened)
@@ -142,13 +143,15 @@ pub record PlaceLaws (opened : Opened) : Type 0 where
 reply_to : (call : FileCall) (reply : Reply) → reply ≡ plain_reply call → IsReplyTo call reply
 reply_to (Read file at len) reply is = λ none. is
 reply_to (Write file at bytes) reply is = is
+reply_to (Readv file at lens) reply is = is
+reply_to (Writev file at parts) reply is = is
 reply_to (Sync file) reply is = is
 
 -- and one that takes it
 pub told_placed : (call : FileCall) (start now new : PassState) (found : ℕ) → PlaceLaws now.view.opened → IsUnplaced start.view now.view → IsLater start now → now.view.opened ≡ start.view.opened
-    → (pass_of now.view).call ≡ call → (pass_of now.view).control ≡ TakePlace → Postcondition now None (place_op now.view) found new → Told call (Some found) start new
-told_placed call start now new found laws told later same makes control step = (
+    → (pass_of now.view).call ≡ call → (pass_of now.view).asked ≡ call → plain_call call ≡ call → (pass_of now.view).control ≡ TakePlace → Postcondition now None (place_op now.view) found new → Told call (Some found) start new
+told_placed call start now new found laws told later same makes asks plain control step = (
   _,
   reply_to call _ (ap (reply_at now.view.opened.sizes (values_of now.view) (pass_of now.view)) control ∙ ap plain_reply makes),
-  done_plainly start now new call _ found later told makes (subst IsCallFree (sym control) (λ sizes values pass work due. due)) step (placed laws.sound now new found laws.mount step) laws.content laws.legally laws.mount same,
+  done_plainly start now new call _ found later told asks plain (subst IsCallFree (sym control) (λ sizes values pass work due. due)) step (placed laws.sound now new found laws.mount step) laws.content laws.legally laws.mount same,
 )

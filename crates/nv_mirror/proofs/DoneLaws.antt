@@ -9,7 +9,7 @@ use Rattle.nv_plain.specs.declared.call.FileCall.TheVariants.{Sync}
 use Rattle.nv_plain.specs.declared.call.Reply.{Reply}
 use Rattle.nv_core.specs.steps.PassSteps.{as_answered}
 use Rattle.nv_core.proofs.state.PlainCalls.{as_it_is}
-use Rattle.nv_core.specs.state.Passes.{Pass}
+use Rattle.nv_core.specs.state.Passes.{Pass, plain_call}
 use Rattle.nv_core.specs.content.Content.{Opens, RunsKeepContent}
 use Rattle.nv_core.specs.state.Core.{Core, changed_pass}
 use Rattle.nv_core.specs.steps.Ops.{Place}
@@ -49,14 +49,14 @@ seen_whole sizes core before by reply found =
     (ap (λ (p : Pass). p.seen) (number_here there.passes by (changed_pass sizes by there (Place reply) found)))
 
 -- a call that has gone on so far, and has not been refused, has its place
-module _ (old loaded new : PassState) (call : FileCall) (reply : Reply) (place : ℕ) (later : IsLater old loaded) (still : IsUnplaced old.view loaded.view) (makes : (pass_of loaded.view).call ≡ call)
-    (free : IsCallFree (pass_of loaded.view).control) (is : Postcondition loaded None (Place reply) place new) (placed : IsPlaced loaded.view new.view place) where
+module _ (old loaded new : PassState) (call : FileCall) (reply : Reply) (place : ℕ) (later : IsLater old loaded) (still : IsUnplaced old.view loaded.view) (asks : (pass_of loaded.view).asked ≡ call)
+    (is_plain : plain_call call ≡ call) (free : IsCallFree (pass_of loaded.view).control) (is : Postcondition loaded None (Place reply) place new) (placed : IsPlaced loaded.view new.view place) where
   abbrev before : List Answered
   before = (state_of loaded.view.opened is.steps.run).history
 
   same_answer : as_answered loaded.view.number (pass_of loaded.view) reply ≡ answered_by old.view call reply
-  same_answer = as_it_is loaded.view.number (pass_of loaded.view) reply placed.made
-      ∙ ap (λ (c : FileCall). answered_by loaded.view c reply) makes ∙ ap (λ (n : ℕ). record (answered_by old.view call reply) { caller = n }) later.number
+  same_answer = as_it_is loaded.view.number (pass_of loaded.view) reply call asks is_plain
+      ∙ ap (λ (n : ℕ). record (answered_by old.view call reply) { caller = n }) later.number
 
   seen_there : (pass_of new.view).seen ≡ before ++ as_answered loaded.view.number (pass_of loaded.view) reply ∷ []
   seen_there = ap (λ (p : Pass). p.seen) (stepped_there loaded new None (Place reply) place free is)

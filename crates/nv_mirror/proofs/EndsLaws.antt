@@ -3,11 +3,13 @@ use Rattle.std.proofs.Common.{◌≡◌, ℕ, false, [], refl, sym, ap, subst, �
 use Rattle.std.specs.Prelude.{Option, Some, None}
 use Rattle.nv_plain.specs.declared.call.FileCall.{FileCall}
 use Rattle.nv_core.specs.state.Words.{Sizes}
-use Rattle.nv_core.specs.state.Passes.{Idle, IsAllowed, Pass}
+use Rattle.nv_core.specs.state.Passes.{Idle, IsAllowed, Pass, plain_call}
 use Rattle.nv_core.specs.steps.ControlSteps.{first_control}
 use Rattle.nv_core.specs.steps.Events.{CallMayBegin}
 use Rattle.nv_core.specs.steps.PassSteps.{begun}
-use Rattle.nv_core.proofs.state.PlainCalls.{itself}
+use Rattle.nv_op.specs.declared.asked.Asked.{Asked}
+use Rattle.nv_op.specs.declared.asked.Asked.TheVariants.{Read as AsksRead, Write as AsksWrite, Sync as AsksSync}
+use Rattle.nv_op.specs.Ops.{call_asked}
 use Rattle.nv_table.specs.invariant.Idle.{IsIdle}
 use Rattle.nv_table.specs.state.Opened.{Opened}
 use Rattle.nv_table.specs.state.Views.{pass_of, values_of, OwnsSlots}
@@ -19,18 +21,25 @@ use Rattle.nv_mirror.specs.Controls.{Mirror, MirroredControl, control_mirror, mi
 use Rattle.nv_mirror.specs.OwnSteps.{AreOwn}
 use Rattle.nv_mirror.specs.PassSteps.{refusal_in}
 
--- what a machine has at hand of a pass with a call that begins, which is made as itself
-pub begun_mirror : (sizes : Sizes) (call : FileCall) (pass : Pass)
-    → mirrored_control (begun sizes call pass) ≡ record { control = first_control sizes call; call = call; owned = pass.owned; sized = false; length = 0 }
-begun_mirror sizes call pass = ap (λ (made : FileCall). record { control = first_control sizes made; call = made; owned = pass.owned; sized = false; length = 0 }) (itself call)
+-- a call that is asked for is plain
+pub asked_plain : (asked : Asked) → plain_call (call_asked asked) ≡ call_asked asked
+asked_plain (AsksRead file at len) = refl
+asked_plain (AsksWrite file at bytes) = refl
+asked_plain (AsksSync file) = refl
+
+-- what a machine has at hand of a pass with a plain call that begins, which is made as itself
+pub begun_mirror : (sizes : Sizes) (call : FileCall) (pass : Pass) → plain_call call ≡ call
+    → mirrored_control (begun sizes call pass) ≡ record { control = first_control sizes call; call = call; asked = call; owned = pass.owned; sized = false; length = 0 }
+begun_mirror sizes call pass plain = ap (λ (made : FileCall). record { control = first_control sizes made; call = made; asked = call; owned = pass.owned; sized = false; length = 0 }) plain
 
 pub may_begin : (sizes : Sizes) (call : FileCall) (pass : Pass) → pass.control ≡ Idle → IsAllowed sizes call → CallMayBegin sizes call pass
-may_begin sizes call pass idle allowed = record { idle = idle; allowed = subst (IsAllowed sizes) (sym (itself call)) allowed }
+may_begin sizes call pass idle allowed = record { idle = idle; allowed = subst (IsAllowed sizes) (sym allowed.plain) allowed }
 
-pub call_begins : {State : Type 0} (mirror : Mirror State) (call : FileCall) (start : PassState) → IsIdle start
+pub call_begins : {State : Type 0} (mirror : Mirror State) (call : FileCall) (start : PassState) → plain_call call ≡ call → IsIdle start
     → InCall mirror call (Some call) (mirror.of (begun start.view.opened.sizes call (pass_of start.view))) None None start start
-call_begins mirror call start idle = record {
+call_begins mirror call start plain idle = record {
   idle = idle;
+  plain = plain;
   steps = [];
   made = refl;
   own = (refl, refl);
@@ -61,6 +70,7 @@ call_ends mirror call is refusal place start now called control owned = record {
 pub call_over : (call other : FileCall) (is : MirroredControl) (refusal : Option Refusal) (place : Option ℕ) (start now : PassState) → call ≡ other → InCall control_mirror call None is refusal place start now
     → is.control ≡ Idle → is.owned ≡ [] → IsOver other refusal place start now
 call_over call other is refusal place start now same called control owned = subst (λ c. IsOver c refusal place start now) same record {
+  plain = called.plain;
   steps = called.steps;
   made = called.made;
   own = subst (λ (o : Opened). AreOwn o.sizes call called.steps) called.mount called.own;

@@ -32,7 +32,7 @@ use Rattle.nv_mirror.specs.declared.front.FrontControl.TheVariants as fronts
 use Rattle.nv_mirror.specs.declared.front.FrontMachine.{FrontMachine}
 use Rattle.nv_mirror.specs.Controls.{MirroredControl, control_mirror, mirrored_control, with_mirrored_control, InCall}
 use Rattle.nv_mirror.specs.Fronts.{HasPages, front_call_of, file_in, size_in, IsOpen, FitsAt, Fits, front_op_at, front_opens_at, refuse, locked, front_after_at, front_mirror_at, front_refusal_at, IsInCall, IsUnderWay}
-use Rattle.nv_mirror.proofs.EndsLaws.{call_begins, begun_mirror, may_begin}
+use Rattle.nv_mirror.proofs.EndsLaws.{asked_plain, call_begins, begun_mirror, may_begin}
 use Rattle.nv_mirror.proofs.ControlLaws.{mirror_due, mirror_on, told_kept}
 
 -- ---- words
@@ -63,7 +63,7 @@ pub front_begins : (m : FrontMachine) (start : PassState) → Fits start.view.op
 front_begins m start fits control idle = (
   fits,
   subst (λ s. IsInCall m s start start) (sym control)
-      (subst (λ is. InCall control_mirror (front_call_of m) (Some (front_call_of m)) is None None start start) mirrors (call_begins control_mirror (front_call_of m) start idle)),
+      (subst (λ is. InCall control_mirror (front_call_of m) (Some (front_call_of m)) is None None start start) mirrors (call_begins control_mirror (front_call_of m) start (asked_plain m.asked) idle)),
 )
   where
     at : FitsAt m fronts.Begin
@@ -80,7 +80,7 @@ front_begins m start fits control idle = (
     owned = idle.owned ∙ sym (ap₂ (λ b n. with_if b (SIZE (file_in m)) (pages_from m.first n)) at.1 at.0)
 
     mirrors : mirrored_control (begun start.view.opened.sizes (front_call_of m) (pass_of start.view)) ≡ front_mirror_at m fronts.Begin
-    mirrors = begun_mirror start.view.opened.sizes (front_call_of m) (pass_of start.view)
+    mirrors = begun_mirror start.view.opened.sizes (front_call_of m) (pass_of start.view) (asked_plain m.asked)
         ∙ ap₂ (λ control owned. record (front_mirror_at m fronts.Begin) { control = control; owned = owned; sized = false; length = 0 }) first owned
         ∙ ap₂ (λ sized length. record (front_mirror_at m fronts.Begin) { sized = sized; length = length }) (sym at.1) (sym at.2)
 
@@ -119,7 +119,7 @@ front_due m (Over refusal) start now fits at runs way = absurd runs
 
 -- the control state of a machine, at a control state of the core and with some cells among its owned cells
 abbrev ctl : FrontMachine → Control → List Word → MirroredControl
-ctl m control owned = record { control = control; call = front_call_of m; owned = owned; sized = m.sized; length = m.length }
+ctl m control owned = record { control = control; call = front_call_of m; asked = front_call_of m; owned = owned; sized = m.sized; length = m.length }
 
 abbrev owned_of : FrontMachine → Bool → ℕ → List Word
 owned_of m size held = with_if size (SIZE (file_in m)) (pages_from m.first held)

@@ -29,6 +29,7 @@ module _ (call : FileCall) (refusal : Option Refusal) (place : Option ℕ) (star
     made = called.made;
     own = called.own;
     refused = called.refused;
+    plain = called.plain;
     placed = called.placed;
     later = called.later;
     spare = called.spare;
@@ -49,6 +50,7 @@ module _ (call : FileCall) (refusal : Option Refusal) (place : Option ℕ) (star
     made = called.made;
     own = called.own;
     refused = called.refused;
+    plain = called.plain;
     placed = called.placed;
     later = called.later;
     spare = called.spare;

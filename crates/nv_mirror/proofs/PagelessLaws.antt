@@ -2,7 +2,7 @@
 use Rattle.std.proofs.Common.{◌≡◌, ℕ, zero, suc, ◌+◌, ◌==◌, ◌^◌, nat_lt, Bool, true, false, if◌then◌else◌, [], ◌∷◌, refl, sym, ap, subst, ◌∙◌, arith}
 use Rattle.std.specs.Prelude.{Option, Some, None, Err, ◌&&◌}
 use Rattle.nv_plain.specs.declared.call.FileCall.{FileCall}
-use Rattle.nv_plain.specs.declared.call.FileCall.TheVariants.{Read, Write, Sync}
+use Rattle.nv_plain.specs.declared.call.FileCall.TheVariants.{Read, Write, Readv, Writev, Sync}
 use Rattle.nv_core.specs.steps.ControlSteps.{first_control, ordered, giving}
 use Rattle.nv_core.specs.steps.Ops.{Place}
 use Rattle.nv_core.specs.steps.Order.{plain_reply}
@@ -23,7 +23,7 @@ use Rattle.nv_mirror.specs.declared.pageless.PagelessControl.TheVariants.{Over}
 use Rattle.nv_mirror.specs.declared.pageless.PagelessControl.TheVariants as controls
 use Rattle.nv_mirror.specs.Controls.{MirroredControl, control_mirror, Told, InCall}
 use Rattle.nv_mirror.specs.Pageless.{Fits, IsOpen, IsInCall, pageless_op, pageless_opens_at, pageless_after, mirror, pageless_refusal_at, pageless_place_at}
-use Rattle.nv_mirror.proofs.EndsLaws.{call_begins, begun_mirror, may_begin}
+use Rattle.nv_mirror.proofs.EndsLaws.{asked_plain, call_begins, begun_mirror, may_begin}
 use Rattle.nv_mirror.proofs.ControlLaws.{PlaceLaws, mirror_due, mirror_on, place_plainly, told_kept, told_placed}
 
 -- what the core makes of a call without a page
@@ -38,15 +38,17 @@ no_page sizes (Read file at zero) none = record { first = refl; next = refl; las
 no_page sizes (Read file at (suc len)) none = absurd (omega (arith, none))
 no_page sizes (Write file at []) none = record { first = refl; next = refl; last = refl; grows = refl }
 no_page sizes (Write file at (byte ∷ bytes)) none = absurd (omega (arith, none))
+no_page sizes (Readv file at lens) none = record { first = refl; next = refl; last = refl; grows = refl }
+no_page sizes (Writev file at parts) none = record { first = refl; next = refl; last = refl; grows = refl }
 no_page sizes (Sync file) none = record { first = refl; next = refl; last = refl; grows = refl }
 
 pub pageless_begins : (asked : Asked) (start : PassState) → len_of (call_asked asked) ≡ 0 → IsIdle start → IsInCall asked controls.Begin start start
 pageless_begins asked start none idle =
     subst (λ (is : MirroredControl). InCall control_mirror (call_asked asked) (Some (call_asked asked)) is None None start start)
-    (begun_mirror start.view.opened.sizes (call_asked asked) (pass_of start.view)
+    (begun_mirror start.view.opened.sizes (call_asked asked) (pass_of start.view) (asked_plain asked)
     ∙ ap (λ owned. record (mirror (call_asked asked) controls.Begin) { control = first_control start.view.opened.sizes (call_asked asked); owned = owned }) idle.owned
     ∙ ap (λ control. record (mirror (call_asked asked) controls.Begin) { control = control }) (no_page start.view.opened.sizes (call_asked asked) none).first)
-    (call_begins control_mirror (call_asked asked) start idle)
+    (call_begins control_mirror (call_asked asked) start (asked_plain asked) idle)
 
 pub free : (asked : Asked) (control : PagelessControl) (start now : PassState) → IsOpen control → IsInCall asked control start now → IsCallFree (pass_of now.view).control
 free asked controls.Begin start now runs way = subst (λ (p : PassState). IsCallFree (pass_of p.view).control) (sym way.fresh) (subst IsCallFree (sym way.idle.control) (λ sizes values pass work due. due))
@@ -98,7 +100,7 @@ module _ (asked : Asked) (start now new : PassState) (found : ℕ) (fits : Fits 
   pageless_on controls.TakePlace laws runs way is =
       (mirror_on _ _ _ _ _ _ start now way _ _ _ _ _ found new is (free asked controls.TakePlace start now runs way)
       (λ pass number history. ap (λ control. record (mirror (call_asked asked) controls.TakePlace) { control = control }) placed) (λ pass. refl) refl refl refl refl
-      (told_placed (call_asked asked) start now new found laws way.told way.later way.mount (ap (λ (c : MirroredControl). c.call) way.mirrors) (ap (λ (c : MirroredControl). c.control) way.mirrors) is)).0
+      (told_placed (call_asked asked) start now new found laws way.told way.later way.mount (ap (λ (c : MirroredControl). c.call) way.mirrors) (ap (λ (c : MirroredControl). c.asked) way.mirrors) (asked_plain asked) (ap (λ (c : MirroredControl). c.control) way.mirrors) is)).0
     where
       placed : (if is_write (call_asked asked) && (nat_lt 0 (len_of (call_asked asked)) && nat_lt 0 (at_of (call_asked asked) + len_of (call_asked asked))) then GrowLength else giving now.view.opened.sizes (call_asked asked)) ≡ Idle
       placed = ap (λ b. if b && (nat_lt 0 (len_of (call_asked asked)) && nat_lt 0 (at_of (call_asked asked) + len_of (call_asked asked))) then GrowLength else giving now.view.opened.sizes (call_asked asked)) none.grows ∙ none.last

@@ -75,7 +75,7 @@ module _ (m : VisitMachine) (list : List ℕ) (start now : PassState) (way : IsI
 
     placed_as : IsPlacedAs start.view new.view (visit_call_of m) (reply_at sizes values pass pass.control) found
     placed_as =
-        done_plainly start now new (visit_call_of m) _ found way.called.later way.called.told (ap (λ (c : MirroredControl). c.call) way.called.mirrors) free step (placed laws.sound now new found laws.mount step) laws.content laws.legally laws.mount way.called.mount
+        done_plainly start now new (visit_call_of m) _ found way.called.later way.called.told (ap (λ (c : MirroredControl). c.asked) way.called.mirrors) refl free step (placed laws.sound now new found laws.mount step) laws.content laws.legally laws.mount way.called.mount
 
     -- the reply is in front of the list
     pub place_told : IsReadPlaced m.file m.at list start.view new.view record { place = found; len = m.copied }
@@ -92,7 +92,7 @@ module _ (m : VisitMachine) (list : List ℕ) (start now : PassState) (way : IsI
 
     -- what the core makes of its end
     abbrev ended : Bool → MirroredControl
-    ended size = record { control = if size then GiveSize else (if page_count sizes (visit_call_of m) == 0 then Idle else GivePage (first_page sizes (visit_call_of m))); call = visit_call_of m; owned = visit_locks m; sized = m.sized; length = m.length }
+    ended size = record { control = if size then GiveSize else (if page_count sizes (visit_call_of m) == 0 then Idle else GivePage (first_page sizes (visit_call_of m))); call = visit_call_of m; asked = visit_call_of m; owned = visit_locks m; sized = m.sized; length = m.length }
 
     ends_so : (size : Bool) → m.sized ≡ size → ended size ≡ release_mirror_at (read_released m found) (if size then releases.GiveSize else releases.GivePage 0)
     ends_so true is = ap (λ b. record (ended true) { owned = Rattle.nv_mirror.specs.OwnedCells.with_if b (Rattle.nv_core.specs.state.Words.SIZE m.file) (pages_from m.first m.pages) }) is

@@ -46,6 +46,7 @@ module _ {State : Type 0} (mirror : Mirror State) (call : FileCall) (is : State)
         → is_own call refusal core_op ≡ true → Told call place_then start new → InCall mirror call None then_is refusal_then place_then start new
     worked_on then_is refusal_then place_then goes leaves refuses places may told_then = record {
       idle = called.idle;
+      plain = called.plain;
       steps = record { opens = None; works = step.works; op = core_op; found = found } ∷ called.steps;
       made = (now, called.made, taken_by now before new None core_op found between step);
       own = subst (λ (o : Opened). AreOwn o.sizes call (record { opens = None; works = step.works; op = core_op; found = found } ∷ called.steps)) (sym opened)

@@ -5,7 +5,7 @@ use Rattle.nv_plain.specs.declared.call.FileCall.TheVariants.{Read}
 use Rattle.nv_plain.specs.declared.call.Reply.{Reply}
 use Rattle.nv_core.specs.steps.Order.{plain_reply}
 use Rattle.nv_core.specs.state.Words.{Word}
-use Rattle.nv_core.specs.state.Passes.{Control, Pass}
+use Rattle.nv_core.specs.state.Passes.{Control, Pass, plain_call}
 use Rattle.nv_table.specs.steps.SeatSteps.{with_call}
 use Rattle.nv_table.specs.passes.PassesMade.{IsShownStill}
 use Rattle.nv_table.specs.invariant.Idle.{IsIdle, IsLater}
@@ -24,19 +24,20 @@ pub record Mirror (State : Type 0) : Type 0 where
 
 -- ---- of a call that draws no numbers
 
--- all that says which step a pass may make, but for what cells keep
+-- all that says which step a pass may make, but for what cells keep, and what it was asked
 pub record MirroredControl : Type 0 where
   pub control : Control
   pub call : FileCall
+  pub asked : FileCall
   pub owned : List Word
   pub sized : Bool
   pub length : ℕ
 
 abbrev pub mirrored_control : Pass → MirroredControl
-mirrored_control pass = record { control = pass.control; call = pass.call; owned = pass.owned; sized = pass.sized; length = pass.length }
+mirrored_control pass = record { control = pass.control; call = pass.call; asked = pass.asked; owned = pass.owned; sized = pass.sized; length = pass.length }
 
 abbrev pub with_mirrored_control : MirroredControl → Pass → Pass
-with_mirrored_control is pass = record pass { control = is.control; call = is.call; owned = is.owned; sized = is.sized; length = is.length }
+with_mirrored_control is pass = record pass { control = is.control; call = is.call; asked = is.asked; owned = is.owned; sized = is.sized; length = is.length }
 
 abbrev pub control_mirror : Mirror MirroredControl
 control_mirror = record { of = mirrored_control; with = with_mirrored_control; whole = λ pass. refl }
@@ -93,10 +94,11 @@ abbrev pub Told : FileCall → Option ℕ → (start now : PassState) → Type 0
 Told call None start now = IsUnplaced start.view now.view
 Told call (Some place) start now = (reply : Reply) × IsReplyTo call reply × IsPlacedAs start.view now.view call reply place
 
--- A call that has made some steps since a start, all its own, and what came of it: the pass is what its machine has at hand, with the call that the next step begins,
+-- A plain call that has made some steps since a start, all its own, and what came of it: the pass is what its machine has at hand, with the call that the next step begins,
 -- if that does.
 pub record InCall {State : Type 0} (mirror : Mirror State) (call : FileCall) (opens : Option FileCall) (is : State) (refusal : Option Refusal) (place : Option ℕ) (start now : PassState) : Type 0 where
   pub idle : IsIdle start
+  pub plain : plain_call call ≡ call
   pub steps : List PassStep
   pub made : HasMade steps start now
   pub own : AreOwnSoFar opens now.view.opened.sizes call steps
@@ -111,8 +113,9 @@ pub record InCall {State : Type 0} (mirror : Mirror State) (call : FileCall) (op
   pub told : Told call place start now
   pub mirrors : mirror.of (with_call now.view.opened.sizes opens (pass_of now.view)) ≡ is
 
--- The call is over, by these steps, all its own, and its pass is idle again: why it is refused, if it is, or its place.
+-- The plain call is over, by these steps, all its own, and its pass is idle again: why it is refused, if it is, or its place.
 pub record IsOver (call : FileCall) (refusal : Option Refusal) (place : Option ℕ) (start now : PassState) : Type 0 where
+  pub plain : plain_call call ≡ call
   pub steps : List PassStep
   pub made : HasMade steps start now
   pub own : AreOwn start.view.opened.sizes call steps

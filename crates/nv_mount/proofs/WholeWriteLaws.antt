@@ -14,7 +14,7 @@ use Rattle.nv_plain.specs.Images.{Entry, Image, entry_at, entry_of, header_of}
 use Rattle.nv_plain.specs.Layouts.{mount_layout}
 use Rattle.nv_plain.specs.Recovered.{recovered}
 use Rattle.nv_plain.specs.declared.call.FileCall.{FileCall}
-use Rattle.nv_plain.specs.declared.call.FileCall.TheVariants.{Read, Write, Sync}
+use Rattle.nv_plain.specs.declared.call.FileCall.TheVariants.{Read, Write, Readv, Writev, Sync}
 use Rattle.nv_header.specs.Regions.{ReadsAs}
 use Rattle.nv_core.specs.state.Words.{Sizes, HEAD, TAIL, PAGE, ENTRY, slot_of_entry}
 use Rattle.nv_core.specs.state.Passes.{Cleaning, Control, Idle, SeizeEntry, CommitGroup, PledgePage, ReadyEntry, TakePlace, SetStopAfterCommit, Fault, Pass, IsOneOf, is_write, first_page, page_count, times, plain_call}
@@ -577,6 +577,8 @@ module _ (right : HistoriesAreMadeRight) (sound : RunsAreSound) (tell : OwnEvent
       let same : n + 0 ≡ n = omega arith in absurd (none 0 some (subst (λ m. (entry_of (image (1 + slot_of_entry sizes m))).commit ≡ m + 1) (sym same) commits))
   whole_call (Write file at bytes) n some commits (inr whole) = whole
   whole_call (Read file at len) n some commits open_ = absurd open_
+  whole_call (Readv file at lens) n some commits open_ = absurd open_
+  whole_call (Writev file at parts) n some commits open_ = absurd open_
   whole_call (Sync file) n some commits open_ = absurd open_
 
   group_there : (n : ℕ) → IsOneOf groups n → IsGroupThere n
@@ -631,6 +633,8 @@ module _ (right : HistoriesAreMadeRight) (sound : RunsAreSound) (tell : OwnEvent
   whole_commits : (call : FileCall) (n : ℕ) → ReadsWhole sizes call n image → (entry_of (image (1 + slot_of_entry sizes n))).commit ≡ n + 1
   whole_commits (Write file at bytes) n whole = let same : n + 0 ≡ n = omega arith in subst (λ m. (entry_of (image (1 + slot_of_entry sizes m))).commit ≡ n + 1) same whole.committed
   whole_commits (Read file at len) n whole = absurd whole
+  whole_commits (Readv file at lens) n whole = absurd whole
+  whole_commits (Writev file at parts) n whole = absurd whole
   whole_commits (Sync file) n whole = absurd whole
 
   group_where : (n : ℕ) → InWindow core n → first ≤ n → (call : FileCall) → ReadsWhole sizes call n image → IsOneOf groups n

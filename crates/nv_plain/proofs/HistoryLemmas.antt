@@ -2,7 +2,7 @@
 use Rattle.std.proofs.Common.{◌≡◌, List, [], ◌∷◌, ◌++◌, length, refl, ◌∙◌}
 use Rattle.std.proofs.lemmas.List.{length-set}
 use Rattle.nv_plain.specs.declared.call.FileCall.{FileCall}
-use Rattle.nv_plain.specs.declared.call.FileCall.TheVariants.{Read, Write, Sync}
+use Rattle.nv_plain.specs.declared.call.FileCall.TheVariants.{Read, Write, Readv, Writev, Sync}
 use Rattle.nv_plain.specs.Files.{Files}
 use Rattle.nv_plain.specs.Calls.{reply_of, files_after}
 use Rattle.nv_plain.specs.Histories.{Answered, after, IsLegal}
@@ -33,6 +33,8 @@ IsLegal-back (answered ∷ later) k files whole = IsLegal-back later k (files_af
 pub length-files_after : (call : FileCall) (files : Files) → length (files_after call files).contents ≡ length files.contents
 length-files_after (Read file at len) files = refl
 length-files_after (Write file at bytes) files = length-set files.contents file _
+length-files_after (Readv file at lens) files = refl
+length-files_after (Writev file at parts) files = length-set files.contents file _
 length-files_after (Sync file) files = refl
 
 pub length-after : (h : List Answered) (files : Files) → length (after h files).contents ≡ length files.contents

@@ -1,24 +1,36 @@
 -- Calls as made: the plain call that a call is made as, and what it answers by that.
 use Rattle.std.specs.Prelude.{◌≡◌, ℕ, List, [], ◌∷◌, ◌++◌}
+use Rattle.std.specs.List.{concat, sum}
 use Rattle.nv_plain.specs.declared.call.FileCall.{FileCall}
-use Rattle.nv_plain.specs.declared.call.FileCall.TheVariants.{Read, Write, Sync}
+use Rattle.nv_plain.specs.declared.call.FileCall.TheVariants.{Read, Write, Readv, Writev, Sync}
 use Rattle.nv_plain.specs.declared.call.Reply.{Reply}
+use Rattle.nv_plain.specs.declared.call.Reply.TheVariants.{Bytes, Parts}
 use Rattle.nv_plain.specs.Files.{Files}
-use Rattle.nv_plain.specs.Calls.{reply_of, files_after, IsWithin}
+use Rattle.nv_plain.specs.Calls.{filled, reply_of, files_after, IsWithin}
 use Rattle.nv_plain.specs.Histories.{Answered, after}
 
 -- ---- one call
 
--- The plain call that a call is made as on these files: one that names the bytes of its file itself. Each call so far is plain, and made as itself.
+-- The plain call that a call is made as on these files: a read, a write or a sync that names the bytes of its file itself. A vectored
+-- read is made as one of the sum of its lengths, and a vectored write as one of its parts joined in order.
 abbrev pub as_made : Files → FileCall → FileCall
 as_made files (Read file at len) = Read file at len
 as_made files (Write file at bytes) = Write file at bytes
+as_made files (Readv file at lens) = Read file at (sum lens)
+as_made files (Writev file at parts) = Write file at (concat parts)
 as_made files (Sync file) = Sync file
+
+-- what parts of these lengths get of the bytes that a reply gives
+abbrev pub in_parts : (lens : List ℕ) → Reply → Reply
+in_parts lens (Bytes bytes) = Parts (filled lens bytes)
+in_parts lens reply = reply
 
 -- what a call replies, where the plain call that it is made as replies this
 abbrev pub reply_from : FileCall → Reply → Reply
 reply_from (Read file at len) reply = reply
 reply_from (Write file at bytes) reply = reply
+reply_from (Readv file at lens) reply = in_parts lens reply
+reply_from (Writev file at parts) reply = reply
 reply_from (Sync file) reply = reply
 
 -- A call leaves the files that its plain call leaves, replies by what that one replies, and is within the files where that one is.

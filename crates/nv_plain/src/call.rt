@@ -1,5 +1,5 @@
 //! Calls on files, and their replies.
-use crate::Bytes;
+use crate::{Bytes, Lens, Parts};
 
 /// A call on a file, by the file's number, which counts from 0. Offsets and lengths are in bytes,
 /// and no call reaches a byte at or above `2^60`.
@@ -11,6 +11,11 @@ pub enum FileCall {
     /// `pwrite` (POSIX.1-2017, write): all of the bytes go to `at` and on. Where `at` is past the end
     /// of the file, the gap reads as zeros (POSIX.1-2017, lseek). No bytes change nothing.
     Write { file: u64, at: u64, bytes: Bytes },
+    /// `preadv`: a read of as many bytes as the lengths add up to. They fill the parts in order, each to its
+    /// end before the next.
+    Readv { file: u64, at: u64, lens: Lens },
+    /// `pwritev`: a write of the parts joined in order.
+    Writev { file: u64, at: u64, parts: Parts },
     /// `fsync` (POSIX.1-2017, fsync): what was written to the file is kept from then on. The bytes that
     /// the file has stay as they are.
     Sync { file: u64 },
@@ -22,6 +27,8 @@ pub enum FileCall {
 pub enum Reply {
     /// The bytes that a read gives: as many as it asked for, or those up to the end of the file.
     Bytes(Bytes),
+    /// What each part of a vectored read got, in order: behind the end of the file none.
+    Parts(Parts),
     /// How many bytes a write wrote, which is all of them.
     Count(u64),
     /// A sync is done.

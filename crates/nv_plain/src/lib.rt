@@ -8,6 +8,7 @@ pub mod limits;
 mod memory;
 mod mode;
 mod name;
+mod parts;
 mod plain_files;
 
 pub use bytes::Bytes;
@@ -19,4 +20,5 @@ pub use laws::{
 pub use memory::NoMemory;
 pub use mode::Mode;
 pub use name::is_file_name;
+pub use parts::{Lens, Parts};
 pub use plain_files::PlainFiles;

@@ -1,9 +1,10 @@
 //! Plain files in memory: the slow program beside the definitions.
 ghost use Rattle.std.specs.Prelude.{◌≡◌, ◌+◌, ◌^◌, ◌<◌, ◌≤◌, length, map, IfOk, OnOk, OnErr};
-ghost use Rattle.nv_plain.specs.Files.{empty_files, contents_of, overwritten};
-ghost use Rattle.nv_plain.specs.Calls.{reply_of, files_after, IsWithin, MayTakeMemory};
+ghost use Rattle.std.specs.List.{concat, sum};
+ghost use Rattle.nv_plain.specs.Files.{bytes_at, empty_files, contents_of, overwritten};
+ghost use Rattle.nv_plain.specs.Calls.{filled, reply_of, files_after, IsWithin, MayTakeMemory};
 
-use crate::{Bytes, FileCall, NoMemory, Reply};
+use crate::{Bytes, FileCall, NoMemory, Parts, Reply};
 use std::alloc::Global;
 use std::marker::Model;
 
@@ -49,8 +50,8 @@ impl PlainFiles {
 
     /// Makes a call on a file that there is, below byte `2^60`. A read copies the bytes that it gives.
     ///
-    /// After `NoMemory` nothing is changed. It comes only of a read, or of a write that would make its file
-    /// longer.
+    /// After `NoMemory` nothing is changed. It comes only of a read, of a write that would make its file
+    /// longer, or of a vectored write, whose parts are joined first.
     pub fn apply(&mut self, call: &FileCall) -> Result<Reply, NoMemory>
         requires { IsWithin call.now self.old }
         ensures reply { IfOk result (λ reply. reply ≡ reply_of call.now self.old) }
@@ -61,11 +62,8 @@ impl PlainFiles {
         let alloc = self.alloc;
         match call {
             FileCall::Read { file, at, len } => {
-                let bytes = &self.files[*file as usize];
-                let from = (*at as usize).min(bytes.len());
-                let to = ((*at + *len) as usize).min(bytes.len());
-                let read = Vec::from_slice(alloc, &bytes[from..to])?;
-                Ok(Reply::Bytes(Bytes::from_vec(read)))
+                let bytes = bytes_at(&self.files[*file as usize], *at, *len);
+                Ok(Reply::Bytes(Bytes::from_vec(Vec::from_slice(alloc, bytes)?)))
             }
             FileCall::Write { file, at, bytes } => {
                 overwrite(
@@ -74,6 +72,17 @@ impl PlainFiles {
                     bytes.as_slice(),
                 )?;
                 Ok(Reply::Count(bytes.len() as u64))
+            }
+            FileCall::Readv { file, at, lens } => {
+                let lens = lens.as_slice();
+                let bytes = bytes_at(&self.files[*file as usize], *at, total(lens));
+                Ok(Reply::Parts(Parts::from_vec(fill(alloc, lens, bytes)?)))
+            }
+            FileCall::Writev { file, at, parts } => {
+                let joined = join(alloc, parts.as_slice())?;
+                let bytes = &mut self.files[*file as usize];
+                overwrite(bytes, *at as usize, &joined)?;
+                Ok(Reply::Count(joined.len() as u64))
             }
             FileCall::Sync { .. } => Ok(Reply::Done),
         }
@@ -86,6 +95,16 @@ impl PlainFiles {
     {
         &self.files[file as usize]
     }
+}
+
+// A file's bytes from an offset on, as far as it has any.
+fn bytes_at(bytes: &[u8], at: u64, len: u64) -> &[u8]
+    requires { at + len ≤ 2 ^ 60 }
+    ensures { result.now ≡ bytes_at bytes.now at len }
+{
+    let from = (at as usize).min(bytes.len());
+    let to = ((at + len) as usize).min(bytes.len());
+    &bytes[from..to]
 }
 
 // Writes over a file's bytes, past the end too. The one step that can fail comes first.
@@ -105,4 +124,41 @@ fn overwrite(bytes: &mut Vec<u8>, at: usize, source: &[u8]) -> Result<(), NoMemo
     }
     bytes[at..end].copy_from_slice(source);
     Ok(())
+}
+
+// What the lengths add up to.
+fn total(lens: &[u64]) -> u64
+    requires { sum lens.now ≤ 2 ^ 60 }
+    ensures { result ≡ sum lens.now }
+{
+    let mut all = 0;
+    for len in lens {
+        all += *len;
+    }
+    all
+}
+
+// The parts joined in order.
+fn join(alloc: Global, parts: &[Bytes]) -> Result<Vec<u8>, NoMemory>
+    ensures { IfOk result (λ bytes. bytes.items ≡ concat parts.now) }
+{
+    let mut bytes = Vec::new(alloc);
+    for part in parts {
+        bytes.extend_from_slice(part.as_slice())?;
+    }
+    Ok(bytes)
+}
+
+// What parts of these lengths get of the bytes.
+fn fill(alloc: Global, lens: &[u64], bytes: &[u8]) -> Result<Vec<Bytes>, NoMemory>
+    ensures { IfOk result (λ parts. parts.items ≡ filled lens.now bytes.now) }
+{
+    let mut parts = Vec::new(alloc);
+    let mut rest = bytes;
+    for len in lens {
+        let (part, behind) = rest.split_at((*len as usize).min(rest.len()));
+        parts.push(Bytes::from_vec(Vec::from_slice(alloc, part)?))?;
+        rest = behind;
+    }
+    Ok(parts)
 }

@@ -122,7 +122,7 @@ append_fits m (Refused refusal) start now fits plain way = absurd plain
 -- the core's control state, at a control state and with some cells among its owned cells
 abbrev at : AppendMachine → Control → List Word → (head first entries : ℕ) → Drawing
 at m control owned head first entries =
-    record { mirrored_control = record { control = control; call = append_call_of m; owned = owned; sized = m.sized; length = m.length }; head = head; first = first; entries = entries }
+    record { mirrored_control = record { control = control; call = append_call_of m; asked = append_call_of m; owned = owned; sized = m.sized; length = m.length }; head = head; first = first; entries = entries }
 
 -- Where the core's control state leads, with what it is refused for, and its place, the machine goes.
 record Leads (sizes : Sizes) (m : AppendMachine) (is : Drawing) (refusal : Option Refusal) (place : Option ℕ) (next : AppendMachine) : Type 0 where
@@ -311,7 +311,7 @@ module _ (m : AppendMachine) (start now new : PassState) (found : ℕ) (fits : F
       (kept (appends.ReadyEntry ready) plain way step (λ pass number history. refl) (λ pass number. refl)) (readies_leads here m fits way.before ready (ready + 1 == m.pages) stands.0 stands.1 refl)
   append_on appends.TakePlace laws stands plain way step =
       led appends.TakePlace _ _ _ _ _ plain way step (λ pass number history. ap (λ s. at m s (locks m) way.before.head way.before.first way.before.entries) (growing_so here m fits)) (λ pass. refl) refl refl refl
-      (told_placed (append_call_of m) start now new found laws way.called.told way.called.later way.called.mount (ap (λ (d : Drawing). d.mirrored_control.call) way.called.mirrors) (ap (λ (d : Drawing). d.mirrored_control.control) way.called.mirrors) step)
+      (told_placed (append_call_of m) start now new found laws way.called.told way.called.later way.called.mount (ap (λ (d : Drawing). d.mirrored_control.call) way.called.mirrors) (ap (λ (d : Drawing). d.mirrored_control.asked) way.called.mirrors) refl (ap (λ (d : Drawing). d.mirrored_control.control) way.called.mirrors) step)
       (places_leads here m fits way.before found (nat_lt m.length m.end))
   append_on appends.GrowLength laws stands plain way step =
       led appends.GrowLength _ _ _ _ _ plain way step (λ pass number history. ap (λ s. at m s (locks m) way.before.head way.before.first way.before.entries) (ending_so here m fits)) (λ pass. refl) refl refl refl

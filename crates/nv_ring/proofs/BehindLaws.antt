@@ -1,5 +1,5 @@
 -- Behind the front: a write goes on from where its front ends.
-use Rattle.std.proofs.Common.{◌≡◌, ℕ, if◌then◌else◌, sym, ap, ap₂, subst, ◌∙◌}
+use Rattle.std.proofs.Common.{◌≡◌, ℕ, if◌then◌else◌, refl, sym, ap, ap₂, subst, ◌∙◌}
 use Rattle.std.specs.Prelude.{None}
 use Rattle.nv_core.specs.state.Passes.{WriteLoadHead, VisitPage, TakePlace, is_read, is_write, file_of}
 use Rattle.nv_core.specs.state.Words.{SIZE}
@@ -26,6 +26,7 @@ draw_behind f m start now behind way = record {
     made = way.made;
     own = subst (λ call. AreOwn now.view.opened.sizes call way.steps) (sym behind.call) way.own;
     refused = subst (λ call. refusal_in now.view.opened.sizes call way.steps ≡ None) (sym behind.call) way.refused;
+    plain = refl;
     placed = way.placed;
     later = way.later;
     spare = way.spare;
@@ -50,5 +51,5 @@ draw_behind f m start now behind way = record {
     controls_so : front_at f Passed ≡ (draw_mirror_at now.view.opened.sizes m (record { head = 0; first = 0; entries = 0 }) draws.LoadHead).mirrored_control
     controls_so =
         ap₂ (λ control owned. record (front_at f Passed) { control = control; owned = owned }) control owned
-        ∙ ap (λ call. record { control = WriteLoadHead; call = call; owned = locks (append_of m); sized = f.sized; length = f.length }) (sym behind.call)
-        ∙ ap₂ (λ sized length. record { control = WriteLoadHead; call = draw_call_of m; owned = locks (append_of m); sized = sized; length = length }) (sym behind.sized) (sym behind.length)
+        ∙ ap (λ call. record { control = WriteLoadHead; call = call; asked = call; owned = locks (append_of m); sized = f.sized; length = f.length }) (sym behind.call)
+        ∙ ap₂ (λ sized length. record { control = WriteLoadHead; call = draw_call_of m; asked = draw_call_of m; owned = locks (append_of m); sized = sized; length = length }) (sym behind.sized) (sym behind.length)

@@ -35,6 +35,7 @@ coarser call opens is refusal place start now called = record {
   made = called.made;
   own = called.own;
   refused = called.refused;
+  plain = called.plain;
   placed = called.placed;
   later = called.later;
   spare = called.spare;

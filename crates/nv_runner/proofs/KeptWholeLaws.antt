@@ -6,7 +6,7 @@ use Rattle.nv_plain.specs.Modes.{can_write}
 use Rattle.nv_plain.specs.Recovered.{recovered}
 use Rattle.nv_plain.specs.Images.{Image}
 use Rattle.nv_plain.specs.declared.call.FileCall.{FileCall}
-use Rattle.nv_plain.specs.declared.call.FileCall.TheVariants.{Read, Write, Sync}
+use Rattle.nv_plain.specs.declared.call.FileCall.TheVariants.{Read, Write, Readv, Writev, Sync}
 use Rattle.nv_entry.specs.Group.{IsWholeGroup}
 use Rattle.nv_core.specs.log.EntryImages.{ReadsWhole}
 use Rattle.nv_core.specs.state.Passes.{Fault, IsOneOf, is_write}
@@ -72,6 +72,8 @@ has_write sizes own (Write file at bytes) number image page entries whole =
     subst (λ e. IsWholeGroup own.page number file at bytes (λ i. image (1 + (number + i) % e))) (sym entries)
     (subst (λ p. IsWholeGroup p number file at bytes (λ i. image (1 + (number + i) % sizes.entries))) (sym page) whole)
 has_write sizes own (Read file at len) number image page entries whole = whole
+has_write sizes own (Readv file at lens) number image page entries whole = whole
+has_write sizes own (Writev file at parts) number image page entries whole = whole
 has_write sizes own (Sync file) number image page entries whole = whole
 
 pub open_calls_are_kept_whole : OpenCallsAreKeptWhole

@@ -90,7 +90,7 @@ over_cause None file IsDone last now refusal Causes done over = done over.0 over
 module _ (laws : WordLaws) (tell : OwnEventsTell) (reads_heed : ReadsHeedStop) (syncs_heed : SyncsHeedStop) (fds : List Fd) (worker : Option ℕ) where
   over_shows : (call : FileCall) (last now : PassState) (refusal : Refusal) → IsMount (mount_of last.view.opened) → IsOver call (Some refusal) None last now → Shows last.view.opened.sizes call now (Some refusal)
   over_shows call last now refusal mount over =
-      subst (Shows last.view.opened.sizes call now) over.refused (stands laws tell last.view.opened.sizes call last mount over.steps now over.made (own_any last.view.opened.sizes call over.steps over.own)).why
+      subst (Shows last.view.opened.sizes call now) over.refused (stands laws tell last.view.opened.sizes call over.plain last mount over.steps now over.made (own_any last.view.opened.sizes call over.steps over.own)).why
 
   -- sizes at the try are those behind it
   sizes_on : (call : TraceCall) (last now : PassState) (refusal : Refusal) → now.view.opened ≡ last.view.opened

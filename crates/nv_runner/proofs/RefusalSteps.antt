@@ -3,9 +3,9 @@ use Rattle.std.proofs.Common.{◌≡◌, ◌≢◌, ◌⊎◌, ℕ, ◌+◌, ◌
 use Rattle.std.specs.Prelude.{Option, Some, None}
 use Rattle.std.proofs.lemmas.Bool.{and_parts, ltb-false, leb-false, true≢false}
 use Rattle.nv_plain.specs.declared.call.FileCall.{FileCall}
-use Rattle.nv_plain.specs.declared.call.FileCall.TheVariants.{Read, Write, Sync}
+use Rattle.nv_plain.specs.declared.call.FileCall.TheVariants.{Read, Write, Readv, Writev, Sync}
 use Rattle.nv_core.specs.state.Words.{Sizes, Word, STOP, ORDER, HEAD, TAIL, PAGE, place}
-use Rattle.nv_core.specs.state.Passes.{IsOneOf, Pass, page_count, is_write}
+use Rattle.nv_core.specs.state.Passes.{IsOneOf, Pass, page_count, is_write, plain_call}
 use Rattle.nv_core.specs.steps.Events.{CallsDevice, Event}
 use Rattle.nv_core.specs.steps.Frames.{OwnEventsTell}
 use Rattle.nv_core.specs.steps.Ops.{Op, Load, Take, Stop, Draw, ByCleaner}
@@ -13,7 +13,6 @@ use Rattle.nv_core.specs.steps.Order.{Work}
 use Rattle.nv_core.specs.steps.Opening.{IsMount}
 use Rattle.nv_core.specs.invariant.Draws.{entries_of}
 use Rattle.nv_core.proofs.state.Choices.{if_both}
-use Rattle.nv_core.proofs.state.PlainCalls.{itself}
 use Rattle.nv_table.specs.steps.SeatSteps.{act_of, events, pass_before, pass_worked, with_call}
 use Rattle.nv_table.specs.steps.StepContracts.{Postcondition}
 use Rattle.nv_table.specs.state.Opened.{Opened, IsRunOf, mount_of, state_of}
@@ -72,7 +71,11 @@ draws_write : (call : FileCall) (before : Option Refusal) → is_own call before
 draws_write (Write file at bytes) before own = tt
 draws_write (Read file at len) None own = absurd (cc)
 draws_write (Read file at len) (Some refusal) own = absurd (cc)
+draws_write (Readv file at lens) None own = absurd (cc)
+draws_write (Writev file at parts) None own = absurd (cc)
 draws_write (Sync file) None own = absurd (cc)
+draws_write (Readv file at lens) (Some refusal) own = absurd (cc)
+draws_write (Writev file at parts) (Some refusal) own = absurd (cc)
 draws_write (Sync file) (Some refusal) own = absurd (cc)
 
 -- a device fault
@@ -187,7 +190,7 @@ stops_once true false entries once = omega arith
 stops_once false true entries once = omega arith
 stops_once false false entries once = omega arith
 
-module _ (laws : WordLaws) (tell : OwnEventsTell) (sizes : Sizes) (call : FileCall) (start : PassState) (mount : IsMount (mount_of start.view.opened)) where
+module _ (laws : WordLaws) (tell : OwnEventsTell) (sizes : Sizes) (call : FileCall) (is_plain : plain_call call ≡ call) (start : PassState) (mount : IsMount (mount_of start.view.opened)) where
   -- a step behind some, with the pass as it finds it
   module _ (step : PassStep) (earlier : List PassStep) (middle now : PassState) (was : Stands sizes call start earlier middle) (taken : HasTaken step middle now) (own : IsLastOwn sizes call step earlier)
       (stopped : stops_in earlier ≡ is_fault (refusal_in sizes call earlier)) where
@@ -211,7 +214,7 @@ module _ (laws : WordLaws) (tell : OwnEventsTell) (sizes : Sizes) (call : FileCa
 
     there_makes : there.call ≡ call
     there_makes = elim own.1 [
-      | inl first ↦ ap (λ (p : Pass). p.call) (opened_with (Some call) first) ∙ itself call
+      | inl first ↦ ap (λ (p : Pass). p.call) (opened_with (Some call) first) ∙ is_plain
       | inr later ↦
           ap (λ (p : Pass). p.call) (opened_with None later.0) ∙ calls_leave (λ (p : Pass). p.call) (λ sizes work p. refl) seen.opened.sizes works (pass_of seen)
           ∙ ap (λ (v : PassView). (pass_of v).call) taken.between.view ∙ was.makes later.1

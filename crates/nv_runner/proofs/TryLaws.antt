@@ -13,12 +13,12 @@ use Rattle.nv_plain.specs.declared.call.FileCall.{FileCall}
 use Rattle.nv_plain.specs.declared.call.FileCall.TheVariants.{Read, Write}
 use Rattle.nv_plain.specs.declared.mode.Mode.{Mode}
 use Rattle.nv_core.specs.state.Words.{Sizes}
+use Rattle.nv_core.specs.state.Passes.{plain_call}
 use Rattle.nv_core.specs.steps.Events.{Event}
 use Rattle.nv_core.specs.steps.Frames.{OwnEventsTell}
 use Rattle.nv_core.specs.steps.Opening.{IsMount}
 use Rattle.nv_core.specs.invariant.Draws.{entries_of, placed_entries}
 use Rattle.nv_core.proofs.invariant.KeepsDraws.{idle_passes_have_drawn}
-use Rattle.nv_core.proofs.state.PlainCalls.{itself}
 use Rattle.nv_table.specs.invariant.Idle.{IsIdle}
 use Rattle.nv_table.specs.state.Opened.{Opened, mount_of}
 use Rattle.nv_table.specs.state.States.{PassState}
@@ -52,9 +52,9 @@ use Rattle.nv_runner.proofs.RunLaws.{Went, batch_went, plain_went, went_as, went
 
 -- ---- what a pass has drawn
 
-placed_more : (sizes : Sizes) (calls : List Answered) (one : Answered) → placed_entries sizes (calls ++ one ∷ []) ≡ placed_entries sizes calls + entries_of sizes one.call
-placed_more sizes [] one = let same = ap (entries_of sizes) (itself one.call) in omega (arith, same)
-placed_more sizes (first ∷ rest) one = let again = placed_more sizes rest one in omega (arith, again)
+placed_more : (sizes : Sizes) (calls : List Answered) (one : Answered) → plain_call one.call ≡ one.call → placed_entries sizes (calls ++ one ∷ []) ≡ placed_entries sizes calls + entries_of sizes one.call
+placed_more sizes [] one plain = let same = ap (entries_of sizes) plain in omega (arith, same)
+placed_more sizes (first ∷ rest) one plain = let again = placed_more sizes rest one plain in omega (arith, again)
 
 -- between two calls
 goes : (worker : Option ℕ) (calls : Bool) (placed many : ℕ) (old new : PassState) → IsIdle old → IsIdle new → (worker ≡ None → calls ≡ true) → Went calls many old new
@@ -102,7 +102,7 @@ again_mild refusal again = refl
 module _ (laws : WordLaws) (tell : OwnEventsTell) (fds : List Fd) where
   over_stands : (call : FileCall) (refusal : Option Refusal) (place : Option ℕ) (last now : PassState) → IsMount (mount_of last.view.opened) → (over : IsOver call refusal place last now)
       → Stands last.view.opened.sizes call last over.steps now
-  over_stands call refusal place last now mount over = stands laws tell last.view.opened.sizes call last mount over.steps now over.made (own_any last.view.opened.sizes call over.steps over.own)
+  over_stands call refusal place last now mount over = stands laws tell last.view.opened.sizes call over.plain last mount over.steps now over.made (own_any last.view.opened.sizes call over.steps over.own)
 
   -- a read
   read_went : (fd at : ℕ) (list : List ℕ) (last now : PassState) (result : Result Done Refusal) → IsMount (mount_of last.view.opened) → IsReadOver fds fd at list last now result → Went true 0 last now
@@ -159,7 +159,7 @@ module _ (laws : WordLaws) (tell : OwnEventsTell) (fds : List Fd) where
       → IfOk result (λ done. (file : ℕ) × (file_of_fd fds fd ≡ Some file) × IsReadPlaced file at list start.view now.view done) → OnErr result (IsUnplaced start.view now.view)
       → placed_entries start.view.opened.sizes (pass_of now.view).mine ≡ placed_entries start.view.opened.sizes (pass_of start.view).mine + 0
   read_mine fd at list start now (Ok done) told kept =
-      let more = placed_more start.view.opened.sizes (pass_of start.view).mine _ in let is = ap (placed_entries start.view.opened.sizes) told.2.placed.mine in is ∙ more
+      let more = placed_more start.view.opened.sizes (pass_of start.view).mine _ in let is = ap (placed_entries start.view.opened.sizes) told.2.placed.mine in is ∙ more refl
   read_mine fd at list start now (Err refusal) told kept = unplaced_mine start.view.opened.sizes start now kept
 
   pub reads_go_on : (fd at : ℕ) (list : List ℕ) (start now : PassState) (result : Result Done Refusal) → IsMount (mount_of start.view.opened) → IsIdle start → IsIdle now
@@ -182,7 +182,7 @@ module _ (laws : WordLaws) (tell : OwnEventsTell) (fds : List Fd) where
       → placed_entries start.view.opened.sizes (pass_of now.view).mine
       ≡ placed_entries start.view.opened.sizes (pass_of start.view).mine + write_placed result (pages_touched at (length bytes) start.view.opened.sizes.page)
   write_mine fd at bytes start now (Ok done) told kept =
-      let more = placed_more start.view.opened.sizes (pass_of start.view).mine _ in let is = ap (placed_entries start.view.opened.sizes) told.2.placed.mine in is ∙ more
+      let more = placed_more start.view.opened.sizes (pass_of start.view).mine _ in let is = ap (placed_entries start.view.opened.sizes) told.2.placed.mine in is ∙ more refl
   write_mine fd at bytes start now (Err refusal) told kept = unplaced_mine start.view.opened.sizes start now kept
 
   write_both : (sizes : Sizes) (at : ℕ) (bytes : List ℕ) (result : Result Done Refusal)
@@ -218,7 +218,7 @@ sync_went file start now result over = absurd over
 
 sync_mine : (sizes : Sizes) (file : Option ℕ) (start now : PassState) (result : Result Done Refusal) → IfOk result (λ done. IsSyncPlaced file start.view now.view done.place) → OnErr result (IsUnplaced start.view now.view)
     → placed_entries sizes (pass_of now.view).mine ≡ placed_entries sizes (pass_of start.view).mine + 0
-sync_mine sizes (Some file) start now (Ok done) told kept = let more = placed_more sizes (pass_of start.view).mine _ in let is = ap (placed_entries sizes) told.0.mine in is ∙ more
+sync_mine sizes (Some file) start now (Ok done) told kept = let more = placed_more sizes (pass_of start.view).mine _ in let is = ap (placed_entries sizes) told.0.mine in is ∙ more refl
 sync_mine sizes None start now (Ok done) told kept = absurd told
 sync_mine sizes file start now (Err refusal) told kept = unplaced_mine sizes start now kept
 

@@ -4,7 +4,7 @@ use Rattle.nv_plain.specs.Files.{Files}
 use Rattle.nv_plain.specs.Images.{Image}
 use Rattle.nv_plain.specs.Recovered.{recovered}
 use Rattle.nv_plain.specs.declared.call.FileCall.{FileCall}
-use Rattle.nv_plain.specs.declared.call.FileCall.TheVariants.{Read, Write, Sync}
+use Rattle.nv_plain.specs.declared.call.FileCall.TheVariants.{Write}
 use Rattle.nv_entry.specs.Group.{IsWholeGroup}
 use Rattle.nv_core.specs.state.Passes.{IsOneOf}
 use Rattle.nv_table.specs.state.States.{PassState}
@@ -21,8 +21,7 @@ use Rattle.nv_runner.specs.Sorted.{OpenedCall, opened_call}
 -- An image has this write whole, from this number of the log on: its file, its offset and all its bytes.
 abbrev pub HasWrite : RunSizes → Image → (number : ℕ) → FileCall → Type 0
 HasWrite sizes image number (Write file at bytes) = IsWholeGroup sizes.page number file at bytes (λ i. image (1 + (number + i) % sizes.entries))
-HasWrite sizes image number (Read file at len) = ⊥
-HasWrite sizes image number (Sync file) = ⊥
+HasWrite sizes image number call = ⊥
 
 -- A call that was left open is among the groups that an image recovers only as itself.
 abbrev pub IsKeptWhole : Basis → Traced → Image → (bytes : Files) → OpenedCall → Type 0

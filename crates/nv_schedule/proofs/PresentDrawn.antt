@@ -5,17 +5,16 @@ use Rattle.std.specs.Borrow.{Bor}
 use Rattle.std.proofs.lemmas.Bool.{lt-ltb}
 use Rattle.nv_plain.specs.Histories.{Answered}
 use Rattle.nv_plain.specs.declared.call.FileCall.{FileCall}
-use Rattle.nv_plain.specs.declared.call.FileCall.TheVariants.{Read, Write, Sync}
+use Rattle.nv_plain.specs.declared.call.FileCall.TheVariants.{Read, Write, Readv, Writev, Sync}
 use Rattle.nv_plain.specs.Pieces.{pages_touched}
 use Rattle.nv_plain.specs.declared.call.Reply.{Reply}
 use Rattle.nv_mount.specs.declared.fds.Fd.{Fd}
 use Rattle.nv_core.specs.invariant.Draws.{drawn_of, entries_of, faulted_entries, open_entries, placed_entries}
 use Rattle.nv_core.proofs.invariant.KeepsDraws.{idle_passes_have_drawn}
-use Rattle.nv_core.specs.state.Passes.{Control, Fault, is_write, len_of, TakePage, LoadLength, TakeSize, LoadStop, LoadOrder, GiveBack, WriteLoadHead, WriteLoadTail, DrawNumbers, SeizeEntry, CommitGroup, PledgePage, ReadyEntry, TakePlace, GrowLength, BreakEntry, SetStopAfterCommit}
+use Rattle.nv_core.specs.state.Passes.{Control, Fault, is_write, len_of, plain_call, TakePage, LoadLength, TakeSize, LoadStop, LoadOrder, GiveBack, WriteLoadHead, WriteLoadTail, DrawNumbers, SeizeEntry, CommitGroup, PledgePage, ReadyEntry, TakePlace, GrowLength, BreakEntry, SetStopAfterCommit}
 use Rattle.nv_core.specs.state.Words.{Sizes}
 use Rattle.nv_core.specs.steps.Frames.{OwnEventsTell}
 use Rattle.nv_core.specs.steps.Opening.{IsMount}
-use Rattle.nv_core.proofs.state.PlainCalls.{itself}
 use Rattle.nv_table.specs.invariant.Drawn.{drawn_by, lost_of, or_else}
 use Rattle.nv_table.specs.invariant.Drawn as told
 use Rattle.nv_table.specs.invariant.Idle.{IsIdle}
@@ -106,19 +105,19 @@ open_most sizes call TakePlace = omega arith
 open_most sizes call SetStopAfterCommit = omega arith
 open_most sizes call control = omega arith
 
-placed_more : (sizes : Sizes) (calls : List Answered) (one : Answered) → placed_entries sizes (calls ++ one ∷ []) ≡ placed_entries sizes calls + entries_of sizes one.call
-placed_more sizes [] one = let same = ap (entries_of sizes) (itself one.call) in omega (arith, same)
-placed_more sizes (first ∷ rest) one = let again = placed_more sizes rest one in omega (arith, again)
+placed_more : (sizes : Sizes) (calls : List Answered) (one : Answered) → plain_call one.call ≡ one.call → placed_entries sizes (calls ++ one ∷ []) ≡ placed_entries sizes calls + entries_of sizes one.call
+placed_more sizes [] one plain = let same = ap (entries_of sizes) plain in omega (arith, same)
+placed_more sizes (first ∷ rest) one plain = let again = placed_more sizes rest one plain in omega (arith, again)
 
 -- what a call's place adds to its pass's own entries
 abbrev pub placed_if : Option ℕ → (entries : ℕ) → ℕ
 placed_if None entries = 0
 placed_if (Some place) entries = entries
 
-placed_on : (sizes : Sizes) (call : FileCall) (place : Option ℕ) (begun now : PassState) → Told call place begun now
+placed_on : (sizes : Sizes) (call : FileCall) → plain_call call ≡ call → (place : Option ℕ) (begun now : PassState) → Told call place begun now
     → placed_entries sizes (pass_of now.view).mine ≡ placed_entries sizes (pass_of begun.view).mine + placed_if place (entries_of sizes call)
-placed_on sizes call None begun now told = let same = ap (placed_entries sizes) told.mine in omega (arith, same)
-placed_on sizes call (Some place) begun now told = ap (placed_entries sizes) told.2.mine ∙ placed_more sizes (pass_of begun.view).mine _
+placed_on sizes call plain None begun now told = let same = ap (placed_entries sizes) told.mine in omega (arith, same)
+placed_on sizes call plain (Some place) begun now told = ap (placed_entries sizes) told.2.mine ∙ placed_more sizes (pass_of begun.view).mine _ plain
 
 -- ---- a call in mid-call
 
@@ -136,14 +135,14 @@ module _ (laws : WordLaws) (tell : OwnEventsTell) where
   has_drawn_so mirror call is refusal place begun now mount c =
       let sizes = begun.view.opened.sizes in
       let entries = entries_of begun.view.opened.sizes call in
-      let stood = stands laws tell now.view.opened.sizes call begun mount c.steps now c.made (own_any now.view.opened.sizes call c.steps c.own) in
+      let stood = stands laws tell now.view.opened.sizes call c.plain begun mount c.steps now c.made (own_any now.view.opened.sizes call c.steps c.own) in
       let set = sets_stop now.view.opened.sizes call laws.sound tell begun mount c.steps now c.made c.own in
       let makes : (pass_of now.view).call ≡ call = stood.makes (λ none. subst (λ steps. AreOwn now.view.opened.sizes call steps) none c.own) in
       let fault : entries_if (stops_in c.steps) entries ≡ entries_if (is_fault refusal) entries = ap (λ b. entries_if b entries) (set ∙ ap is_fault c.refused) in
       let faults : faulted_entries sizes (pass_of now.view).faulted ≡ faulted_entries sizes (pass_of begun.view).faulted + entries_if (is_fault refusal) entries =
       ap (λ (o : Opened). faulted_entries o.sizes (pass_of now.view).faulted) (sym c.mount) ∙ stood.went.faults ∙ ap (λ n. faulted_entries sizes (pass_of begun.view).faulted + n) fault in
       let before = idle_passes_have_drawn sizes (pass_of begun.view) c.idle.control in
-      let placed = placed_on sizes call place begun now c.told in
+      let placed = placed_on sizes call c.plain place begun now c.told in
       let open_is = ap (λ (one : FileCall). open_entries sizes one (pass_of now.view).control) makes in
       record { same = c.mount; makes = makes; faults = faults; all = omega (arith, faults, before, placed, open_is) }
 
@@ -185,6 +184,8 @@ one_lost sizes (Write file at (byte ∷ bytes)) first before later none =
   where
     differ : Some first ≡ None → ⊥
     differ is = cc
+one_lost sizes (Readv file at lens) first before later none = (let is = later none in omega (arith, is))
+one_lost sizes (Writev file at parts) first before later none = (let is = later none in omega (arith, is))
 one_lost sizes (Sync file) first before later none = (let is = later none in omega (arith, is))
 
 none_lost : (sizes : Sizes) (faults : List Fault) → lost_of faults ≡ None → faulted_entries sizes faults ≡ 0
@@ -216,12 +217,16 @@ empty_takes_none : (sizes : Sizes) (call : FileCall) → len_of call ≡ 0 → e
 empty_takes_none sizes (Read file at len) none = refl
 empty_takes_none sizes (Write file at []) none = refl
 empty_takes_none sizes (Write file at (byte ∷ bytes)) none = absurd (omega (arith, none))
+empty_takes_none sizes (Readv file at lens) none = refl
+empty_takes_none sizes (Writev file at parts) none = refl
 empty_takes_none sizes (Sync file) none = refl
 
 some_or_none : (sizes : Sizes) (call : FileCall) → (is_write call ≡ true) ⊎ (entries_of sizes call ≡ 0)
 some_or_none sizes (Read file at len) = inr refl
 some_or_none sizes (Write file at []) = inr refl
 some_or_none sizes (Write file at (byte ∷ bytes)) = inl (lt-ltb 0 (length (byte ∷ bytes)) (omega arith))
+some_or_none sizes (Readv file at lens) = inr refl
+some_or_none sizes (Writev file at parts) = inr refl
 some_or_none sizes (Sync file) = inr refl
 
 -- what a call is told as

@@ -1,16 +1,16 @@
 -- Next commands: the files that each finds on a bench, by what the one before left.
 use Rattle.std.proofs.Common.{◌≡◌, ◌≢◌, ℕ, ◌<◌, ◌==◌, zero, suc, All, Bool, true, false, if◌then◌else◌, List, [], ◌∷◌, ◌++◌, length, map, get_or, slice_index_or, Some, inl, inr, refl, sym, ap, subst, ◌∙◌, arith}
 use Rattle.std.specs.Prelude.{Contains}
-use Rattle.std.specs.List.{flat_map}
+use Rattle.std.specs.List.{concat, flat_map, sum}
 use Rattle.std.proofs.Math.ListN.{get_or-append}
 use Rattle.std.proofs.lemmas.List.{get_or_default, length-append, length-map, map-append, set-append_left}
 use Rattle.std.proofs.lemmas.List.Elements.{All-append, All-cons, All-head, All-nil, All-tail, Contains-append_right}
 use Rattle.std.proofs.lemmas.List.Sorted.{All-permutation, IsPermutation-sym}
 use Rattle.nv_plain.specs.declared.call.FileCall.{FileCall}
-use Rattle.nv_plain.specs.declared.call.FileCall.TheVariants.{Read, Write, Sync}
-use Rattle.nv_plain.specs.declared.call.Reply.TheVariants.{Bytes, Count}
+use Rattle.nv_plain.specs.declared.call.FileCall.TheVariants.{Read, Write, Readv, Writev, Sync}
+use Rattle.nv_plain.specs.declared.call.Reply.TheVariants.{Bytes, Parts, Count}
 use Rattle.nv_plain.specs.declared.mode.Mode.TheVariants.{R}
-use Rattle.nv_plain.specs.Calls.{files_after, reply_of}
+use Rattle.nv_plain.specs.Calls.{filled, files_after, reply_of}
 use Rattle.nv_plain.specs.Files.{Files, bytes_at, contents_of, overwritten, with_contents}
 use Rattle.nv_plain.specs.Histories.{Answered, IsLegal, after}
 use Rattle.nv_plain.specs.Images.{Image, header_of}
@@ -235,6 +235,8 @@ joined files more = record { contents = files.contents ++ more }
 abbrev IsThere : ℕ → FileCall → Type 0
 IsThere count (Read file at len) = file < count
 IsThere count (Write file at bytes) = file < count
+IsThere count (Readv file at lens) = file < count
+IsThere count (Writev file at parts) = file < count
 IsThere count (Sync file) = file < count
 
 abbrev AreThere : ℕ → List Answered → Type 0
@@ -243,14 +245,22 @@ AreThere count history = All (λ (answered : Answered). IsThere count answered.c
 same_reply : (call : FileCall) (files : Files) (more : List (List ℕ)) → IsThere (length files.contents) call → reply_of call (joined files more) ≡ reply_of call files
 same_reply (Read file at len) files more there = ap (λ bytes. Bytes (bytes_at bytes at len)) (get_or-append files.contents more [] file there)
 same_reply (Write file at bytes) files more there = refl
+same_reply (Readv file at lens) files more there = ap (λ bytes. Parts (filled lens (bytes_at bytes at (sum lens)))) (get_or-append files.contents more [] file there)
+same_reply (Writev file at parts) files more there = refl
 same_reply (Sync file) files more there = refl
 
-joined_after : (call : FileCall) (files : Files) (more : List (List ℕ)) → IsThere (length files.contents) call → files_after call (joined files more) ≡ joined (files_after call files) more
-joined_after (Read file at len) files more there = refl
-joined_after (Write file at source) files more there =
+written_joined : (file at : ℕ) (source : List ℕ) (files : Files) (more : List (List ℕ)) → file < length files.contents
+    → files_after (Write file at source) (joined files more) ≡ joined (files_after (Write file at source) files) more
+written_joined file at source files more there =
     let bytes = overwritten (contents_of files file) at source in
     ap (λ bytes. with_contents (joined files more) file (overwritten bytes at source)) (get_or-append files.contents more [] file there)
     ∙ ap (λ (contents : List (List ℕ)). let files : Files = record { contents = contents } in files) (set-append_left files.contents more file bytes there)
+
+joined_after : (call : FileCall) (files : Files) (more : List (List ℕ)) → IsThere (length files.contents) call → files_after call (joined files more) ≡ joined (files_after call files) more
+joined_after (Read file at len) files more there = refl
+joined_after (Write file at source) files more there = written_joined file at source files more there
+joined_after (Readv file at lens) files more there = refl
+joined_after (Writev file at parts) files more there = written_joined file at (concat parts) files more there
 joined_after (Sync file) files more there = refl
 
 still_there : (first : Answered) (later : List Answered) (files : Files) → AreThere (length files.contents) (first ∷ later) → AreThere (length (files_after first.call files).contents) later

@@ -8,7 +8,7 @@ use Rattle.std.proofs.lemmas.List.Elements.{recursion_from_All}
 use Rattle.std.proofs.lemmas.List.Concat.{flat_map-append}
 use Rattle.hex.specs.Hex.{encode_with, lower_digits}
 use Rattle.nv_plain.specs.declared.call.Reply.{Reply}
-use Rattle.nv_plain.specs.declared.call.Reply.TheVariants.{Bytes, Count, Done}
+use Rattle.nv_plain.specs.declared.call.Reply.TheVariants.{Bytes, Parts, Count, Done}
 use Rattle.nv_trace.specs.declared.trace_call.TraceCall.{TraceCall}
 use Rattle.nv_trace.specs.declared.trace_call.TraceCall.TheVariants.{Pread, Pwrite, Fsync}
 use Rattle.nv_trace.specs.declared.report.Fate.{Fate}
@@ -16,7 +16,7 @@ use Rattle.nv_trace.specs.declared.report.Fate.TheVariants.{Kept, Lost, Unanswer
 use Rattle.nv_trace.specs.declared.report.Refusal.{Refusal}
 use Rattle.nv_trace.specs.declared.report.Refusal.TheVariants.{BadDescriptor, TooFar, TooLong, Stopped, Spent, Again, RegionFault, StoreFault}
 use Rattle.nv_trace.specs.Lines.{onto_first, parts_between, but_last, fields_of, ended_lines}
-use Rattle.nv_trace.specs.Report.{spaced, line_text, hex_text, call_fields, reply_text, refusal_text, fate_text, history_text, refused_text, open_text, recovered_text, file_text, end_text}
+use Rattle.nv_trace.specs.Report.{spaced, line_text, hex_text, listed, call_fields, reply_text, refusal_text, fate_text, history_text, refused_text, open_text, recovered_text, file_text, end_text}
 use Rattle.nv_runner.specs.Histories.{PlacedCall}
 use Rattle.nv_runner.specs.Reports.{NamedFile, OpenCall, Report, ShownRefusal, history_lines, refused_lines}
 use Rattle.nv_top.specs.Reports.{RecoveryReport, open_lines, file_lines, report_text, recovery_text}
@@ -278,8 +278,17 @@ hex_plain : (bytes : List ℕ) → IsPlain (hex_text bytes)
 hex_plain [] = word (codes "-") refl
 hex_plain (byte ∷ bytes) = encode_plain lower_digits (byte ∷ bytes) (word lower_digits refl)
 
+listed_plain : (parts : List (List ℕ)) → IsPlain (listed (map hex_text parts))
+listed_plain [] = tt
+listed_plain (part ∷ rest) = each-append IsPlainByte (hex_text part) _ (hex_plain part) (more_plain rest)
+  where
+    more_plain : (rest : List (List ℕ)) → IsPlain (flat_map (λ more. 44 ∷ more) (map hex_text rest))
+    more_plain [] = tt
+    more_plain (one ∷ rest) = (((λ e. omega (arith, e)), (λ e. omega (arith, e))), each-append IsPlainByte (hex_text one) _ (hex_plain one) (more_plain rest))
+
 reply_plain : (reply : Reply) → IsPlain (reply_text reply)
 reply_plain (Bytes bytes) = hex_plain bytes
+reply_plain (Parts parts) = listed_plain parts
 reply_plain (Count count) = decimal_plain count
 reply_plain Done = word (codes "0") refl
 

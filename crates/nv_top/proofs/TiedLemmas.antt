@@ -15,13 +15,12 @@ use Rattle.nv_bench.specs.Benches.{BenchState}
 use Rattle.nv_bench.specs.Holding.{NamedStore}
 use Rattle.nv_core.specs.log.EntryImages.{ReadsWhole}
 use Rattle.nv_core.specs.state.Core.{Core}
-use Rattle.nv_core.specs.state.Passes.{Fault, IsOneOf, is_write}
+use Rattle.nv_core.specs.state.Passes.{Fault, IsOneOf, is_write, plain_call}
 use Rattle.nv_core.specs.steps.Events.{Event, TakesStep}
 use Rattle.nv_core.specs.steps.Opening.{opening}
 use Rattle.nv_core.specs.steps.Ops.{Place}
 use Rattle.nv_core.proofs.invariant.HistoryLaws.{grown}
 use Rattle.nv_core.proofs.steps.RunLaws.{after_parts}
-use Rattle.nv_core.proofs.state.PlainCalls.{itself}
 use Rattle.nv_table.specs.state.Opened.{Opened, mount_of, state_of}
 use Rattle.nv_table.specs.state.Views.{PassView}
 use Rattle.nv_mount.specs.WholeRuns.{history_then}
@@ -121,6 +120,11 @@ placed_stands opened run earlier answered number was =
 
 -- ---- the writes
 
+plain_file_call : (descriptors : List Descriptor) (call : TraceCall) → plain_call (file_call descriptors call) ≡ file_call descriptors call
+plain_file_call descriptors (Pread fd at len) = refl
+plain_file_call descriptors (Pwrite fd at bytes) = refl
+plain_file_call descriptors (Fsync fd) = refl
+
 writes_on : (descriptors : List Descriptor) (call : TraceCall) → IsWrite call → is_write (file_call descriptors call) ≡ true
 writes_on descriptors (Pread fd at len) write = absurd write
 writes_on descriptors (Pwrite fd at bytes) write = lt-ltb 0 (length bytes) write
@@ -160,7 +164,7 @@ module _ (basis : Basis) (trace : Traced) (report : Report) (left : List OpenedC
   one_placed p one write =
       let stands = stands_there fds report.history (history_then last) 0 ran.history.places ran.history.each p one in
       let same = on_file p stands.answered stands.stands in
-      let made = itself stands.answered.call ∙ same in
+      let made = ap plain_call same ∙ plain_file_call descriptors p.call.call in
       let there = behind.whole.placed stands.earlier stands.later stands.answered stands.splits (ap is_write made ∙ writes_on descriptors p.call.call write) in
       let at : length stands.earlier ≡ p.place = let at = stands.at in omega (arith, at) in (
         there.number,

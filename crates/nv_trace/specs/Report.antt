@@ -1,9 +1,10 @@
 -- The report's lines.
-use Rattle.std.specs.Prelude.{ℕ, List, [], ◌∷◌, ◌++◌, length, codes}
+use Rattle.std.specs.Prelude.{ℕ, List, [], ◌∷◌, ◌++◌, length, map, codes}
+use Rattle.std.specs.List.{flat_map}
 use Rattle.std.specs.Fmt.{decimal}
 use Rattle.hex.specs.Hex.{encode_lower}
 use Rattle.nv_plain.specs.declared.call.Reply.{Reply}
-use Rattle.nv_plain.specs.declared.call.Reply.TheVariants.{Bytes, Count, Done}
+use Rattle.nv_plain.specs.declared.call.Reply.TheVariants.{Bytes, Parts, Count, Done}
 use Rattle.nv_trace.specs.declared.trace_call.TraceCall.{TraceCall}
 use Rattle.nv_trace.specs.declared.trace_call.TraceCall.TheVariants.{Pread, Pwrite, Fsync}
 use Rattle.nv_trace.specs.declared.report.Refusal.{Refusal}
@@ -16,6 +17,11 @@ abbrev pub spaced : List (List ℕ) → List ℕ
 spaced [] = []
 spaced (field ∷ []) = field
 spaced (field ∷ next ∷ rest) = field ++ 32 ∷ spaced (next ∷ rest)
+
+-- some texts, a comma between each two
+abbrev pub listed : List (List ℕ) → List ℕ
+listed [] = []
+listed (text ∷ rest) = text ++ flat_map (λ more. 44 ∷ more) rest
 
 -- a line feed behind
 abbrev pub line_text : List (List ℕ) → List ℕ
@@ -34,6 +40,7 @@ call_fields (Fsync fd) = codes "fsync" ∷ decimal fd ∷ []
 
 abbrev pub reply_text : Reply → List ℕ
 reply_text (Bytes bytes) = hex_text bytes
+reply_text (Parts parts) = listed (map hex_text parts)
 reply_text (Count count) = decimal count
 reply_text Done = codes "0"
 

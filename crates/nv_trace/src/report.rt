@@ -1,6 +1,6 @@
 //! The lines of a report.
-ghost use Rattle.std.specs.Prelude.{◌≡◌, IfOk, string_bytes};
-ghost use Rattle.nv_trace.specs.Report.{history_text, refused_text, open_text, recovered_text, file_text, end_text, call_fields, spaced, reply_text, refusal_text, fate_text, hex_text};
+ghost use Rattle.std.specs.Prelude.{◌≡◌, IfOk, map, string_bytes};
+ghost use Rattle.nv_trace.specs.Report.{history_text, refused_text, open_text, recovered_text, file_text, end_text, call_fields, spaced, reply_text, refusal_text, fate_text, hex_text, listed};
 
 use crate::TraceCall;
 use nv_plain::{Bytes, NoMemory, Reply};
@@ -136,6 +136,7 @@ fn reply_text(alloc: Global, reply: &Reply) -> Result<String, AllocError>
 {
     match reply {
         Reply::Bytes(bytes) => hex_text(alloc, bytes.as_slice()),
+        Reply::Parts(parts) => parts_text(alloc, parts.as_slice()),
         Reply::Count(count) => count.to_string(alloc),
         Reply::Done => String::from_str(alloc, "0"),
     }
@@ -167,6 +168,21 @@ fn fate_text(fate: Fate) -> &'static str
 }
 
 // No bytes are `-`, so that the line keeps its last field.
+fn parts_text(alloc: Global, parts: &[Bytes]) -> Result<String, AllocError>
+    ensures { IfOk result (λ text. string_bytes text ≡ listed (map hex_text parts.now)) }
+{
+    let Some((first, rest)) = parts.split_first() else {
+        return Ok(String::new(alloc));
+    };
+    let mut text = hex_text(alloc, first.as_slice())?;
+    for part in rest {
+        let more = hex_text(alloc, part.as_slice())?;
+        text.push(',')?;
+        text.push_str(&more)?;
+    }
+    Ok(text)
+}
+
 fn hex_text(alloc: Global, bytes: &[u8]) -> Result<String, AllocError>
     ensures { IfOk result (λ text. string_bytes text ≡ hex_text bytes.now) }
 {

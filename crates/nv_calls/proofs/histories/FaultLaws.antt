@@ -7,7 +7,7 @@ use Rattle.nv_plain.specs.declared.call.FileCall.{FileCall}
 use Rattle.nv_plain.specs.declared.call.FileCall.TheVariants.{Read, Write, Sync}
 use Rattle.nv_plain.specs.declared.call.Reply.TheVariants.{Done as Replied}
 use Rattle.nv_core.specs.state.Words.{Sizes, STOP, ORDER}
-use Rattle.nv_core.specs.state.Passes.{Control, Fault, Pass, SetStopAfterRead, SetStopAfterPiece, SetStopAfterCommit, is_read, is_write}
+use Rattle.nv_core.specs.state.Passes.{Control, Fault, Pass, SetStopAfterRead, SetStopAfterPiece, SetStopAfterCommit, is_read, is_write, plain_call}
 use Rattle.nv_core.specs.invariant.ControlFacts.{ControlFacts, FactsAt}
 use Rattle.nv_core.specs.invariant.InvariantLaws.{RunsAreSound}
 use Rattle.nv_core.specs.steps.Frames.{OwnEventsTell}
@@ -16,7 +16,6 @@ use Rattle.nv_core.specs.steps.Ops.{Op, Load, Place, Stop}
 use Rattle.nv_core.specs.steps.Order.{Enabled, IsFailing, Work}
 use Rattle.nv_core.specs.steps.PassSteps.{fault_of, faulted_after}
 use Rattle.nv_core.proofs.steps.NextSteps.{next_steps_may_come}
-use Rattle.nv_core.proofs.state.PlainCalls.{itself}
 use Rattle.nv_table.specs.state.Opened.{Opened, mount_of}
 use Rattle.nv_table.specs.state.States.{PassState}
 use Rattle.nv_table.specs.state.Views.{PassView, pass_of}
@@ -109,7 +108,7 @@ bytes_at sizes pass (SetStopAfterPiece page number) facts fails = inl facts.0.0
 bytes_at sizes pass SetStopAfterCommit facts fails = inr facts.write
 bytes_at sizes pass control facts fails = absurd fails
 
-module _ (sizes : Sizes) (call : FileCall) (sound : RunsAreSound) (tell : OwnEventsTell) (start : PassState) (mount : IsMount (mount_of start.view.opened)) where
+module _ (sizes : Sizes) (call : FileCall) (is_plain : plain_call call ≡ call) (sound : RunsAreSound) (tell : OwnEventsTell) (start : PassState) (mount : IsMount (mount_of start.view.opened)) where
   -- a step that sets STOP, where the call at hand is this one
   module _ (step : PassStep) (middle now : PassState) (opened : middle.view.opened ≡ start.view.opened) (taken : HasTaken step middle now) (refusal : Option Refusal) (own : is_own call refusal step.op ≡ true) where
     abbrev there : Pass
@@ -146,7 +145,7 @@ module _ (sizes : Sizes) (call : FileCall) (sound : RunsAreSound) (tell : OwnEve
     call_then same = ap (λ (p : Pass). p.call) taken.stepped.pass ∙ same
 
     begins_call : step.opens ≡ Some call → there.call ≡ call
-    begins_call opens = ap (λ o. (with_call here_sizes o (pass_worked here_sizes taken.stepped.works (pass_of taken.before.view))).call) opens ∙ itself call
+    begins_call opens = ap (λ o. (with_call here_sizes o (pass_worked here_sizes taken.stepped.works (pass_of taken.before.view))).call) opens ∙ is_plain
 
     goes_on_call : step.opens ≡ None → (pass_of middle.view).call ≡ call → there.call ≡ call
     goes_on_call opens before =
@@ -223,7 +222,7 @@ module _ (sound : RunsAreSound) (tell : OwnEventsTell) where
       let sizes = start.view.opened.sizes in
       let call = asks over.0 in
       let sets = sets_stop sizes call sound tell start mount ended.steps now ended.made ended.own ∙ ap is_fault ended.refused in
-      inr (refl, over.0, over.1, subst (λ b. FaultedBy b call start now) sets (stands sizes call sound tell start mount ended.steps now refl ended.made ended.own).faulted)
+      inr (refl, over.0, over.1, subst (λ b. FaultedBy b call start now) sets (stands sizes call ended.plain sound tell start mount ended.steps now refl ended.made ended.own).faulted)
 
   ended_opened : (early : Option Refusal) (file : Option ℕ) (asks : ℕ → FileCall) (start now : PassState) (result : Result Done Refusal) → IsCallOver early file asks start now result → now.view.opened ≡ start.view.opened
   ended_opened (Some refusal) file asks start now result over = ap (λ (p : PassState). p.view.opened) over.1

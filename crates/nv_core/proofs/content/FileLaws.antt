@@ -1,20 +1,22 @@
 -- Files after one more call: their lengths, and their pages.
 use Rattle.std.proofs.Common.{◌≡◌, ◌≢◌, ◌⊎◌, ℕ, ◌+◌, ◌-◌, ◌*◌, ◌/◌, ◌%◌, ◌<◌, ◌≤◌, max, true, false, List, [], ◌∷◌, length, drop, inl, inr, refl, sym, ap, ap₂, subst, ◌∙◌, arith}
+use Rattle.std.specs.List.{concat}
 use Rattle.std.proofs.lemmas.Bool.{ltb-true, ltb-false, true≢false, cases_eq, cases_lt, le-ltb}
 use Rattle.std.proofs.lemmas.List.{get_or-set_same, get_or-set_other, length-take, length-drop}
 use Rattle.std.proofs.lemmas.Nat.{div-mul-add, mod-mul-add}
 use Rattle.std.proofs.Math.Nat.{mul-le-mul_right, div-mul-le_self, div-add-mod, mul_comm}
 use Rattle.nv_plain.specs.Pieces.{pages_touched, piece_of, piece_bytes}
 use Rattle.nv_plain.specs.declared.call.FileCall.{FileCall}
-use Rattle.nv_plain.specs.declared.call.FileCall.TheVariants.{Read, Write, Sync}
+use Rattle.nv_plain.specs.declared.call.FileCall.TheVariants.{Read, Write, Readv, Writev, Sync}
 use Rattle.nv_plain.specs.Files.{Files, contents_of, with_contents, overwritten}
 use Rattle.nv_plain.specs.Calls.{files_after}
 use Rattle.nv_core.specs.state.Words.{Sizes}
-use Rattle.nv_core.specs.state.Passes.{IsAllowed, file_of, at_of, len_of, is_write, first_page, page_count, page_number}
+use Rattle.nv_core.specs.state.Passes.{IsAllowed, file_of, at_of, len_of, is_write, first_page, page_count, page_number, plain_call}
 use Rattle.nv_core.specs.invariant.ControlFacts.{IsPage}
 use Rattle.nv_core.specs.content.PagesAfter.{page_from, page_in}
 use Rattle.nv_core.specs.content.ValidBuffers.{with_own_pieces}
 use Rattle.nv_core.specs.content.PlainLaws.{PlainLaws}
+use Rattle.nv_core.proofs.state.PlainCalls.{joined_elsewhere}
 use Rattle.nv_core.proofs.content.PlainPages.{never_shorter, page_start_below, page_start_behind, pages_touched_none, patch_piece, untouched_page, untouched_above}
 
 -- what a file has after another one was changed, and after it was
@@ -28,13 +30,15 @@ no_bytes : (bytes : List ℕ) → length bytes ≡ 0 → bytes ≡ []
 no_bytes [] none = refl
 no_bytes (first ∷ rest) none = absurd (omega (arith, none))
 
--- a call that isn't a write of some bytes leaves each file as it is, and a write each file but its own
-pub files_same : (call : FileCall) (files : Files) (file : ℕ) → file_of call < length files.contents → (is_write call ≡ false) ⊎ (file ≢ file_of call)
+-- a plain call that isn't a write of some bytes leaves each file as it is, and a write each file but its own
+pub files_same : (call : FileCall) (files : Files) (file : ℕ) → plain_call call ≡ call → file_of call < length files.contents → (is_write call ≡ false) ⊎ (file ≢ file_of call)
     → contents_of (files_after call files) file ≡ contents_of files file
-files_same (Read other at len) files file there is = refl
-files_same (Sync other) files file there is = refl
-files_same (Write other at bytes) files file there (inr ne) = contents_else files other file (overwritten (contents_of files other) at bytes) ne
-files_same (Write other at bytes) files file there (inl none) = elim (cases_eq file other) [
+files_same (Read other at len) files file plain there is = refl
+files_same (Readv other at lens) files file plain there is = refl
+files_same (Writev other at parts) files file plain there is = absurd (joined_elsewhere other at parts plain)
+files_same (Sync other) files file plain there is = refl
+files_same (Write other at bytes) files file plain there (inr ne) = contents_else files other file (overwritten (contents_of files other) at bytes) ne
+files_same (Write other at bytes) files file plain there (inl none) = elim (cases_eq file other) [
   | inl e ↦ subst (λ f. contents_of (files_after (Write other at bytes) files) f ≡ contents_of files f) (sym e)
       (contents_here files other (overwritten (contents_of files other) at bytes) there
       ∙ ap (overwritten (contents_of files other) at) (no_bytes bytes (let l = ltb-false 0 (length bytes) none in omega (arith, l))))
@@ -42,19 +46,26 @@ files_same (Write other at bytes) files file there (inl none) = elim (cases_eq f
 ]
 
 -- no call makes a file shorter
-pub files_grow : (plain : PlainLaws) (call : FileCall) (files : Files) (file : ℕ) → file_of call < length files.contents → length (contents_of files file) ≤ length (contents_of (files_after call files) file)
-files_grow plain (Read other at len) files file there = omega arith
-files_grow plain (Sync other) files file there = omega arith
-files_grow plain (Write other at bytes) files file there = elim (cases_eq file other) [
+write_grows : (plain : PlainLaws) (other at : ℕ) (bytes : List ℕ) (files : Files) (file : ℕ) → other < length files.contents → length (contents_of files file) ≤ length (contents_of (files_after (Write other at bytes) files) file)
+write_grows plain other at bytes files file there = elim (cases_eq file other) [
   | inl e ↦ subst (λ f. length (contents_of files f) ≤ length (contents_of (files_after (Write other at bytes) files) f)) (sym e)
       (let h = ap length (contents_here files other (overwritten (contents_of files other) at bytes) there) in let g = never_shorter plain (contents_of files other) bytes at in omega (arith, h, g))
   | inr ne ↦ let h = ap length (contents_else files other file (overwritten (contents_of files other) at bytes) ne) in omega (arith, h)
 ]
 
+pub files_grow : (plain : PlainLaws) (call : FileCall) (files : Files) (file : ℕ) → file_of call < length files.contents → length (contents_of files file) ≤ length (contents_of (files_after call files) file)
+files_grow plain (Read other at len) files file there = omega arith
+files_grow plain (Readv other at lens) files file there = omega arith
+files_grow plain (Sync other) files file there = omega arith
+files_grow plain (Write other at bytes) files file there = write_grows plain other at bytes files file there
+files_grow plain (Writev other at parts) files file there = write_grows plain other at (concat parts) files file there
+
 -- the length of a file after a write of some bytes
 pub files_written : (plain : PlainLaws) (call : FileCall) (files : Files) → file_of call < length files.contents → is_write call ≡ true
     → length (contents_of (files_after call files) (file_of call)) ≡ max (length (contents_of files (file_of call))) (at_of call + len_of call)
 files_written plain (Read other at len) files there write = absurd (true≢false (sym write))
+files_written plain (Readv other at lens) files there write = absurd (true≢false (sym write))
+files_written plain (Writev other at parts) files there write = absurd (true≢false (sym write))
 files_written plain (Sync other) files there write = absurd (true≢false (sym write))
 files_written plain (Write other at bytes) files there write =
     ap length (contents_here files other (overwritten (contents_of files other) at bytes) there)
@@ -139,6 +150,8 @@ module _ (plain : PlainLaws) (sizes : Sizes) (files : Files) (file at : ℕ) (by
 -- a piece of no bytes changes no page
 pub own_none : (sizes : Sizes) (call : FileCall) (page : ℕ) (old : List ℕ) → is_write call ≡ false → with_own_pieces sizes call page old ≡ old
 own_none sizes (Read file at len) page old none = refl
+own_none sizes (Readv file at lens) page old none = refl
+own_none sizes (Writev file at parts) page old none = refl
 own_none sizes (Sync file) page old none = refl
 own_none sizes (Write file at []) page old none =
     let piece = piece_of at (length {A = ℕ} []) sizes.page (page - first_page sizes (Write file at [])) in
@@ -149,6 +162,8 @@ own_none sizes (Write file at (first ∷ rest)) page old none = absurd (let l = 
 pub page_placed : (plain : PlainLaws) (sizes : Sizes) (call : FileCall) (files : Files) (page : ℕ) → IsAllowed sizes call → file_of call < length files.contents → IsPage sizes call page
     → page_in sizes (files_after call files) page ≡ with_own_pieces sizes call page (page_in sizes files page)
 page_placed plain sizes (Read file at len) files page allowed there is = refl
+page_placed plain sizes (Readv file at lens) files page allowed there is = refl
+page_placed plain sizes (Writev file at parts) files page allowed there is = absurd (joined_elsewhere file at parts allowed.plain)
 page_placed plain sizes (Sync file) files page allowed there is = refl
 page_placed plain sizes (Write file at bytes) files page allowed there is = elim (cases_lt 0 (length bytes)) [
   | inl some ↦ write_page plain sizes files file at bytes some allowed there page is
@@ -158,10 +173,12 @@ page_placed plain sizes (Write file at bytes) files page allowed there is = elim
 pub page_else : (plain : PlainLaws) (sizes : Sizes) (call : FileCall) (files : Files) (page : ℕ) → IsAllowed sizes call → file_of call < length files.contents → (IsPage sizes call page → ⊥)
     → page_in sizes (files_after call files) page ≡ page_in sizes files page
 page_else plain sizes (Read file at len) files page allowed there other = refl
+page_else plain sizes (Readv file at lens) files page allowed there other = refl
+page_else plain sizes (Writev file at parts) files page allowed there other = absurd (joined_elsewhere file at parts allowed.plain)
 page_else plain sizes (Sync file) files page allowed there other = refl
 page_else plain sizes (Write file at bytes) files page allowed there other = elim (cases_lt 0 (length bytes)) [
   | inl some ↦ write_else plain sizes files file at bytes some allowed there page other
-  | inr none ↦ ap (λ b. page_from b (page % sizes.pages * sizes.page) sizes.page) (files_same (Write file at bytes) files (page / sizes.pages) there (inl (le-ltb 0 (length bytes) none)))
+  | inr none ↦ ap (λ b. page_from b (page % sizes.pages * sizes.page) sizes.page) (files_same (Write file at bytes) files (page / sizes.pages) refl there (inl (le-ltb 0 (length bytes) none)))
 ]
 
 -- a page of a call is one of its file

@@ -8,13 +8,13 @@ use Rattle.nv_plain.specs.Calls.{reply_of}
 use Rattle.nv_plain.specs.Histories.{IsLegal}
 use Rattle.nv_plain.specs.Pieces.{pages_touched, piece_of}
 use Rattle.nv_plain.specs.declared.call.FileCall.{FileCall}
-use Rattle.nv_plain.specs.declared.call.FileCall.TheVariants.{Read, Write, Sync}
+use Rattle.nv_plain.specs.declared.call.FileCall.TheVariants.{Read, Write, Readv, Writev, Sync}
 use Rattle.nv_plain.specs.declared.call.Reply.{Reply}
 use Rattle.nv_plain.specs.declared.call.Reply.TheVariants.{Bytes}
 use Rattle.nv_core.proofs.content.MadeLaws.{reply_asked}
 use Rattle.nv_core.specs.steps.PassSteps.{as_answered}
 use Rattle.nv_core.specs.state.Words.{Sizes, SIZE}
-use Rattle.nv_core.specs.state.Passes.{Control, VisitPage, TakePlace, GrowLength, IsAllowed, file_of, at_of, len_of, is_read, page_count, first_page, end_read, covered, page_number, times}
+use Rattle.nv_core.specs.state.Passes.{Control, VisitPage, TakePlace, GrowLength, IsAllowed, file_of, at_of, len_of, is_read, page_count, first_page, end_read, covered, page_number, plain_call, times}
 use Rattle.nv_core.specs.steps.Ops.{Op, Place}
 use Rattle.nv_core.specs.steps.Order.{Values, page_bytes, plain_reply}
 use Rattle.nv_core.specs.steps.StepKinds.{MayPlace}
@@ -29,6 +29,7 @@ use Rattle.nv_core.specs.content.ValidBuffers.{GatheredAt, Gathered, ValidBuffer
 use Rattle.nv_core.specs.invariant.Sound.{Sound}
 use Rattle.nv_core.specs.content.PlainLaws.{PlainLaws}
 use Rattle.nv_core.proofs.state.Choices.{step_idle}
+use Rattle.nv_core.proofs.state.PlainCalls.{joined_elsewhere, summed_elsewhere}
 use Rattle.nv_core.proofs.state.PageLaws.{read_within}
 use Rattle.nv_core.proofs.content.PlainPages.{pages_touched_none, read_pages}
 use Rattle.nv_core.proofs.content.FileLaws.{page_is, page_near, allowed_page}
@@ -66,6 +67,8 @@ read_is : (sizes : Sizes) (files : Files) (values : Values) (call : FileCall) (l
     (range_with_len 0 (end_read sizes call loaded - first_page sizes call))
     ≡ bytes_at (contents_of files (file_of call)) (at_of call) (len_of call)
 read_is sizes files values (Write file at bytes) loaded fetched read allowed low all right = absurd (true≢false (sym read))
+read_is sizes files values (Readv file at lens) loaded fetched read allowed low all right = absurd (true≢false (sym read))
+read_is sizes files values (Writev file at parts) loaded fetched read allowed low all right = absurd (true≢false (sym read))
 read_is sizes files values (Sync file) loaded fetched read allowed low all right = absurd (true≢false (sym read))
 read_is sizes files values (Read file at len) loaded fetched read allowed low all right =
     ap (λ n. flat_map part (range_with_len 0 n)) many ∙ elim (cases_lt 0 (min len (loaded - at))) [
@@ -101,6 +104,8 @@ read_is sizes files values (Read file at len) loaded fetched read allowed low al
 read_some : (call : FileCall) → is_read call ≡ true → nat_lt 0 (len_of call) ≡ true
 read_some (Read file at len) read = read
 read_some (Write file at bytes) read = absurd (true≢false (sym read))
+read_some (Readv file at lens) read = absurd (true≢false (sym read))
+read_some (Writev file at parts) read = absurd (true≢false (sym read))
 read_some (Sync file) read = absurd (true≢false (sym read))
 
 module _ (sizes : Sizes) (first : Values) (opening : Files) (by : ℕ) (core : Core) (sound : Sound sizes first core) (lengths : Lengths sizes opening core)
@@ -126,10 +131,12 @@ module _ (sizes : Sizes) (first : Values) (opening : Files) (by : ℕ) (core : C
 
 -- ---- replies
 
-plain_is : (call : FileCall) (files : Files) → is_read call ≡ false → plain_reply call ≡ reply_of call files
-plain_is (Write file at bytes) files none = refl
-plain_is (Sync file) files none = refl
-plain_is (Read file at len) files none = ap Bytes (sym (nothing (bytes_at (contents_of files file) at len)
+plain_is : (call : FileCall) (files : Files) → plain_call call ≡ call → is_read call ≡ false → plain_reply call ≡ reply_of call files
+plain_is (Write file at bytes) files plain none = refl
+plain_is (Readv file at lens) files plain none = absurd (summed_elsewhere file at lens plain)
+plain_is (Writev file at parts) files plain none = absurd (joined_elsewhere file at parts plain)
+plain_is (Sync file) files plain none = refl
+plain_is (Read file at len) files plain none = ap Bytes (sym (nothing (bytes_at (contents_of files file) at len)
     (let l = ltb-false 0 len none in let t = length-take len (drop at (contents_of files file)) in omega (arith, l, t))))
   where
     nothing : (list : List ℕ) → length list ≡ 0 → list ≡ []
@@ -139,6 +146,8 @@ plain_is (Read file at len) files none = ap Bytes (sym (nothing (bytes_at (conte
 read_reply : (call : FileCall) (files : Files) → is_read call ≡ true → Bytes (bytes_at (contents_of files (file_of call)) (at_of call) (len_of call)) ≡ reply_of call files
 read_reply (Read file at len) files read = refl
 read_reply (Write file at bytes) files read = absurd (true≢false (sym read))
+read_reply (Readv file at lens) files read = absurd (true≢false (sym read))
+read_reply (Writev file at parts) files read = absurd (true≢false (sym read))
 read_reply (Sync file) files read = absurd (true≢false (sym read))
 
 -- a call takes its place with the reply that it has on the files after the history
@@ -148,7 +157,7 @@ reply_is sizes first opening by core reply sound lengths buffers may = go (core.
   where
     go : (control : Control) → (core.passes by).control ≡ control → MayPlace sizes core.values (core.passes by) reply control → reply ≡ reply_of (core.passes by).call (files_now opening core)
     go TakePlace at placed =
-        placed ∙ plain_is (core.passes by).call (files_now opening core)
+        placed ∙ plain_is (core.passes by).call (files_now opening core) ((sound.control_facts by).allowed (step_idle sizes core.values (core.passes by) (Place reply) may)).plain
         (subst (GatheredAt sizes (page_now sizes opening core) core.values (core.passes by).call (core.passes by).fetched) at (buffers.gathered by))
     go (VisitPage next) at placed =
         let stands : FactsAt sizes (core.passes by) (VisitPage next) = subst (FactsAt sizes (core.passes by)) at (sound.control_facts by).at in

@@ -5,7 +5,7 @@ use Rattle.nv_plain.specs.Files.{Files, contents_of}
 use Rattle.nv_plain.specs.Histories.{after}
 use Rattle.nv_plain.specs.Calls.{files_after}
 use Rattle.nv_plain.specs.declared.call.FileCall.{FileCall}
-use Rattle.nv_plain.specs.declared.call.FileCall.TheVariants.{Read, Write, Sync}
+use Rattle.nv_plain.specs.declared.call.FileCall.TheVariants.{Read, Write, Readv, Writev, Sync}
 use Rattle.nv_plain.specs.declared.call.Reply.{Reply}
 use Rattle.nv_core.proofs.content.MadeLaws.{made_now}
 use Rattle.nv_core.specs.state.Words.{Sizes, Word, STOP, ORDER, HEAD, TAIL, SIZE, LENGTH, STORE, ENTRY, PAGE, DIRTY, index, HINT, CLEANUP, ready, is_entry_of, slot_of_entry}
@@ -209,6 +209,8 @@ grown_by_one sizes first opening core sound file one other here there ne = held_
 write_some : (call : FileCall) → is_write call ≡ true → nat_lt 0 (len_of call) ≡ true
 write_some (Write file at bytes) write = write
 write_some (Read file at len) write = absurd (true≢false (sym write))
+write_some (Readv file at lens) write = absurd (true≢false (sym write))
+write_some (Writev file at parts) write = absurd (true≢false (sym write))
 write_some (Sync file) write = absurd (true≢false (sym write))
 
 -- what extending says, of a pass
@@ -221,7 +223,8 @@ module _ (plain : PlainLaws) (sizes : Sizes) (first : Values) (opening : Files) 
   there = known_file plain sizes first opening by core (Place reply) sound count may.may
 
   now_same : (file : ℕ) → (is_write (core.passes by).call ≡ false) ⊎ (file ≢ file_of (core.passes by).call) → length_now opening (after_step sizes by (Place reply) found core) file ≡ length_now opening core file
-  now_same file other = ap (λ f. length (contents_of f file)) (files_placed plain sizes first opening by core reply sound) ∙ ap length (files_same (core.passes by).call (files_now opening core) file there other)
+  now_same file other = ap (λ f. length (contents_of f file)) (files_placed plain sizes first opening by core reply sound) ∙ ap length (files_same (core.passes by).call (files_now opening core) file
+      ((sound.control_facts by).allowed (step_idle sizes core.values (core.passes by) (Place reply) may.may)).plain there other)
 
   now_more : (file : ℕ) → length_now opening core file ≤ length_now opening (after_step sizes by (Place reply) found core) file
   now_more file = let e = ap (λ f. length (contents_of f file)) (files_placed plain sizes first opening by core reply sound) in let g = files_grow plain (core.passes by).call (files_now opening core) file there in omega (arith, e, g)

@@ -3,7 +3,7 @@ use Rattle.std.proofs.Common.{◌≡◌, ◌≢◌, ℕ, ◌+◌, ◌*◌, ◌%�
 use Rattle.std.proofs.lemmas.Bool.{eqb-true, eq-eqb, ne_eqb, cases_eq, cases_lt, cases_Bool, lt-ltb, le-ltb, true≢false}
 use Rattle.nv_plain.specs.Files.{Files, overwritten}
 use Rattle.nv_plain.specs.declared.call.FileCall.{FileCall}
-use Rattle.nv_plain.specs.declared.call.FileCall.TheVariants.{Read, Write, Sync}
+use Rattle.nv_plain.specs.declared.call.FileCall.TheVariants.{Read, Write, Readv, Writev, Sync}
 use Rattle.nv_plain.specs.declared.call.Reply.{Reply}
 use Rattle.nv_store.specs.Store.{Store}
 use Rattle.nv_core.specs.state.Words.{Sizes, Word, PAGE, CLEANUP, DIRTY, ENTRY, STORE, same, index, HEADER, slot_of_entry}
@@ -225,6 +225,8 @@ place_whole sizes values pass reply control may = absurd may
 pub read_only : (call : FileCall) → is_read call ≡ true → is_write call ≡ false
 read_only (Read file at len) read = refl
 read_only (Write file at bytes) read = absurd (true≢false (sym read))
+read_only (Readv file at lens) read = refl
+read_only (Writev file at parts) read = refl
 read_only (Sync file) read = refl
 
 -- what its buffers have then: all of its pieces

@@ -9,7 +9,7 @@ use Rattle.nv_plain.specs.Files.{Files, contents_of, overwritten}
 use Rattle.nv_plain.specs.Pieces.{Piece, pages_touched, piece_of, piece_bytes}
 use Rattle.nv_plain.specs.Calls.{files_after}
 use Rattle.nv_plain.specs.declared.call.FileCall.{FileCall}
-use Rattle.nv_plain.specs.declared.call.FileCall.TheVariants.{Read, Write, Sync}
+use Rattle.nv_plain.specs.declared.call.FileCall.TheVariants.{Read, Write, Readv, Writev, Sync}
 use Rattle.nv_plain.specs.Made.{after_calls, made_calls}
 use Rattle.nv_store.specs.Store.{Store}
 use Rattle.nv_core.specs.state.Words.{Sizes, HEAD, TAIL, STORE, ENTRY, PAGE, kind_of, was_readied, free, filling}
@@ -157,6 +157,8 @@ pub piece_page : (plain : PlainLaws) (sizes : Sizes) (call : FileCall) (files : 
     → page_in sizes (files_after (piece_write sizes call i) files) page ≡ (if first_page sizes call + i == page then with_own_pieces sizes call page (page_in sizes files page) else page_in sizes files page)
 piece_page plain sizes (Write file at bytes) files i page write allowed there low = written_page plain sizes files file at bytes (ltb-true 0 (length bytes) write) allowed there i low page
 piece_page plain sizes (Read file at len) files i page write allowed there low = absurd (true≢false (sym write))
+piece_page plain sizes (Readv file at lens) files i page write allowed there low = absurd (true≢false (sym write))
+piece_page plain sizes (Writev file at parts) files i page write allowed there low = absurd (true≢false (sym write))
 piece_page plain sizes (Sync file) files i page write allowed there low = absurd (true≢false (sym write))
 
 -- ---- the history, and what is to be placed

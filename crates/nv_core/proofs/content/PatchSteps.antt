@@ -6,7 +6,7 @@ use Rattle.nv_plain.specs.Files.{overwritten}
 use Rattle.nv_plain.specs.Images.{PartImage, Image, entry_of, data_of}
 use Rattle.nv_plain.specs.Pieces.{piece_of, piece_bytes}
 use Rattle.nv_plain.specs.declared.call.FileCall.{FileCall}
-use Rattle.nv_plain.specs.declared.call.FileCall.TheVariants.{Read, Write, Sync}
+use Rattle.nv_plain.specs.declared.call.FileCall.TheVariants.{Read, Write, Readv, Writev, Sync}
 use Rattle.nv_pmem.specs.Part.{Part, part_word}
 use Rattle.nv_pmem.specs.Images.{IsPartImage}
 use Rattle.nv_pmem.specs.Laws.{LoadsAreAnImage}
@@ -229,6 +229,8 @@ module _ (loads : LoadsAreAnImage) (sizes : Sizes) (log : Log) (core : Core) (gr
     where
       go : (call : FileCall) → (log.group number).call ≡ call → overwritten old ((entry_of (part_word part)).at % sizes.page) (data_of (part_word part) (entry_of (part_word part)).size) ≡ with_own_pieces sizes call page old
       go (Read file at len) e = absurd (whole (Read file at len) e)
+      go (Readv file at lens) e = absurd (whole (Readv file at lens) e)
+      go (Writev file at parts) e = absurd (whole (Writev file at parts) e)
       go (Sync file) e = absurd (whole (Sync file) e)
       go (Write file at bytes) e =
           let g = groups.each number within in

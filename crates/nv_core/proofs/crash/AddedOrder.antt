@@ -5,7 +5,6 @@ use Rattle.nv_plain.specs.Files.{Files}
 use Rattle.nv_plain.specs.Images.{Image, entry_of}
 use Rattle.nv_plain.specs.Calls.{files_after}
 use Rattle.nv_plain.specs.declared.call.FileCall.{FileCall}
-use Rattle.nv_plain.specs.declared.call.FileCall.TheVariants.{Read, Write, Sync}
 use Rattle.nv_plain.specs.Made.{after_calls, made_calls}
 use Rattle.nv_pmem.specs.Laws.{LoadsAreAnImage}
 use Rattle.nv_entry.specs.Commits.{GroupsAreAtomic, GroupsBecomeWhole, GroupsEndQuiet, GroupsStoreNothingElse}
@@ -30,7 +29,7 @@ use Rattle.nv_core.specs.invariant.Sound.{Sound}
 use Rattle.nv_core.specs.content.PlainLaws.{PlainLaws}
 use Rattle.nv_core.proofs.state.Choices.{not_both}
 use Rattle.nv_core.proofs.crash.CommutingLaws.{IsApartFrom, comes_first, after_both}
-use Rattle.nv_core.proofs.log.LiveLaws.{AllApart, apart_both}
+use Rattle.nv_core.proofs.log.LiveLaws.{AllApart, apart_both, apart_turned}
 use Rattle.nv_core.proofs.log.KeepsLive.{if_apart}
 use Rattle.nv_core.proofs.log.KeepsUnready.{not_readied}
 use Rattle.nv_core.proofs.log.ImageLaws.{entry_images, stale_words}
@@ -93,17 +92,6 @@ rising_both one other from count start many apart = rising_all one (rising other
 each_if : (test : Bool) (call : FileCall) → AreEachApart (call_if test call)
 each_if true call = (tt, tt)
 each_if false call = tt
-
-apart_turned : (one other : FileCall) → Commute one other → Commute other one
-apart_turned (Write file at bytes) (Write other from others) is = elim is [ inl ne ↦ inl (λ e. ne (sym e)) | inr away ↦ inr (elim away [ inl before ↦ inr before | inr behind ↦ inl behind ]) ]
-apart_turned (Write file at bytes) (Read other from count) is = tt
-apart_turned (Write file at bytes) (Sync other) is = tt
-apart_turned (Read file at len) (Write other from others) is = tt
-apart_turned (Read file at len) (Read other from count) is = tt
-apart_turned (Read file at len) (Sync other) is = tt
-apart_turned (Sync file) (Write other from others) is = tt
-apart_turned (Sync file) (Read other from count) is = tt
-apart_turned (Sync file) (Sync other) is = tt
 
 -- ---- the added writes
 

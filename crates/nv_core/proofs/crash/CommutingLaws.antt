@@ -1,14 +1,15 @@
 -- Commuting writes: a call that is apart from those before it may as well come first.
 use Rattle.std.proofs.Common.{◌≡◌, ◌≢◌, ◌⊎◌, ℕ, ◌+◌, ◌<◌, ◌≤◌, List, [], ◌∷◌, ◌++◌, length, get_or, inl, inr, refl, sym, ap, subst, ◌∙◌, arith}
+use Rattle.std.specs.List.{concat}
 use Rattle.std.proofs.Math.ListN.{set}
 use Rattle.std.proofs.lemmas.Bool.{cases_lt, cases_eq}
 use Rattle.std.proofs.lemmas.List.{length-set, get_or-set_same, get_or-set_other, ext_get_or}
 use Rattle.nv_plain.specs.declared.call.FileCall.{FileCall}
-use Rattle.nv_plain.specs.declared.call.FileCall.TheVariants.{Read, Write, Sync}
+use Rattle.nv_plain.specs.declared.call.FileCall.TheVariants.{Read, Write, Readv, Writev, Sync}
 use Rattle.nv_plain.specs.Files.{Files, overwritten}
 use Rattle.nv_plain.specs.Calls.{files_after}
 use Rattle.nv_plain.specs.Made.{after_calls}
-use Rattle.nv_core.specs.crash.CommutingWrites.{AreDisjoint, Commute}
+use Rattle.nv_core.specs.crash.CommutingWrites.{AreApart, AreDisjoint, Commute}
 use Rattle.nv_core.specs.content.PlainLaws.{PlainLaws}
 
 -- ---- two that don't meet, in either order
@@ -98,24 +99,33 @@ both_here {A = A} d xs k f g swap =
     go i less (inr a) = at_other d (set xs k (f (get_or xs k d))) k _ i a ∙ at_other d xs k _ i a
         ∙ sym (at_other d (set xs k (g (get_or xs k d))) k _ i a ∙ at_other d xs k _ i a)
 
--- two calls that are apart leave the same files in either order
-pub calls_apart : (plain : PlainLaws) (one other : FileCall) (files : Files) → Commute one other → files_after other (files_after one files) ≡ files_after one (files_after other files)
-calls_apart plain (Read file at len) (Read other from count) files apart = refl
-calls_apart plain (Read file at len) (Write other from others) files apart = refl
-calls_apart plain (Read file at len) (Sync other) files apart = refl
-calls_apart plain (Sync file) (Read other from count) files apart = refl
-calls_apart plain (Sync file) (Write other from others) files apart = refl
-calls_apart plain (Sync file) (Sync other) files apart = refl
-calls_apart plain (Write file at bytes) (Read other from count) files apart = refl
-calls_apart plain (Write file at bytes) (Sync other) files apart = refl
-calls_apart plain (Write file at bytes) (Write other from others) files apart = writes (cases_eq file other) apart
+-- two writes that are apart leave the same files in either order
+writes_apart : (plain : PlainLaws) (file at : ℕ) (bytes : List ℕ) (other from : ℕ) (others : List ℕ) (files : Files) → AreApart file at (length bytes) other from (length others)
+    → files_after (Write other from others) (files_after (Write file at bytes) files) ≡ files_after (Write file at bytes) (files_after (Write other from others) files)
+writes_apart plain file at bytes other from others files apart = writes (cases_eq file other) apart
   where
-    writes : (file ≡ other) ⊎ (file ≢ other) → Commute (Write file at bytes) (Write other from others)
+    writes : (file ≡ other) ⊎ (file ≢ other) → AreApart file at (length bytes) other from (length others)
         → files_after (Write other from others) (files_after (Write file at bytes) files) ≡ files_after (Write file at bytes) (files_after (Write other from others) files)
     writes (inr ne) is = ap (λ c. record { contents = c }) (both_elsewhere [] files.contents file other (λ c. overwritten c at bytes) (λ c. overwritten c from others) ne)
     writes (inl same) (inl ne) = absurd (ne same)
     writes (inl same) (inr apart) = subst (λ o. files_after (Write o from others) (files_after (Write file at bytes) files) ≡ files_after (Write file at bytes) (files_after (Write o from others) files)) same
         (ap (λ c. record { contents = c }) (both_here [] files.contents file (λ c. overwritten c at bytes) (λ c. overwritten c from others) (λ c. overwritten-apart plain c bytes others at from apart)))
+
+-- and so do any two calls
+pub calls_apart : (plain : PlainLaws) (one other : FileCall) (files : Files) → Commute one other → files_after other (files_after one files) ≡ files_after one (files_after other files)
+calls_apart plain (Read file at len) other files apart = refl
+calls_apart plain (Readv file at lens) other files apart = refl
+calls_apart plain (Sync file) other files apart = refl
+calls_apart plain (Write file at bytes) (Read other from count) files apart = refl
+calls_apart plain (Write file at bytes) (Readv other from lens) files apart = refl
+calls_apart plain (Write file at bytes) (Sync other) files apart = refl
+calls_apart plain (Write file at bytes) (Write other from others) files apart = writes_apart plain file at bytes other from others files apart
+calls_apart plain (Write file at bytes) (Writev other from others) files apart = writes_apart plain file at bytes other from (concat others) files apart
+calls_apart plain (Writev file at parts) (Read other from count) files apart = refl
+calls_apart plain (Writev file at parts) (Readv other from lens) files apart = refl
+calls_apart plain (Writev file at parts) (Sync other) files apart = refl
+calls_apart plain (Writev file at parts) (Write other from others) files apart = writes_apart plain file at (concat parts) other from others files apart
+calls_apart plain (Writev file at parts) (Writev other from others) files apart = writes_apart plain file at (concat parts) other from (concat others) files apart
 
 -- ---- of a list of calls
 

@@ -1,9 +1,10 @@
 -- Covered bytes: files that differ only where some calls write are the same after these calls.
 use Rattle.std.proofs.Common.{◌≡◌, ◌≢◌, ◌⊎◌, ℕ, ◌+◌, ◌<◌, ◌≤◌, List, [], ◌∷◌, length, get_or, inl, inr, refl, sym, ap, subst, ◌∙◌, arith}
+use Rattle.std.specs.List.{concat}
 use Rattle.std.proofs.lemmas.Bool.{cases_lt, cases_eq}
 use Rattle.std.proofs.lemmas.List.{length-set, get_or_past, ext_get_or}
 use Rattle.nv_plain.specs.declared.call.FileCall.{FileCall}
-use Rattle.nv_plain.specs.declared.call.FileCall.TheVariants.{Read, Write, Sync}
+use Rattle.nv_plain.specs.declared.call.FileCall.TheVariants.{Read, Write, Readv, Writev, Sync}
 use Rattle.nv_plain.specs.Files.{Files, contents_of, with_contents, overwritten}
 use Rattle.nv_plain.specs.Calls.{files_after}
 use Rattle.nv_plain.specs.Made.{after_calls}
@@ -128,6 +129,10 @@ module _ (plain : PlainLaws) (file at : ℕ) (bytes : List ℕ) (later : List Fi
 pub alike_after : (plain : PlainLaws) (calls : List FileCall) (one other : Files) → Agree calls one other → after_calls calls one ≡ after_calls calls other
 alike_after plain [] one other agree = same_files one other agree
 alike_after plain (Read file at len ∷ later) one other agree = alike_after plain later one other (still (Read file at len) later one other (λ f i none. none) agree)
+alike_after plain (Readv file at lens ∷ later) one other agree = alike_after plain later one other (still (Readv file at lens) later one other (λ f i none. none) agree)
 alike_after plain (Sync file ∷ later) one other agree = alike_after plain later one other (still (Sync file) later one other (λ f i none. none) agree)
 alike_after plain (Write file at bytes ∷ later) one other agree =
     alike_after plain later (files_after (Write file at bytes) one) (files_after (Write file at bytes) other) (write_agrees plain file at bytes later one other agree)
+alike_after plain (Writev file at parts ∷ later) one other agree =
+    alike_after plain later (files_after (Writev file at parts) one) (files_after (Writev file at parts) other)
+    (write_agrees plain file at (concat parts) later one other record { count = agree.count; bytes = agree.bytes; ends = agree.ends })

@@ -13,7 +13,7 @@ use Rattle.nv_plain.specs.Layouts.{mount_layout}
 use Rattle.nv_plain.specs.Pieces.{pages_touched, piece_of}
 use Rattle.nv_plain.specs.Recovered.{IsFollower, IsPiece, GoesOn, IsGroup, Fits, group_numbers, with_entry}
 use Rattle.nv_plain.specs.declared.call.FileCall.{FileCall}
-use Rattle.nv_plain.specs.declared.call.FileCall.TheVariants.{Read, Write, Sync}
+use Rattle.nv_plain.specs.declared.call.FileCall.TheVariants.{Read, Write, Readv, Writev, Sync}
 use Rattle.nv_plain.specs.Made.{after_calls}
 use Rattle.nv_header.specs.Heads.{first_names}
 use Rattle.nv_header.specs.Regions.{ReadsAs}
@@ -211,6 +211,8 @@ module _ (plain : PlainLaws) (sizes : Sizes) (first : Values) (opened : Files) (
       absurd (none 0 some (subst (λ m. (entry_of (image (1 + slot_of_entry sizes m))).commit ≡ m + 1) (sym (add-zero n)) (commits n committed)))
   call_whole (Write file at bytes) n some committed (inr whole) = whole
   call_whole (Read file at len) n some committed reads = absurd reads
+  call_whole (Readv file at lens) n some committed reads = absurd reads
+  call_whole (Writev file at parts) n some committed reads = absurd reads
   call_whole (Sync file) n some committed reads = absurd reads
 
   pub whole_if : (n : ℕ) → LeadsGroup sizes log core n → is_committed sizes image n ≡ true → ReadsWhole sizes (log.group n).call n image
@@ -222,16 +224,22 @@ module _ (plain : PlainLaws) (sizes : Sizes) (first : Values) (opened : Files) (
   group_of_call (Write file at bytes) n whole write allowed within small =
       group_fits sizes names tail image reads n file at bytes (ltb-true 0 (length bytes) write) whole allowed region.pages region.files within small
   group_of_call (Read file at len) n whole write allowed within small = absurd whole
+  group_of_call (Readv file at lens) n whole write allowed within small = absurd whole
+  group_of_call (Writev file at parts) n whole write allowed within small = absurd whole
   group_of_call (Sync file) n whole write allowed within small = absurd whole
 
   call_after : (call : FileCall) (n : ℕ) (files : Files) → ReadsWhole sizes call n image → is_write call ≡ true → file_of call < length files.contents → fold (with_entry image) files (group_numbers image n) ≡ files_after call files
   call_after (Write file at bytes) n files whole write there = group_after sizes names tail image reads n file at bytes (ltb-true 0 (length bytes) write) whole plain files there
   call_after (Read file at len) n files whole write there = absurd whole
+  call_after (Readv file at lens) n files whole write there = absurd whole
+  call_after (Writev file at parts) n files whole write there = absurd whole
   call_after (Sync file) n files whole write there = absurd whole
 
   call_count : (call : FileCall) (n : ℕ) → ReadsWhole sizes call n image → is_write call ≡ true → (image_entry image n).count ≡ page_count sizes call
   call_count (Write file at bytes) n whole write = count_is sizes names tail image reads n file at bytes (ltb-true 0 (length bytes) write) whole
   call_count (Read file at len) n whole write = absurd whole
+  call_count (Readv file at lens) n whole write = absurd whole
+  call_count (Writev file at parts) n whole write = absurd whole
   call_count (Sync file) n whole write = absurd whole
 
   -- the window lies in the image's
@@ -255,6 +263,8 @@ module _ (plain : PlainLaws) (sizes : Sizes) (first : Values) (opened : Files) (
   committed_of : (call : FileCall) (n : ℕ) → tail ≤ n → ReadsWhole sizes call n image → is_committed sizes image n ≡ true
   committed_of (Write file at bytes) n low whole = sym (from_tail n low) ∙ eq-eqb (entry_of (image (1 + slot_of_entry sizes n))).commit (n + 1) (subst (λ m. (entry_of (image (1 + slot_of_entry sizes m))).commit ≡ n + 1) (add-zero n) whole.committed)
   committed_of (Read file at len) n low whole = absurd whole
+  committed_of (Readv file at lens) n low whole = absurd whole
+  committed_of (Writev file at parts) n low whole = absurd whole
   committed_of (Sync file) n low whole = absurd whole
 
   -- a leader from the tail on that was made ready reads as committed

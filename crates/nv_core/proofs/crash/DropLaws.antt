@@ -1,9 +1,10 @@
 -- Calls dropped: where some calls leave the same files without others, these may be left out one by one, the first of them first.
 use Rattle.std.proofs.Common.{◌≡◌, ◌⊎◌, ℕ, zero, suc, ◌+◌, ◌<◌, ◌≤◌, List, [], ◌∷◌, ◌++◌, length, get_or, inl, inr, refl, sym, ap, subst, ◌∙◌, arith}
+use Rattle.std.specs.List.{concat}
 use Rattle.std.proofs.lemmas.Bool.{cases_lt, cases_eq}
 use Rattle.std.proofs.lemmas.List.{length-set, get_or_past}
 use Rattle.nv_plain.specs.declared.call.FileCall.{FileCall}
-use Rattle.nv_plain.specs.declared.call.FileCall.TheVariants.{Read, Write, Sync}
+use Rattle.nv_plain.specs.declared.call.FileCall.TheVariants.{Read, Write, Readv, Writev, Sync}
 use Rattle.nv_plain.specs.Files.{Files, contents_of, with_contents, overwritten}
 use Rattle.nv_plain.specs.Calls.{files_after}
 use Rattle.nv_plain.specs.Made.{after_calls}
@@ -16,16 +17,21 @@ use Rattle.nv_core.proofs.crash.CoverLaws.{IsTouched, EndAlike, Agree, alike_aft
 
 -- ---- whether a byte is written
 
-touches_or_not : (call : FileCall) (file i : ℕ) → Touches call file i ⊎ (Touches call file i → ⊥)
-touches_or_not (Read one at len) file i = inr (λ t. t)
-touches_or_not (Sync one) file i = inr (λ t. t)
-touches_or_not (Write one at bytes) file i = elim (cases_eq one file) [
+written_or_not : (one at : ℕ) (bytes : List ℕ) (file i : ℕ) → Touches (Write one at bytes) file i ⊎ (Touches (Write one at bytes) file i → ⊥)
+written_or_not one at bytes file i = elim (cases_eq one file) [
   | inr ne ↦ inr (λ t. ne t.0)
   | inl e ↦ elim (in_or_out at (length bytes) i) [
     | inl inside ↦ inl (e, inside.0, inside.1)
     | inr outside ↦ inr (λ t. let low = t.1 in let high = t.2 in elim outside [ inl before ↦ omega (arith, before, low) | inr behind ↦ omega (arith, behind, high) ])
   ]
 ]
+
+touches_or_not : (call : FileCall) (file i : ℕ) → Touches call file i ⊎ (Touches call file i → ⊥)
+touches_or_not (Read one at len) file i = inr (λ t. t)
+touches_or_not (Readv one at lens) file i = inr (λ t. t)
+touches_or_not (Sync one) file i = inr (λ t. t)
+touches_or_not (Write one at bytes) file i = written_or_not one at bytes file i
+touches_or_not (Writev one at parts) file i = written_or_not one at (concat parts) file i
 
 touched_or_not : (calls : List FileCall) (file i : ℕ) → IsTouched calls file i ⊎ (IsTouched calls file i → ⊥)
 touched_or_not [] file i = inr (λ t. t)
@@ -37,10 +43,9 @@ touched_or_not (call ∷ later) file i = elim (touches_or_not call file i) [
 -- ---- what a call leaves
 
 -- a byte that a call doesn't write is as it was
-byte_left : (plain : PlainLaws) (call : FileCall) (files : Files) (file i : ℕ) → (Touches call file i → ⊥) → get_or (contents_of (files_after call files) file) i 0 ≡ get_or (contents_of files file) i 0
-byte_left plain (Read one at len) files file i none = refl
-byte_left plain (Sync one) files file i none = refl
-byte_left plain (Write one at bytes) files file i none = elim (cases_eq file one) [
+write_left : (plain : PlainLaws) (one at : ℕ) (bytes : List ℕ) (files : Files) (file i : ℕ) → (Touches (Write one at bytes) file i → ⊥)
+    → get_or (contents_of (files_after (Write one at bytes) files) file) i 0 ≡ get_or (contents_of files file) i 0
+write_left plain one at bytes files file i none = elim (cases_eq file one) [
   | inr ne ↦ ap (λ b. get_or b i 0) (contents_else files one file (overwritten (contents_of files one) at bytes) ne)
   | inl e ↦ elim (cases_lt one (length files.contents)) [
     | inl there ↦ subst (λ f. get_or (contents_of (with_contents files one (overwritten (contents_of files one) at bytes)) f) i 0 ≡ get_or (contents_of files f) i 0) (sym e)
@@ -52,15 +57,21 @@ byte_left plain (Write one at bytes) files file i none = elim (cases_eq file one
   ]
 ]
 
+byte_left : (plain : PlainLaws) (call : FileCall) (files : Files) (file i : ℕ) → (Touches call file i → ⊥) → get_or (contents_of (files_after call files) file) i 0 ≡ get_or (contents_of files file) i 0
+byte_left plain (Read one at len) files file i none = refl
+byte_left plain (Readv one at lens) files file i none = refl
+byte_left plain (Sync one) files file i none = refl
+byte_left plain (Write one at bytes) files file i none = write_left plain one at bytes files file i none
+byte_left plain (Writev one at parts) files file i none = write_left plain one at (concat parts) files file i none
+
 -- a file is as long as it was, or longer, and ends with a byte that the call writes
 data IsLong (call : FileCall) (file old new : ℕ) : Type 0 where
   Same : new ≡ old → IsLong call file old new
   Longer : (i : ℕ) → Touches call file i → new ≡ i + 1 → old ≤ new → IsLong call file old new
 
-end_left : (plain : PlainLaws) (call : FileCall) (files : Files) (file : ℕ) → IsLong call file (length (contents_of files file)) (length (contents_of (files_after call files) file))
-end_left plain (Read one at len) files file = Same refl
-end_left plain (Sync one) files file = Same refl
-end_left plain (Write one at bytes) files file = elim (cases_eq file one) [
+write_ends : (plain : PlainLaws) (one at : ℕ) (bytes : List ℕ) (files : Files) (file : ℕ)
+    → IsLong (Write one at bytes) file (length (contents_of files file)) (length (contents_of (files_after (Write one at bytes) files) file))
+write_ends plain one at bytes files file = elim (cases_eq file one) [
   | inr ne ↦ Same (ap length (contents_else files one file (overwritten (contents_of files one) at bytes) ne))
   | inl e ↦ subst (λ f. IsLong (Write one at bytes) f (length (contents_of files f)) (length (contents_of (with_contents files one (overwritten (contents_of files one) at bytes)) f))) (sym e) (here (cases_lt one (length files.contents)))
 ]
@@ -79,6 +90,13 @@ end_left plain (Write one at bytes) files file = elim (cases_eq file one) [
     here (inl there) = subst (λ b. IsLong (Write one at bytes) one (length (contents_of files one)) (length b)) (sym (contents_here files one (overwritten (contents_of files one) at bytes) there)) (source bytes refl)
     here (inr past) = Same (ap length (get_or_past (with_contents files one (overwritten (contents_of files one) at bytes)).contents one [] (let l = length-set files.contents one (overwritten (contents_of files one) at bytes) in omega (arith, l, past))
         ∙ sym (get_or_past files.contents one [] past)))
+
+end_left : (plain : PlainLaws) (call : FileCall) (files : Files) (file : ℕ) → IsLong call file (length (contents_of files file)) (length (contents_of (files_after call files) file))
+end_left plain (Read one at len) files file = Same refl
+end_left plain (Readv one at lens) files file = Same refl
+end_left plain (Sync one) files file = Same refl
+end_left plain (Write one at bytes) files file = write_ends plain one at bytes files file
+end_left plain (Writev one at parts) files file = elim (write_ends plain one at (concat parts) files file) [ Same e ↦ Same e | Longer i touched is low ↦ Longer i touched is low ]
 
 -- ---- what some calls leave
 
@@ -116,6 +134,8 @@ dropped plain call others few files among same = sym (alike_after plain others (
       where
         go : (c : FileCall) → length (files_after c files).contents ≡ length files.contents
         go (Read one at len) = refl
+        go (Readv one at lens) = refl
+        go (Writev one at parts) = length-set files.contents one (overwritten (contents_of files one) at (concat parts))
         go (Sync one) = refl
         go (Write one at bytes) = length-set files.contents one (overwritten (contents_of files one) at bytes)
 

@@ -3,7 +3,7 @@ use Rattle.std.proofs.Common.{◌≡◌, ◌≢◌, ℕ, ◌+◌, ◌==◌, ◌&
 use Rattle.std.proofs.lemmas.Bool.{eqb-false, lt-ltb, true≢false}
 use Rattle.nv_plain.specs.Histories.{Answered}
 use Rattle.nv_plain.specs.declared.call.FileCall.{FileCall}
-use Rattle.nv_plain.specs.declared.call.FileCall.TheVariants.{Read, Write, Sync}
+use Rattle.nv_plain.specs.declared.call.FileCall.TheVariants.{Read, Write, Readv, Writev, Sync}
 use Rattle.nv_plain.specs.declared.call.Reply.{Reply}
 use Rattle.nv_core.specs.state.Words.{Sizes, Word, ENTRY, slot_of_entry}
 use Rattle.nv_core.specs.state.Values.{CallEnding, Made, Failed, Refused}
@@ -29,6 +29,8 @@ use Rattle.nv_core.proofs.log.KeepsInFlight.{flew, is_place, not_placing, not_en
 written : (sizes : Sizes) (call : FileCall) → is_write call ≡ true → entries_of sizes call ≡ page_count sizes call
 written sizes (Write file at bytes) is = refl
 written sizes (Read file at len) is = absurd (true≢false (sym is))
+written sizes (Readv file at lens) is = absurd (true≢false (sym is))
+written sizes (Writev file at parts) is = absurd (true≢false (sym is))
 written sizes (Sync file) is = absurd (true≢false (sym is))
 
 -- a call that is no write of at least one byte draws nothing
@@ -36,11 +38,15 @@ unwritten : (sizes : Sizes) (call : FileCall) → is_write call ≡ false → en
 unwritten sizes (Write file at bytes) none = if_both (λ n. n ≡ 0) (length bytes == 0) 0 _ (λ _. refl)
     (λ some. absurd (let ne = eqb-false (length bytes) 0 some in not_both (lt-ltb 0 (length bytes) (omega (arith, ne))) none))
 unwritten sizes (Read file at len) none = refl
+unwritten sizes (Readv file at lens) none = refl
+unwritten sizes (Writev file at parts) none = refl
 unwritten sizes (Sync file) none = refl
 
 reads_none : (sizes : Sizes) (call : FileCall) → is_read call ≡ true → entries_of sizes call ≡ 0
 reads_none sizes (Read file at len) is = refl
 reads_none sizes (Write file at bytes) is = absurd (true≢false (sym is))
+reads_none sizes (Readv file at lens) is = refl
+reads_none sizes (Writev file at parts) is = refl
 reads_none sizes (Sync file) is = refl
 
 placed_more : (sizes : Sizes) (calls : List Answered) (one : Answered) → placed_entries sizes (calls ++ one ∷ []) ≡ placed_entries sizes calls + entries_of sizes (plain_call one.call)

@@ -3,7 +3,7 @@ use Rattle.std.proofs.Common.{◌≡◌, ℕ, ◌+◌, ◌-◌, ◌*◌, ◌/◌
 use Rattle.std.proofs.lemmas.Bool.{ltb-true, eqb-true, true≢false}
 use Rattle.std.proofs.lemmas.Nat.{div_below}
 use Rattle.nv_plain.specs.declared.call.FileCall.{FileCall}
-use Rattle.nv_plain.specs.declared.call.FileCall.TheVariants.{Read, Write, Sync}
+use Rattle.nv_plain.specs.declared.call.FileCall.TheVariants.{Read, Write, Readv, Writev, Sync}
 use Rattle.nv_core.specs.state.Words.{Sizes, ENTRY, same, page_total, free, filling, broken, ready, held, cleaned, kind_of, is_entry_of, slot_of_entry}
 use Rattle.nv_core.specs.state.Cleaner.{Clean, Free}
 use Rattle.nv_core.specs.state.Cleaner as cleaner
@@ -28,6 +28,8 @@ use Rattle.nv_core.proofs.invariant.KeepsLocks.{entry_is}
 some_bytes : (call : FileCall) → is_write call ≡ true → 1 ≤ len_of call
 some_bytes (Write file at bytes) write = ltb-true 0 _ write
 some_bytes (Read file at len) write = absurd (true≢false (sym write))
+some_bytes (Readv file at lens) write = absurd (true≢false (sym write))
+some_bytes (Writev file at parts) write = absurd (true≢false (sym write))
 some_bytes (Sync file) write = absurd (true≢false (sym write))
 
 -- bytes below so many pages touch pages below so many

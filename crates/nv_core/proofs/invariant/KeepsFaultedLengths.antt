@@ -2,7 +2,7 @@
 use Rattle.std.proofs.Common.{◌≡◌, ℕ, ◌+◌, ◌≤◌, nat_lt, true, refl, sym, ap, subst, ◌∙◌, arith}
 use Rattle.std.proofs.lemmas.Bool.{and_from, lt-ltb, true≢false}
 use Rattle.nv_plain.specs.declared.call.FileCall.{FileCall}
-use Rattle.nv_plain.specs.declared.call.FileCall.TheVariants.{Read, Write, Sync}
+use Rattle.nv_plain.specs.declared.call.FileCall.TheVariants.{Read, Write, Readv, Writev, Sync}
 use Rattle.nv_core.specs.state.Words.{Sizes, Word, SIZE, STORE, ENTRY, CLEANUP, index}
 use Rattle.nv_core.specs.state.Passes.{Fault, Control, SetStopAfterRead, SetStopAfterCommit, IsOneOf, file_of, at_of, len_of, is_write, times, SetStopAfterPiece}
 use Rattle.nv_core.specs.steps.Ops.{Op}
@@ -34,6 +34,8 @@ none count least = omega arith
 some_bytes : (call : FileCall) → is_write call ≡ true → nat_lt 0 (len_of call) ≡ true
 some_bytes (Write file at bytes) write = write
 some_bytes (Read file at len) write = absurd (true≢false (sym write))
+some_bytes (Readv file at lens) write = absurd (true≢false (sym write))
+some_bytes (Writev file at parts) write = absurd (true≢false (sym write))
 some_bytes (Sync file) write = absurd (true≢false (sym write))
 
 failing_measured : (control : Control) → IsFailing control → HasMeasured control

@@ -2,7 +2,7 @@
 use Rattle.std.proofs.Common.{◌≢◌, ℕ, zero, suc, ◌+◌, ◌-◌, ◌<◌, ◌≤◌, ◌==◌, List, [], ◌∷◌, inl, inr, refl, sym, ap, subst, ◌∙◌, arith}
 use Rattle.std.proofs.lemmas.Bool.{eqb-true, cases_eq}
 use Rattle.nv_plain.specs.declared.call.FileCall.{FileCall}
-use Rattle.nv_plain.specs.declared.call.FileCall.TheVariants.{Read, Write, Sync}
+use Rattle.nv_plain.specs.declared.call.FileCall.TheVariants.{Read, Write, Readv, Writev, Sync}
 use Rattle.nv_pmem.specs.Rows.{steps_on}
 use Rattle.nv_pmem.specs.Steps.{LineStep}
 use Rattle.nv_entry.specs.Commits.{GroupsEndReady}
@@ -40,6 +40,8 @@ steps_keep sizes = record {
 all_due : GroupsEndReady → (sizes : Sizes) (pass : Pass) (call : FileCall) (i : ℕ) (value : Value) → i < page_count sizes call → KeepsReady sizes value → EndsReady sizes (steps_on i (commit_steps sizes pass call)) value
 all_due ends sizes pass (Write file at bytes) i (APart device spares) less is = ends sizes.page pass.first file at bytes i (room_of_spares spares) less is
 all_due ends sizes pass (Read file at len) i value less is = is
+all_due ends sizes pass (Readv file at lens) i value less is = is
+all_due ends sizes pass (Writev file at parts) i value less is = is
 all_due ends sizes pass (Sync file) i value less is = is
 all_due ends sizes pass call i value less is = absurd is
 

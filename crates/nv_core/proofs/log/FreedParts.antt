@@ -6,7 +6,7 @@ use Rattle.std.proofs.lemmas.List.{take_all, length-set, get_or-set_same, get_or
 use Rattle.nv_plain.specs.Images.{PartImage, Image}
 use Rattle.nv_plain.specs.Pieces.{pages_touched}
 use Rattle.nv_plain.specs.declared.call.FileCall.{FileCall}
-use Rattle.nv_plain.specs.declared.call.FileCall.TheVariants.{Read, Write, Sync}
+use Rattle.nv_plain.specs.declared.call.FileCall.TheVariants.{Read, Write, Readv, Writev, Sync}
 use Rattle.nv_pmem.specs.Part.{Part, part_word}
 use Rattle.nv_pmem.specs.Images.{IsPartImage, IsQuietPart}
 use Rattle.nv_pmem.specs.Laws.{StepsKeepLines}
@@ -102,4 +102,6 @@ pub group_blank : LogLaws → (sizes : Sizes) (values : Values) (tail : ℕ) (ca
     → (i : ℕ) → i < page_count sizes call → IsBlankEntry sizes (values (ENTRY (slot_of_entry sizes (first + i)))) tail (slot_of_entry sizes (first + i))
 group_blank laws sizes values tail (Write file at bytes) first calls written all below i less = part_blank laws sizes values tail first file at bytes calls written all below i less
 group_blank laws sizes values tail (Read file at len) first calls written all below i less = absurd written
+group_blank laws sizes values tail (Readv file at lens) first calls written all below i less = absurd written
+group_blank laws sizes values tail (Writev file at parts) first calls written all below i less = absurd written
 group_blank laws sizes values tail (Sync file) first calls written all below i less = absurd written

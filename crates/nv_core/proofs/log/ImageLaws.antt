@@ -7,7 +7,7 @@ use Rattle.std.proofs.lemmas.List.{get_or_past, take_all}
 use Rattle.nv_plain.specs.Images.{Image, entry_of}
 use Rattle.nv_plain.specs.Pieces.{pages_touched}
 use Rattle.nv_plain.specs.declared.call.FileCall.{FileCall}
-use Rattle.nv_plain.specs.declared.call.FileCall.TheVariants.{Read, Write, Sync}
+use Rattle.nv_plain.specs.declared.call.FileCall.TheVariants.{Read, Write, Readv, Writev, Sync}
 use Rattle.nv_pmem.specs.Part.{Part, part_word}
 use Rattle.nv_pmem.specs.Images.{IsPartImage, IsQuietPart}
 use Rattle.nv_pmem.specs.Laws.{LoadsAreAnImage}
@@ -132,27 +132,37 @@ module _ (loads : LoadsAreAnImage) (sizes : Sizes) (values : Values) (tail : ℕ
   call_reads : GroupsAreAtomic → (call : FileCall) (first calls : ℕ) → IsWritten sizes values tail call first calls → tail ≤ first → InEachImageOf sizes values (ReadsOpenOrWhole sizes call first)
   call_reads atomic (Write file at bytes) first calls written low = reads loads sizes values tail first file at bytes calls some written atomic low
   call_reads atomic (Read file at len) first calls written low = absurd written
+  call_reads atomic (Readv file at lens) first calls written low = absurd written
+  call_reads atomic (Writev file at parts) first calls written low = absurd written
   call_reads atomic (Sync file) first calls written low = absurd written
 
   pub call_still : GroupsStayOpen → (call : FileCall) (first calls : ℕ) → IsWritten sizes values tail call first calls → tail ≤ first → calls + 3 ≤ commit_length sizes call first → InEachImageOf sizes values (ReadsOpen sizes call first)
   call_still stay (Write file at bytes) first calls written low few = reads_still loads sizes values tail first file at bytes calls some written stay low few
   call_still stay (Read file at len) first calls written low few = absurd written
+  call_still stay (Readv file at lens) first calls written low few = absurd written
+  call_still stay (Writev file at parts) first calls written low few = absurd written
   call_still stay (Sync file) first calls written low few = absurd written
 
   call_open : (call : FileCall) (first calls : ℕ) → IsWritten sizes values tail call first calls → tail ≤ first → calls ≡ 0 → InEachImageOf sizes values (ReadsOpen sizes call first)
   call_open (Write file at bytes) first calls written low none = reads_open loads sizes values tail first file at bytes calls some written low none
   call_open (Read file at len) first calls written low none = absurd written
+  call_open (Readv file at lens) first calls written low none = absurd written
+  call_open (Writev file at parts) first calls written low none = absurd written
   call_open (Sync file) first calls written low none = absurd written
 
   pub call_whole : GroupsBecomeWhole → (call : FileCall) (first calls : ℕ) → IsWritten sizes values tail call first calls → tail ≤ first → calls ≡ commit_length sizes call first → InEachImageOf sizes values (ReadsWhole sizes call first)
   call_whole becomes (Write file at bytes) first calls written low all = reads_whole loads sizes values tail first file at bytes calls some written becomes low all
   call_whole becomes (Read file at len) first calls written low all = absurd written
+  call_whole becomes (Readv file at lens) first calls written low all = absurd written
+  call_whole becomes (Writev file at parts) first calls written low all = absurd written
   call_whole becomes (Sync file) first calls written low all = absurd written
 
   call_quiet : GroupsEndQuiet → (call : FileCall) (first calls : ℕ) → IsWritten sizes values tail call first calls → calls ≡ commit_length sizes call first
       → (i : ℕ) → i < page_count sizes call → KeepsQuiet (values (ENTRY (slot_of_entry sizes (first + i))))
   call_quiet ends (Write file at bytes) first calls written all = keeps_quiet loads sizes values tail first file at bytes calls some written ends all
   call_quiet ends (Read file at len) first calls written all = absurd written
+  call_quiet ends (Readv file at lens) first calls written all = absurd written
+  call_quiet ends (Writev file at parts) first calls written all = absurd written
   call_quiet ends (Sync file) first calls written all = absurd written
 
 module _ (loads : LoadsAreAnImage) (atomic : GroupsAreAtomic) (becomes : GroupsBecomeWhole) (ends : GroupsEndQuiet)
@@ -293,6 +303,8 @@ module _ (loads : LoadsAreAnImage) (nothing_else : GroupsStoreNothingElse) (size
       → (i ≡ 0) × (number ≡ first)
   call_stale (Write file at bytes) first calls written = write_stale first file at bytes calls written
   call_stale (Read file at len) first calls written = absurd written
+  call_stale (Readv file at lens) first calls written = absurd written
+  call_stale (Writev file at parts) first calls written = absurd written
   call_stale (Sync file) first calls written = absurd written
 
 pub stale_words : LoadsAreAnImage → GroupsStoreNothingElse → (sizes : Sizes) (first : Values) (tail : ℕ) (log : Log) (core : Core) → 1 ≤ sizes.entries → Sound sizes first core → Groups sizes core log → Written sizes tail log core

@@ -2,7 +2,7 @@
 use Rattle.std.proofs.Common.{◌≡◌, ◌≢◌, ℕ, ◌+◌, ◌-◌, ◌^◌, ◌<◌, ◌≤◌, ◌==◌, nat_lt, nat_le, ◌&&◌, not, Bool, true, false, if◌then◌else◌, List, length, inl, inr, refl, sym, ap, subst, ◌∙◌, arith}
 use Rattle.std.proofs.lemmas.Bool.{eqb-true, eq-eqb, cases_eq, and_from, le-leb, lt-ltb}
 use Rattle.nv_plain.specs.declared.call.FileCall.{FileCall}
-use Rattle.nv_plain.specs.declared.call.FileCall.TheVariants.{Read, Write, Sync}
+use Rattle.nv_plain.specs.declared.call.FileCall.TheVariants.{Read, Write, Readv, Writev, Sync}
 use Rattle.nv_plain.specs.declared.call.Reply.{Reply}
 use Rattle.nv_core.specs.state.Words.{Sizes, Word, STOP, ORDER, HEAD, TAIL, LENGTH, DIRTY, PAGE, SIZE, STORE, ENTRY, HINT, was_readied, CLEANUP, ready, is_entry_of, slot_of_entry}
 use Rattle.nv_core.specs.state.Values.{CallEnding, Made, Failed, Refused}
@@ -357,6 +357,8 @@ not_placed sizes pass one = if_both (λ s. IsFlying one s → ⊥) (is_write pas
 pub no_reading : (call : FileCall) → is_write call ≡ true → is_read call ≡ true → ⊥
 no_reading (Read file at len) write read = not_both write refl
 no_reading (Write file at bytes) write read = not_both read refl
+no_reading (Readv file at lens) write read = not_both write refl
+no_reading (Writev file at parts) write read = not_both write refl
 no_reading (Sync file) write read = not_both write refl
 
 pub placing : (sizes : Sizes) (values : Values) (pass : Pass) (reply : Reply) (control : Control) → FactsAt sizes pass control → MayPlace sizes values pass reply control → is_write pass.call ≡ true → IsFlying pass control

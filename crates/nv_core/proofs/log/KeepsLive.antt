@@ -7,10 +7,11 @@ use Rattle.std.proofs.lemmas.List.{append-nil, length-set, set-get_or}
 use Rattle.nv_plain.specs.Files.{Files}
 use Rattle.nv_plain.specs.Calls.{files_after}
 use Rattle.nv_plain.specs.declared.call.FileCall.{FileCall}
-use Rattle.nv_plain.specs.declared.call.FileCall.TheVariants.{Read, Write, Sync}
+use Rattle.nv_plain.specs.declared.call.FileCall.TheVariants.{Read, Write, Readv, Writev, Sync}
 use Rattle.nv_plain.specs.declared.call.Reply.{Reply}
 use Rattle.nv_plain.specs.Made.{after_calls, made_calls, as_made}
 use Rattle.nv_core.proofs.content.MadeLaws.{made_now}
+use Rattle.nv_core.proofs.state.PlainCalls.{joined_elsewhere}
 use Rattle.nv_core.specs.state.Words.{Sizes, Word, HEAD, TAIL, STORE, ENTRY, kind_of, free, filling, ready, cleaned, broken, index, was_readied, slot_of_entry}
 use Rattle.nv_core.specs.state.Values.{Value, Bare, APart, AStore, ABuffer, Job, CallEnding, called}
 use Rattle.nv_core.specs.state.Passes.{Control, Idle, TakePage, LoadStop, VisitPage, SeizeEntry, CommitGroup, PledgePage, ReadyEntry, TakePlace, SetStopAfterRead, SetStopAfterPiece, SetStopAfterCommit, Pass, IsAmong, IsFilling, file_of, is_write, page_count, first_page, end_page, plain_call}
@@ -34,7 +35,7 @@ use Rattle.nv_core.specs.log.LivePieces.{rising, call_if, piece_write, piece_cal
 use Rattle.nv_core.specs.invariant.Sound.{Sound}
 use Rattle.nv_core.specs.content.PlainLaws.{PlainLaws}
 use Rattle.nv_core.proofs.state.Changes.{by_number, by_word, number_here, number_else, word_here, word_else, differ}
-use Rattle.nv_core.proofs.state.Choices.{if_both, when_true, when_false, busy, not_both, unless_true, gives_back}
+use Rattle.nv_core.proofs.state.Choices.{if_both, when_true, when_false, busy, not_both, step_idle, unless_true, gives_back}
 use Rattle.nv_core.proofs.steps.WordLaws.{untouched}
 use Rattle.nv_core.proofs.invariant.KeepsLocks.{ready_is, kind_is}
 use Rattle.nv_core.proofs.invariant.WindowLaws.{apart_within}
@@ -257,6 +258,8 @@ thirds calls from end at count low high =
 pub files_length : (call : FileCall) (files : Files) → length (files_after call files).contents ≡ length files.contents
 files_length (Read file at len) files = refl
 files_length (Write file at bytes) files = length-set files.contents file _
+files_length (Readv file at lens) files = refl
+files_length (Writev file at parts) files = length-set files.contents file _
 files_length (Sync file) files = refl
 
 pub after_length : (calls : List FileCall) (files : Files) → length (after_calls calls files).contents ≡ length files.contents
@@ -532,12 +535,14 @@ module _ (plain : PlainLaws) (sizes : Sizes) (first : Values) (log : Log) (keep 
 
 -- ---- a call is placed
 
--- a call that writes no byte leaves the files
-none_written : (call : FileCall) (files : Files) → is_write call ≡ false → files_after call files ≡ files
-none_written (Read file at len) files none = refl
-none_written (Write file at []) files none = ap (λ c. record { contents = c }) (set-get_or files.contents file [])
-none_written (Write file at (first ∷ rest)) files none = absurd (true≢false (sym (lt-ltb 0 (length (first ∷ rest)) (omega arith)) ∙ none))
-none_written (Sync file) files none = refl
+-- a plain call that writes no byte leaves the files
+none_written : (call : FileCall) (files : Files) → plain_call call ≡ call → is_write call ≡ false → files_after call files ≡ files
+none_written (Read file at len) files plain none = refl
+none_written (Write file at []) files plain none = ap (λ c. record { contents = c }) (set-get_or files.contents file [])
+none_written (Write file at (first ∷ rest)) files plain none = absurd (true≢false (sym (lt-ltb 0 (length (first ∷ rest)) (omega arith)) ∙ none))
+none_written (Readv file at lens) files plain none = refl
+none_written (Writev file at parts) files plain none = absurd (joined_elsewhere file at parts plain)
+none_written (Sync file) files plain none = refl
 
 module _ (plain : PlainLaws) (sizes : Sizes) (first : Values) (log : Log) (keep : ℕ → Bool) (opened : Files) (by : ℕ) (core : Core) (found : ℕ) (reply : Reply) (page_is : 1 ≤ sizes.page)
     (sound : Sound sizes first core) (groups : Groups sizes core log) (live : LiveBy sizes log keep opened core) (may : FoundEnabledByKind sizes by core (Place reply) found) where
@@ -569,7 +574,8 @@ module _ (plain : PlainLaws) (sizes : Sizes) (first : Values) (log : Log) (keep 
     files =
         ap₂ (λ h p. after_calls (h ++ p) opened) place_history same
         ∙ after_both (made_calls opened core.history ++ (core.passes by).call ∷ []) (to_place core) opened
-        ∙ ap (after_calls (to_place core)) (after_both (made_calls opened core.history) ((core.passes by).call ∷ []) opened ∙ none_written (core.passes by).call (after_calls (made_calls opened core.history) opened) none)
+        ∙ ap (after_calls (to_place core)) (after_both (made_calls opened core.history) ((core.passes by).call ∷ []) opened ∙ none_written (core.passes by).call (after_calls (made_calls opened core.history) opened)
+        ((sound.control_facts by).allowed (step_idle sizes core.values (core.passes by) (Place reply) may.may)).plain none)
         ∙ sym (after_both (made_calls opened core.history) (to_place core) opened)
         ∙ live.files
         ∙ ap (λ c. after_calls c (store_files sizes core.values)) (sym place_live);

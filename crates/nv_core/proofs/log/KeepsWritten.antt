@@ -5,7 +5,7 @@ use Rattle.std.proofs.lemmas.Bool.{eqb-true, cases_eq, cases_lt, true≢false}
 use Rattle.std.proofs.lemmas.Nat.{mod_below}
 use Rattle.std.proofs.lemmas.List.{get_or_past}
 use Rattle.nv_plain.specs.declared.call.FileCall.{FileCall}
-use Rattle.nv_plain.specs.declared.call.FileCall.TheVariants.{Read, Write, Sync}
+use Rattle.nv_plain.specs.declared.call.FileCall.TheVariants.{Read, Write, Readv, Writev, Sync}
 use Rattle.nv_pmem.specs.Limits.{IsPageSize, entry_lines}
 use Rattle.nv_pmem.specs.Part.{Part}
 use Rattle.nv_pmem.specs.Laws.{BlankIsQuiet}
@@ -322,11 +322,15 @@ written_begin sizes tail log by core call may written = written_kept sizes tail 
 steps_same : (sizes : Sizes) (pass : Pass) (call : FileCall) → commit_steps sizes pass call ≡ steps_of sizes call pass.first
 steps_same sizes pass (Read file at len) = refl
 steps_same sizes pass (Write file at bytes) = refl
+steps_same sizes pass (Readv file at lens) = refl
+steps_same sizes pass (Writev file at parts) = refl
 steps_same sizes pass (Sync file) = refl
 
 length_same : (sizes : Sizes) (pass : Pass) (call : FileCall) → length (commit_steps sizes pass call) ≡ commit_length sizes call pass.first
 length_same sizes pass (Read file at len) = refl
 length_same sizes pass (Write file at bytes) = refl
+length_same sizes pass (Readv file at lens) = refl
+length_same sizes pass (Writev file at parts) = refl
 length_same sizes pass (Sync file) = refl
 
 module _ (sizes : Sizes) (first : Values) (tail : ℕ) (log : Log) (by : ℕ) (core : Core) (work : Work) (calls : ℕ)
@@ -564,6 +568,8 @@ none_written : (sizes : Sizes) (values : Values) (tail : ℕ) (call : FileCall) 
     → ((i : ℕ) → i < page_count sizes call → IsBlankEntry sizes (values (ENTRY (slot_of_entry sizes (first + i)))) tail (slot_of_entry sizes (first + i)))
     → IsWritten sizes values tail call first 0
 none_written sizes values tail (Read file at len) first blank_quiet page_is bytes_are write some blank = absurd (not_both write refl)
+none_written sizes values tail (Readv file at lens) first blank_quiet page_is bytes_are write some blank = absurd (not_both write refl)
+none_written sizes values tail (Writev file at parts) first blank_quiet page_is bytes_are write some blank = absurd (not_both write refl)
 none_written sizes values tail (Sync file) first blank_quiet page_is bytes_are write some blank = absurd (not_both write refl)
 none_written sizes values tail (Write file at bytes) first blank_quiet page_is bytes_are write some blank =
     let row = chosen (IsBlankPart sizes values tail first) (page_count sizes (Write file at bytes))

@@ -2,7 +2,7 @@
 use Rattle.std.proofs.Common.{◌≡◌, ◌≢◌, ◌⊎◌, ℕ, zero, suc, ◌+◌, ◌-◌, ◌*◌, ◌/◌, ◌%◌, ◌<◌, ◌≤◌, true, if◌then◌else◌, List, [], ◌∷◌, ◌++◌, length, drop, inl, inr, refl, sym, ap, ap₂, subst, ◌∙◌, arith, mul-le-mul_right, le_trans}
 use Rattle.std.proofs.Math.ListN.{set}
 use Rattle.std.specs.Prelude.{map}
-use Rattle.std.specs.List.{range_with_len}
+use Rattle.std.specs.List.{concat, range_with_len}
 use Rattle.std.proofs.lemmas.Bool.{true≢false, cases_eq, cases_lt, ltb-true, ne_eqb}
 use Rattle.std.proofs.lemmas.Nat.{mod_below, div-add-mod'}
 use Rattle.std.proofs.lemmas.List.{append-nil, append_assoc, length-set, length-take, get_or-set_same, set-get_or}
@@ -10,12 +10,12 @@ use Rattle.nv_plain.specs.Files.{Files, contents_of, with_contents}
 use Rattle.nv_plain.specs.Calls.{files_after}
 use Rattle.nv_plain.specs.Pieces.{pages_touched, piece_of, piece_bytes, with_piece, with_pieces, WriteIsItsPieces}
 use Rattle.nv_plain.specs.declared.call.FileCall.{FileCall}
-use Rattle.nv_plain.specs.declared.call.FileCall.TheVariants.{Read, Write, Sync}
+use Rattle.nv_plain.specs.declared.call.FileCall.TheVariants.{Read, Write, Readv, Writev, Sync}
 use Rattle.nv_plain.specs.Made.{after_calls}
 use Rattle.nv_core.specs.state.Words.{Sizes}
 use Rattle.nv_core.specs.state.Passes.{is_write, file_of, at_of, page_count, first_page}
 use Rattle.nv_core.specs.invariant.ControlFacts.{IsPage}
-use Rattle.nv_core.specs.crash.CommutingWrites.{Commute}
+use Rattle.nv_core.specs.crash.CommutingWrites.{AreApart, Commute}
 use Rattle.nv_core.specs.log.LivePieces.{rising, piece_write}
 use Rattle.nv_core.specs.content.PlainLaws.{PlainLaws}
 use Rattle.nv_core.proofs.crash.CommutingLaws.{IsApartFrom, comes_first}
@@ -84,13 +84,16 @@ pieces_after law sizes (Write file at bytes) first files page_is write there =
     piece_after sizes file at bytes first first 0 (pages_touched at (length bytes) sizes.page) files there (omega arith) (omega arith)
     ∙ ap (with_contents files file) (law (contents_of files file) bytes at sizes.page page_is)
 pieces_after law sizes (Read file at len) first files page_is write there = absurd (true≢false (sym write))
+pieces_after law sizes (Readv file at lens) first files page_is write there = absurd (true≢false (sym write))
+pieces_after law sizes (Writev file at parts) first files page_is write there = absurd (true≢false (sym write))
 pieces_after law sizes (Sync file) first files page_is write there = absurd (true≢false (sym write))
 
 -- ---- writes on different pages are apart
 
--- a write lies in the pages of a file from one on, below another
+-- a plain write lies in the pages of a file from one on, below another
 abbrev pub LiesIn : Sizes → FileCall → (file from end : ℕ) → Type 0
 LiesIn sizes (Write one at bytes) file from end = (one ≡ file) × (from * sizes.page ≤ at) × (at + length bytes ≤ end * sizes.page)
+LiesIn sizes (Writev one at parts) file from end = ⊥
 LiesIn sizes call file from end = Unit {0}
 
 pub lie_apart : (sizes : Sizes) (one other : FileCall) (f a b g c d : ℕ) → LiesIn sizes one f a b → LiesIn sizes other g c d → (f ≢ g) ⊎ ((b ≤ c) ⊎ (d ≤ a)) → Commute one other
@@ -102,8 +105,12 @@ lie_apart sizes (Write file at bytes) (Write other from others) f a b g c d x y 
   ]
 ]
 lie_apart sizes (Write file at bytes) (Read other from count) f a b g c d x y how = tt
+lie_apart sizes (Write file at bytes) (Readv other from counts) f a b g c d x y how = tt
+lie_apart sizes (Write file at bytes) (Writev other from others) f a b g c d x y how = absurd y
 lie_apart sizes (Write file at bytes) (Sync other) f a b g c d x y how = tt
 lie_apart sizes (Read file at len) other f a b g c d x y how = tt
+lie_apart sizes (Readv file at lens) other f a b g c d x y how = tt
+lie_apart sizes (Writev file at parts) other f a b g c d x y how = absurd x
 lie_apart sizes (Sync file) other f a b g c d x y how = tt
 
 pub piece_lies : (sizes : Sizes) (call : FileCall) (i : ℕ) → 1 ≤ sizes.page → LiesIn sizes (piece_write sizes call i) (file_of call) (at_of call / sizes.page + i) (at_of call / sizes.page + i + 1)
@@ -117,6 +124,8 @@ piece_lies sizes (Write file at bytes) i some = lies sizes.page some
         let t = length-take (piece_of at (length bytes) page i).size (drop (piece_of at (length bytes) page i).from bytes) in
         (refl, omega (arith, a), omega (arith, a, b, t))
 piece_lies sizes (Read file at len) i some = tt
+piece_lies sizes (Readv file at lens) i some = tt
+piece_lies sizes (Writev file at parts) i some = tt
 piece_lies sizes (Sync file) i some = tt
 
 whole_lies : (sizes : Sizes) (call : FileCall) → 1 ≤ sizes.page → is_write call ≡ true → LiesIn sizes call (file_of call) (at_of call / sizes.page) (at_of call / sizes.page + page_count sizes call)
@@ -135,6 +144,8 @@ whole_lies sizes (Write file at bytes) some write = lies sizes.page some (length
         let sum : at / page + pages_touched at len page ≡ (at + len - 1) / page + 1 = omega (arith, touched, q) in
         (refl, omega (arith, a), subst (λ n. at + len ≤ n * page) (sym sum) (omega (arith, x, b, more)))
 whole_lies sizes (Read file at len) some write = absurd (true≢false (sym write))
+whole_lies sizes (Readv file at lens) some write = absurd (true≢false (sym write))
+whole_lies sizes (Writev file at parts) some write = absurd (true≢false (sym write))
 whole_lies sizes (Sync file) some write = absurd (true≢false (sym write))
 
 -- a page of one file that is none of a write's pages
@@ -183,16 +194,35 @@ writes_apart sizes one other some a b some_one some_other none =
       ])
     ])
 
-pub apart_turned : (one other : FileCall) → Commute one other → Commute other one
-apart_turned (Write file at bytes) (Write other from others) apart = elim apart [
+writes_turned : (file at len other from count : ℕ) → AreApart file at len other from count → AreApart other from count file at len
+writes_turned file at len other from count apart = elim apart [
   | inl ne ↦ inl (λ e. ne (sym e))
   | inr bytes_ ↦ elim bytes_ [ inl before ↦ inr (inr before) | inr behind ↦ inr (inl behind) ]
 ]
+
+pub apart_turned : (one other : FileCall) → Commute one other → Commute other one
+apart_turned (Write file at bytes) (Write other from others) apart = writes_turned file at (length bytes) other from (length others) apart
+apart_turned (Write file at bytes) (Writev other from others) apart = writes_turned file at (length bytes) other from (length (concat others)) apart
 apart_turned (Write file at bytes) (Read other from count) apart = tt
+apart_turned (Write file at bytes) (Readv other from counts) apart = tt
 apart_turned (Write file at bytes) (Sync other) apart = tt
+apart_turned (Writev file at parts) (Write other from others) apart = writes_turned file at (length (concat parts)) other from (length others) apart
+apart_turned (Writev file at parts) (Writev other from others) apart = writes_turned file at (length (concat parts)) other from (length (concat others)) apart
+apart_turned (Writev file at parts) (Read other from count) apart = tt
+apart_turned (Writev file at parts) (Readv other from counts) apart = tt
+apart_turned (Writev file at parts) (Sync other) apart = tt
 apart_turned (Read file at len) (Write other from others) apart = tt
+apart_turned (Read file at len) (Writev other from others) apart = tt
 apart_turned (Read file at len) (Read other from count) apart = tt
+apart_turned (Read file at len) (Readv other from counts) apart = tt
 apart_turned (Read file at len) (Sync other) apart = tt
+apart_turned (Readv file at lens) (Write other from others) apart = tt
+apart_turned (Readv file at lens) (Writev other from others) apart = tt
+apart_turned (Readv file at lens) (Read other from count) apart = tt
+apart_turned (Readv file at lens) (Readv other from counts) apart = tt
+apart_turned (Readv file at lens) (Sync other) apart = tt
 apart_turned (Sync file) (Write other from others) apart = tt
+apart_turned (Sync file) (Writev other from others) apart = tt
 apart_turned (Sync file) (Read other from count) apart = tt
+apart_turned (Sync file) (Readv other from counts) apart = tt
 apart_turned (Sync file) (Sync other) apart = tt

@@ -7,7 +7,7 @@ use Rattle.nv_pmem.specs.Rows.{RowStep, on_part}
 use Rattle.nv_pmem.specs.Steps.{LineStep, durable_store}
 use Rattle.nv_entry.specs.Group.{piece_steps, pieces_steps, group_steps}
 use Rattle.nv_plain.specs.declared.call.FileCall.{FileCall}
-use Rattle.nv_plain.specs.declared.call.FileCall.TheVariants.{Read, Write, Sync}
+use Rattle.nv_plain.specs.declared.call.FileCall.TheVariants.{Read, Write, Readv, Writev, Sync}
 use Rattle.nv_core.specs.state.Words.{Sizes}
 use Rattle.nv_core.specs.state.Passes.{Pass, page_count}
 use Rattle.nv_core.specs.steps.Order.{commit_steps}
@@ -57,4 +57,6 @@ in_group page first file at bytes k row some less is = below_at (pages_touched a
 pub row_within : (sizes : Sizes) (pass : Pass) (call : FileCall) (calls : ℕ) (row : RowStep) → 1 ≤ page_count sizes call → calls < length (commit_steps sizes pass call) → slice_index_or (commit_steps sizes pass call) calls row ≡ row → row.part < page_count sizes call
 row_within sizes pass (Read file at len) calls row some less is = absurd (omega arith)
 row_within sizes pass (Write file at bytes) calls row some less is = in_group sizes.page pass.first file at bytes calls row some less is
+row_within sizes pass (Readv file at lens) calls row some less is = absurd (omega arith)
+row_within sizes pass (Writev file at parts) calls row some less is = absurd (omega arith)
 row_within sizes pass (Sync file) calls row some less is = absurd (omega arith)

@@ -5,7 +5,7 @@ use Rattle.std.proofs.lemmas.Nat.{le-div}
 use Rattle.std.proofs.Math.Nat.{div-zero, div-mul-le_self}
 use Rattle.nv_plain.specs.Pieces.{pages_touched}
 use Rattle.nv_plain.specs.declared.call.FileCall.{FileCall}
-use Rattle.nv_plain.specs.declared.call.FileCall.TheVariants.{Read, Write, Sync}
+use Rattle.nv_plain.specs.declared.call.FileCall.TheVariants.{Read, Write, Readv, Writev, Sync}
 use Rattle.nv_core.specs.state.Words.{Sizes}
 use Rattle.nv_core.specs.state.Passes.{is_write, page_count, end_read, end_page}
 use Rattle.nv_core.proofs.state.Choices.{if_both}
@@ -17,6 +17,8 @@ some_pages at len page some = if_both (λ n. 1 ≤ n) (len == 0) 0 ((at + len - 
 pub write_pages : (sizes : Sizes) (call : FileCall) → is_write call ≡ true → 1 ≤ page_count sizes call
 write_pages sizes (Write file at bytes) write = some_pages at (length bytes) sizes.page (ltb-true 0 (length bytes) write)
 write_pages sizes (Read file at len) write = absurd (true≢false (sym write))
+write_pages sizes (Readv file at lens) write = absurd (true≢false (sym write))
+write_pages sizes (Writev file at parts) write = absurd (true≢false (sym write))
 write_pages sizes (Sync file) write = absurd (true≢false (sym write))
 
 -- a quotient grows with what is divided
@@ -35,4 +37,6 @@ less_pages at few many page less = if_both (λ n. n ≤ pages_touched at many pa
 pub read_within : (sizes : Sizes) (call : FileCall) (len : ℕ) → end_read sizes call len ≤ end_page sizes call
 read_within sizes (Read file at count) len = let p = less_pages at (min count (len - at)) count sizes.page (omega arith) in omega (arith, p)
 read_within sizes (Write file at bytes) len = omega arith
+read_within sizes (Readv file at lens) len = omega arith
+read_within sizes (Writev file at parts) len = omega arith
 read_within sizes (Sync file) len = omega arith

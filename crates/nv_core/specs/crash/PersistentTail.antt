@@ -1,7 +1,8 @@
 -- Persistent tail: what of the stores isn't durable lies in pieces of the log that each image still has.
 use Rattle.std.specs.Prelude.{◌≡◌, ℕ, ◌+◌, ◌<◌, ◌≤◌, true, false, length, slice_index, Some}
+use Rattle.std.specs.List.{concat}
 use Rattle.nv_plain.specs.declared.call.FileCall.{FileCall}
-use Rattle.nv_plain.specs.declared.call.FileCall.TheVariants.{Write}
+use Rattle.nv_plain.specs.declared.call.FileCall.TheVariants.{Write, Writev}
 use Rattle.nv_store.specs.Store.{Store, is_unsynced, durable_byte}
 use Rattle.nv_core.specs.state.Words.{Sizes, STORE}
 use Rattle.nv_core.specs.state.Core.{Core}
@@ -13,6 +14,7 @@ use Rattle.nv_core.specs.log.LivePieces.{piece_call, is_live}
 -- a call writes this byte of a file
 abbrev pub Touches : FileCall → (file i : ℕ) → Type 0
 Touches (Write one at bytes) file i = (one ≡ file) × (at ≤ i) × (i < at + length bytes)
+Touches (Writev one at parts) file i = (one ≡ file) × (at ≤ i) × (i < at + length (concat parts))
 Touches call file i = ⊥
 
 -- a byte of a file is one of a live piece, whose number is no lower than the tail that the header has

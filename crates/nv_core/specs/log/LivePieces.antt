@@ -5,11 +5,11 @@ use Rattle.nv_plain.specs.Files.{Files}
 use Rattle.nv_plain.specs.Made.{after_calls, made_calls}
 use Rattle.nv_plain.specs.Pieces.{piece_of, piece_bytes}
 use Rattle.nv_plain.specs.declared.call.FileCall.{FileCall}
-use Rattle.nv_plain.specs.declared.call.FileCall.TheVariants.{Write}
+use Rattle.nv_plain.specs.declared.call.FileCall.TheVariants.{Write, Sync}
 use Rattle.nv_store.specs.Store.{Store}
 use Rattle.nv_core.specs.state.Words.{Sizes, HEAD, TAIL, STORE, kind_of, cleaned, was_readied}
 use Rattle.nv_core.specs.state.Values.{Value, AStore}
-use Rattle.nv_core.specs.state.Passes.{Control, TakePlace, Pass, is_write}
+use Rattle.nv_core.specs.state.Passes.{Control, TakePlace, Pass, file_of, is_write}
 use Rattle.nv_core.specs.steps.Order.{Values}
 use Rattle.nv_core.specs.state.Core.{Core}
 use Rattle.nv_core.specs.invariant.LogWindow.{entry_word_at}
@@ -26,12 +26,12 @@ call_if test call = if test then call ∷ [] else []
 
 -- ---- the live pieces
 
--- piece i of a write, as a write of its own
+-- piece i of a write, as a write of its own; any other call has no piece, and writes nothing by it
 abbrev pub piece_write : Sizes → FileCall → (i : ℕ) → FileCall
 piece_write sizes (Write file at bytes) i =
     let piece = piece_of at (length bytes) sizes.page i in
     Write file piece.at (piece_bytes bytes piece)
-piece_write sizes call i = call
+piece_write sizes call i = Sync (file_of call)
 
 -- the piece of a number of a group
 abbrev pub piece_call : Sizes → Group → (number : ℕ) → FileCall

@@ -6,7 +6,7 @@ use Rattle.nv_plain.specs.Layouts.{mount_layout}
 use Rattle.nv_plain.specs.Made.{as_made}
 use Rattle.nv_plain.specs.Pieces.{pages_touched}
 use Rattle.nv_plain.specs.declared.call.FileCall.{FileCall}
-use Rattle.nv_plain.specs.declared.call.FileCall.TheVariants.{Read, Write, Sync}
+use Rattle.nv_plain.specs.declared.call.FileCall.TheVariants.{Read, Write, Readv, Writev, Sync}
 use Rattle.nv_core.specs.state.Words.{Sizes, Word, same}
 use Rattle.nv_core.specs.state.Cleaner.{Batch, CleanerControl, WriteBack, CleanEntry, RefusedReturnEntry, FailedReturnEntry, SetStop}
 use Rattle.nv_core.specs.state.Cleaner as cleaner
@@ -115,25 +115,27 @@ fetched_bytes (one ∷ rest) page = if one.0 == page then one.1 else fetched_byt
 abbrev pub plain_call : FileCall → FileCall
 plain_call call = as_made (empty_files 0) call
 
--- ---- a call's place among the pages
+-- ---- a call's place among the pages: that of a plain one, since a pass makes no others
 
 -- the call's file
 abbrev pub file_of : FileCall → ℕ
 file_of (Read file at len) = file
 file_of (Write file at bytes) = file
+file_of (Readv file at lens) = file
+file_of (Writev file at parts) = file
 file_of (Sync file) = file
 
 -- its offset
 abbrev pub at_of : FileCall → ℕ
 at_of (Read file at len) = at
 at_of (Write file at bytes) = at
-at_of (Sync file) = 0
+at_of _ = 0
 
 -- how many bytes it asks for
 abbrev pub len_of : FileCall → ℕ
 len_of (Read file at len) = len
 len_of (Write file at bytes) = length bytes
-len_of (Sync file) = 0
+len_of _ = 0
 
 -- whether it is a write, and a read, of at least one byte
 abbrev pub is_write : FileCall → Bool
@@ -173,9 +175,10 @@ abbrev pub AreBytes : FileCall → Type 0
 AreBytes (Write file at bytes) = (i : ℕ) → slice_index bytes i < 256
 AreBytes call = Unit {0}
 
--- A call that is not refused before its first step: its file is there, it lies in the file's pages, the log could hold it, and
--- what it writes are bytes.
+-- A call that is not refused before its first step: it is a plain one, its file is there, it lies in the file's pages, the log could
+-- hold it, and what it writes are bytes.
 pub record IsAllowed (sizes : Sizes) (call : FileCall) : Type 0 where
+  pub plain : plain_call call ≡ call
   pub known : file_of call < sizes.files
   pub near : at_of call + len_of call ≤ sizes.page * sizes.pages
   pub short : page_count sizes call ≤ min mount_layout.group_limit sizes.entries

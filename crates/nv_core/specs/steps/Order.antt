@@ -6,7 +6,7 @@ use Rattle.nv_plain.specs.Files.{bytes_at, padded}
 use Rattle.nv_plain.specs.Images.{entry_of, data_of}
 use Rattle.nv_plain.specs.Pieces.{piece_of}
 use Rattle.nv_plain.specs.declared.call.FileCall.{FileCall}
-use Rattle.nv_plain.specs.declared.call.FileCall.TheVariants.{Read, Write, Sync}
+use Rattle.nv_plain.specs.declared.call.FileCall.TheVariants.{Read, Write}
 use Rattle.nv_plain.specs.declared.call.Reply.{Reply}
 use Rattle.nv_plain.specs.declared.call.Reply.TheVariants.{Bytes, Count, Done}
 use Rattle.nv_pmem.specs.Part.{Part, part_word}
@@ -50,7 +50,7 @@ gathered sizes values pass =
 abbrev pub plain_reply : FileCall → Reply
 plain_reply (Read file at len) = Bytes []
 plain_reply (Write file at bytes) = Count (length bytes)
-plain_reply (Sync file) = Done
+plain_reply _ = Done
 
 -- ---- steps
 

@@ -4,7 +4,7 @@ use Rattle.std.specs.Prelude.{Option}
 use Rattle.std.proofs.lemmas.Bool.{cases_lt, eqb-true, ltb-true, true≢false}
 use Rattle.nv_plain.specs.Histories.{Answered}
 use Rattle.nv_plain.specs.declared.call.FileCall.{FileCall}
-use Rattle.nv_core.specs.state.Passes.{Pass, is_write}
+use Rattle.nv_core.specs.state.Passes.{Pass, is_write, plain_call}
 use Rattle.nv_core.specs.state.Words.{Sizes, HEAD}
 use Rattle.nv_core.specs.state.Core.{Core}
 use Rattle.nv_core.specs.steps.Events.{Event, IsRun, after_event, after_run}
@@ -14,7 +14,6 @@ use Rattle.nv_core.specs.invariant.OneHistory.{IsPrefix}
 use Rattle.nv_core.proofs.state.Choices.{if_both}
 use Rattle.nv_core.proofs.steps.RunLaws.{after_parts, run_parts}
 use Rattle.nv_core.proofs.invariant.HistoryLaws.{begins_all}
-use Rattle.nv_core.proofs.state.PlainCalls.{itself}
 use Rattle.nv_table.specs.state.Opened.{Opened, IsRunOf, mount_of, state_of}
 use Rattle.nv_table.specs.state.States.{PassState}
 use Rattle.nv_table.specs.state.Views.{pass_of}
@@ -50,9 +49,14 @@ takes_some sizes (Pwrite fd at bytes) file write =
     eqb-zero n is = eqb-true n 0 is
 takes_some sizes (Fsync fd) file write = absurd (true≢false (sym write))
 
-placed_more : (sizes : Sizes) (calls : List Answered) (one : Answered) → placed_entries sizes (calls ++ one ∷ []) ≡ placed_entries sizes calls + entries_of sizes one.call
-placed_more sizes [] one = let same = ap (entries_of sizes) (itself one.call) in omega (arith, same)
-placed_more sizes (first ∷ rest) one = let again = placed_more sizes rest one in omega (arith, again)
+plain_on : (call : TraceCall) (file : ℕ) → plain_call (call_on call file) ≡ call_on call file
+plain_on (Pread fd at len) file = refl
+plain_on (Pwrite fd at bytes) file = refl
+plain_on (Fsync fd) file = refl
+
+placed_more : (sizes : Sizes) (calls : List Answered) (one : Answered) → plain_call one.call ≡ one.call → placed_entries sizes (calls ++ one ∷ []) ≡ placed_entries sizes calls + entries_of sizes one.call
+placed_more sizes [] one plain = let same = ap (entries_of sizes) plain in omega (arith, same)
+placed_more sizes (first ∷ rest) one plain = let again = placed_more sizes rest one plain in omega (arith, again)
 
 -- ---- what a call adds to what its pass has ended
 
@@ -75,7 +79,7 @@ adds fds worker call start now (Placed place reply) is =
     let opens : open_in new.faulted ≡ open_in old.faulted = is.opens in
     let opened = ap (λ l. length l) opens in
     let entries = ap (opened_entries sizes) opens in
-    let placed : placed_entries sizes new.mine ≡ placed_entries sizes old.mine + entries_of sizes one.call = ap (placed_entries sizes) mine ∙ placed_more sizes old.mine one in
+    let placed : placed_entries sizes new.mine ≡ placed_entries sizes old.mine + entries_of sizes one.call = ap (placed_entries sizes) mine ∙ placed_more sizes old.mine one (plain_on call is.told.0) in
     let takes = call_takes sizes call is.told.0 in
     record { entries = omega (arith, placed, entries, takes); more = λ _. omega (arith, long, joined, opened); opened = λ number e. absurd (cc) }
 adds fds worker call start now (Refused refusal) is =

@@ -3,7 +3,7 @@ use Rattle.std.proofs.Common.{◌≡◌, ◌⊎◌, ℕ, ◌+◌, ◌<◌, ◌�
 use Rattle.std.proofs.lemmas.Bool.{cases_eq, cases_lt, eqb-false, lt-ltb}
 use Rattle.nv_plain.specs.Histories.{Answered}
 use Rattle.nv_plain.specs.declared.call.FileCall.{FileCall}
-use Rattle.nv_plain.specs.declared.call.FileCall.TheVariants.{Read, Write, Sync}
+use Rattle.nv_plain.specs.declared.call.FileCall.TheVariants.{Read, Write, Readv, Writev, Sync}
 use Rattle.nv_core.specs.state.Words.{Sizes, HEAD}
 use Rattle.nv_core.specs.state.Passes.{Fault, Idle, Pass, is_write, page_count, plain_call}
 use Rattle.nv_core.specs.state.Core.{Core, changed_pass, worked, after_begin, after_step}
@@ -38,6 +38,8 @@ unwritten : (sizes : Sizes) (call : FileCall) → is_write call ≡ false → en
 unwritten sizes (Write file at bytes) none = if_both (λ n. n ≡ 0) (length bytes == 0) 0 _ (λ _. refl)
     (λ some. absurd (let ne = eqb-false (length bytes) 0 some in not_both (lt-ltb 0 (length bytes) (omega (arith, ne))) none))
 unwritten sizes (Read file at len) none = refl
+unwritten sizes (Readv file at lens) none = refl
+unwritten sizes (Writev file at parts) none = refl
 unwritten sizes (Sync file) none = refl
 
 -- what faulted calls have drawn their writes have
