@@ -1,7 +1,8 @@
 //! Tests of plain files.
-ghost use Rattle.std.specs.Prelude.{◌≡◌, ◌+◌, ◌^◌, ◌<◌, ◌≤◌, length, OnOk};
+ghost use Rattle.std.specs.Prelude.{◌≡◌, ◌+◌, ◌^◌, ◌<◌, ◌≤◌, length, IfOk, OnOk};
+ghost use Rattle.std.specs.List.{concat};
 
-use nv_plain::{Bytes, FileCall, NoMemory, PlainFiles, Reply};
+use nv_plain::{Bytes, FileCall, Lens, NoMemory, Parts, PlainFiles, Reply};
 use std::alloc::Global;
 use std::process::Abort;
 use std::test::Fail;
@@ -59,6 +60,60 @@ fn plain_files(rt: HostRuntime) -> Result<(), Fail> {
     let synced = files.apply(&FileCall::Sync { file: 0 })?;
     assert!(rt; matches!(synced, Reply::Done));
     assert_eq!(rt; files.bytes(0), [0, 0, 7].as_slice());
+    Ok(())
+}
+
+// A part of one byte, an empty one, and one of two bytes.
+fn three_parts(alloc: Global) -> Result<Parts, NoMemory>
+    ensures { IfOk result (λ parts. length (concat parts) ≡ 3) }
+{
+    let mut parts = Vec::new(alloc);
+    parts.push(Bytes::from_vec(Vec::from_slice(alloc, &[0xaa])?))?;
+    parts.push(Bytes::from_vec(Vec::new(alloc)))?;
+    parts.push(Bytes::from_vec(Vec::from_slice(alloc, &[0xbb, 0xcc])?))?;
+    Ok(Parts::from_vec(parts))
+}
+
+#[test]
+fn vectored_calls(rt: HostRuntime) -> Result<(), Fail> {
+    let mut files = PlainFiles::new(rt.alloc(), 1)?;
+    let parts = three_parts(rt.alloc())?;
+    let wrote = files.apply(&FileCall::Writev {
+        file: 0,
+        at: 2,
+        parts,
+    })?;
+    assert!(rt; matches!(wrote, Reply::Count(3)));
+    assert_eq!(rt; files.bytes(0), [0, 0, 0xaa, 0xbb, 0xcc].as_slice());
+    let lens = Lens::from_vec(Vec::from_slice(rt.alloc(), &[2, 0, 9, 1])?);
+    let call = FileCall::Readv {
+        file: 0,
+        at: 1,
+        lens,
+    };
+    match files.apply(&call)? {
+        Reply::Parts(parts) => {
+            let mut got = Vec::new(rt.alloc());
+            for part in parts.as_slice() {
+                got.push(part.as_slice())?;
+            }
+            let want: [&[u8]; 4] = [&[0, 0xaa], &[], &[0xbb, 0xcc], &[]];
+            assert_eq!(rt; got.as_slice(), want.as_slice());
+        }
+        _ => panic!(rt; "a vectored read is answered by parts"),
+    }
+    Ok(())
+}
+
+#[test]
+fn parts_round_trip(rt: HostRuntime) -> Result<(), Fail> {
+    let parts = three_parts(rt.alloc())?;
+    assert_eq!(rt; (parts.len(), parts.is_empty()), (3, false));
+    assert_eq!(rt; parts.into_vec().len(), 3);
+    let lens = Lens::from_vec(Vec::from_slice(rt.alloc(), &[3, 1])?);
+    assert_eq!(rt; (lens.len(), lens.is_empty()), (2, false));
+    assert_eq!(rt; lens.as_slice(), [3, 1].as_slice());
+    assert_eq!(rt; lens.into_vec().as_slice(), [3, 1].as_slice());
     Ok(())
 }
 
