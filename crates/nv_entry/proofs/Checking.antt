@@ -2,7 +2,7 @@
 use Rattle.std.proofs.Common.{◌≡◌, inl, inr, ℕ, ◌+◌, ◌-◌, ◌<◌, ◌≤◌, ◌↔◌, Bool, false, IsTrue, List, [], ◌∷◌, length, slice_index_or, zero, suc, refl, sym, ap, ◌∙◌, subst, arith}
 use Rattle.std.proofs.lemmas.Bool.{cases_eq, false≢true}
 use Rattle.nv_plain.specs.Images.{Image, entry_at}
-use Rattle.nv_plain.specs.Layouts.{Layout, version_1}
+use Rattle.nv_plain.specs.Layouts.{Layout}
 use Rattle.nv_plain.specs.Recovered.{IsLeader, IsFollower, IsPiece, GoesOn, IsGroup}
 use Rattle.nv_pmem.specs.Moments.{Tells}
 use Rattle.nv_pmem.specs.Part.{Part}
@@ -111,9 +111,9 @@ pub from_true : (test : Bool) (P : Type 0) → IsTrue test → (IsTrue test ↔ 
 from_true test P passed means = means.0 passed
 
 -- what an entry of a checked group tells, with what was told before
-pub entry_tells : (row : List PartHistory) (bounds : Bounds) (words : EntryWords) (leader number count file end : ℕ) (P : List Part → Type 0) → ((parts : List Part) → HasChecked version_1 (row_words parts) leader number count file end → SaysBounds bounds (row_words parts) → as_entry words ≡ entry_at (row_words parts) number → P parts) → RowTells row (λ parts. HasChecked version_1 (row_words parts) leader number count file end) → RowTells row (λ parts. SaysBounds bounds (row_words parts)) → RowTells row (λ parts. as_entry words ≡ entry_at (row_words parts) number) → RowTells row P
-entry_tells row bounds words leader number count file end P step checked says has =
-    let Checked : List Part → Type 0 = λ parts. HasChecked version_1 (row_words parts) leader number count file end in
+pub entry_tells : (layout : Layout) (row : List PartHistory) (bounds : Bounds) (words : EntryWords) (leader number count file end : ℕ) (P : List Part → Type 0) → ((parts : List Part) → HasChecked layout (row_words parts) leader number count file end → SaysBounds bounds (row_words parts) → as_entry words ≡ entry_at (row_words parts) number → P parts) → RowTells row (λ parts. HasChecked layout (row_words parts) leader number count file end) → RowTells row (λ parts. SaysBounds bounds (row_words parts)) → RowTells row (λ parts. as_entry words ≡ entry_at (row_words parts) number) → RowTells row P
+entry_tells layout row bounds words leader number count file end P step checked says has =
+    let Checked : List Part → Type 0 = λ parts. HasChecked layout (row_words parts) leader number count file end in
     let Says : List Part → Type 0 = λ parts. SaysBounds bounds (row_words parts) in
     let Has : List Part → Type 0 = λ parts. as_entry words ≡ entry_at (row_words parts) number in
     let Both : List Part → Type 0 = λ parts. Says parts × Has parts in

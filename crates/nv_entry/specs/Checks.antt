@@ -1,7 +1,7 @@
 -- Checks: which entry of a committed group is the first to break a rule.
 use Rattle.std.specs.Prelude.{◌≡◌, ◌⊎◌, ℕ, ◌+◌, ◌^◌, ◌<◌, ◌≤◌, min}
 use Rattle.nv_plain.specs.Images.{Image, Entry, header_of, entry_at}
-use Rattle.nv_plain.specs.Layouts.{Layout}
+use Rattle.nv_plain.specs.Layouts.{Layout, layout_of}
 use Rattle.nv_plain.specs.Recovered.{IsLeader, IsFollower, IsPiece, GoesOn, IsInGroup, IsGroup}
 use Rattle.nv_entry.specs.declared.bounds.Bounds.{Bounds}
 use Rattle.nv_entry.specs.declared.check.EntryWords.{EntryWords}
@@ -10,6 +10,7 @@ use Rattle.nv_entry.specs.declared.check.GroupCheck.TheVariants.{Whole, Bad}
 
 -- a region's header says these bounds
 pub record SaysBounds (bounds : Bounds) (image : Image) : Type 0 where
+  pub version : (header_of image).version ≡ (layout_of bounds.version).version
   pub page : (header_of image).page ≡ bounds.page
   pub entries : (header_of image).entries ≡ bounds.entries
   pub files : (header_of image).files ≡ bounds.files

@@ -2,9 +2,13 @@
 ghost use Rattle.std.specs.Prelude.{◌^◌, ◌≤◌};
 ghost use Rattle.nv_pmem.specs.Limits.{IsPageSize, IsEntryCount};
 
+use nv_plain::limits::Version;
+
 /// What a region's header says of the entries of its log.
 #[derive(Clone, Copy, Debug, PartialEq, Eq)]
 pub struct Bounds {
+    /// The region's version, which limits its groups.
+    pub version: Version,
     /// Bytes of a page.
     pub page: u64,
     /// Entries of the log.

@@ -2,7 +2,7 @@
 ghost use Rattle.std.specs.Prelude.{◌≡◌, ℕ, ◌+◌, ◌^◌, ◌<◌, ◌≤◌, ◌↔◌, length, map, take, drop, sum_by, All, IfOk, IsTrue};
 ghost use Rattle.nv_plain.specs.Faults.{HasCause};
 ghost use Rattle.nv_plain.specs.Images.{Image, entry_of, entry_at};
-ghost use Rattle.nv_plain.specs.Layouts.{version_1};
+ghost use Rattle.nv_plain.specs.Layouts.{layout_of};
 ghost use Rattle.nv_plain.specs.Recovered.{IsLeader, IsFollower, IsPiece};
 ghost use Rattle.nv_pmem.specs.Moments.{Tells};
 ghost use Rattle.nv_pmem.specs.Part.{part_word};
@@ -14,7 +14,7 @@ ghost use Rattle.nv_entry.specs.Checks.{IsGood, GroupEndsAt, SaysBounds, SaysOfG
 use crate::group::load;
 use crate::piece::read_head;
 use crate::{Bounds, PieceHead};
-use nv_plain::limits::{GROUP_LIMIT, PAGE_LIMIT};
+use nv_plain::limits::PAGE_LIMIT;
 use nv_pmem::{Lines, RegionFault};
 
 /// No entry of a group has this number or a greater one.
@@ -64,8 +64,8 @@ pub fn check_group<L: Lines>(
     requires lines { All (λ part. 1 ≤ (L.room part).lines) (take bounds.now.entries (drop 1 parts.old)) }
     requires header { RowTells (map L.history parts.old) (λ now. SaysBounds bounds.now (row_words now)) }
     requires number { leader < bounds.now.tail + bounds.now.entries }
-    ensures check { IfOk result (λ check. RowTells (map L.history parts.old) (λ now. SaysOfGroup version_1 (row_words now) leader check)) }
-    ensures limits { IfOk result (IsOfGroup version_1 bounds.now leader) }
+    ensures check { IfOk result (λ check. RowTells (map L.history parts.old) (λ now. SaysOfGroup (layout_of bounds.now.version) (row_words now) leader check)) }
+    ensures limits { IfOk result (IsOfGroup (layout_of bounds.now.version) bounds.now leader) }
     ensures read { AreOnlyRead L.history L.room L.device parts.old parts.new }
     ensures cause { HasCause (sum_by L.fault_count parts.old) (sum_by L.fault_count parts.new) result }
 {
@@ -115,9 +115,9 @@ impl Bounds {
     fn fit_first(&self, entry: &EntryWords, leader: u64) -> bool
         requires { leader < self.now.tail + self.now.entries }
         ensures good { (image : Image) → SaysBounds self.now image → as_entry entry.now ≡ entry_at image leader
-            → (IsTrue result ↔ IsGood version_1 image leader leader) }
+            → (IsTrue result ↔ IsGood (layout_of self.now.version) image leader leader) }
         ensures end { IsTrue result → entry.now.head.at + entry.now.head.size ≤ 2 ^ 60 }
-        ensures count { IsTrue result → IsOfGroup version_1 self.now leader (Whole entry.now.head.count) }
+        ensures count { IsTrue result → IsOfGroup (layout_of self.now.version) self.now leader (Whole entry.now.head.count) }
     {
         self.allow_leader(entry, leader) && self.allow_piece(entry, entry.head.file)
     }
@@ -127,7 +127,7 @@ impl Bounds {
         requires { number < 2 ^ 62 }
         ensures good { (image : Image) (before : ℕ) → SaysBounds self.now image → as_entry entry.now ≡ entry_at image number
             → GroupEndsAt image leader before file end → before + 1 ≡ number → leader ≤ before
-            → (IsTrue result ↔ IsGood version_1 image leader number) }
+            → (IsTrue result ↔ IsGood (layout_of self.now.version) image leader number) }
         ensures end { IsTrue result → end + entry.now.head.size ≤ 2 ^ 60 }
     {
         goes_with(entry, leader, number) && self.allow_piece(entry, file) && entry.head.at == end
@@ -137,11 +137,11 @@ impl Bounds {
     fn allow_leader(&self, entry: &EntryWords, leader: u64) -> bool
         requires { leader < self.now.tail + self.now.entries }
         ensures leads { (image : Image) → SaysBounds self.now image → as_entry entry.now ≡ entry_at image leader
-            → (IsTrue result ↔ IsLeader version_1 image leader) }
-        ensures count { IsTrue result → IsOfGroup version_1 self.now leader (Whole entry.now.head.count) }
+            → (IsTrue result ↔ IsLeader (layout_of self.now.version) image leader) }
+        ensures count { IsTrue result → IsOfGroup (layout_of self.now.version) self.now leader (Whole entry.now.head.count) }
     {
         let count = entry.head.count;
-        (1..=GROUP_LIMIT.min(self.entries)).contains(&count)
+        (1..=self.version.group_limit().min(self.entries)).contains(&count)
             && leader + count <= (self.tail + self.entries).min(NUMBER_LIMIT)
             && entry.head.leader == leader
     }
@@ -149,7 +149,7 @@ impl Bounds {
     // Whether an entry meets the rules of a piece, in a group whose leader is of this file.
     fn allow_piece(&self, entry: &EntryWords, file: u64) -> bool
         ensures piece { (image : Image) (leader number : ℕ) → SaysBounds self.now image → as_entry entry.now ≡ entry_at image number
-            → (entry_at image leader).file ≡ file → (IsTrue result ↔ IsPiece version_1 image leader number) }
+            → (entry_at image leader).file ≡ file → (IsTrue result ↔ IsPiece (layout_of self.now.version) image leader number) }
         ensures end { IsTrue result → entry.now.head.at + entry.now.head.size ≤ 2 ^ 60 }
     {
         let PieceHead { at, size, .. } = entry.head;

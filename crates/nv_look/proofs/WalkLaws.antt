@@ -85,7 +85,7 @@ pub summed_more : (image : Image) (bounds : Bounds) (leader count number len siz
 summed_more image bounds leader count number len size next sum says whole from below is so_far =
     let small : (entry_at image number).size ≤ (header_of image).page = let p = (whole.0.pieces number (record { first = from; last = omega (arith, below, whole.1) })).in_page in omega (arith, p) in
     let page : (header_of image).page ≤ 4096 = omega (arith, says.page, bounds.page_in_limits.most) in
-    let few_entries : count ≤ 16 = let f = whole.0.first.few in omega (arith, f, whole.1) in
+    let few_entries : count ≤ 1024 = let f = whole.0.first.few in omega (arith, f, whole.1, says.entries, bounds.entries_in_limits.most) in
     let exact : next ≡ len + size = omega (arith, sum, so_far.few, small, page, is, few_entries, from, below) in
     let more : number + 1 - leader ≡ number - leader + 1 = omega arith in
     let last : leader + (number - leader) ≡ number = omega arith in

@@ -1,8 +1,7 @@
 -- Listings: what the log of an image has at its committed numbers.
 use Rattle.std.specs.Prelude.{◌≡◌, ℕ, List, sum_by}
 use Rattle.std.specs.List.{AllZip}
-use Rattle.nv_plain.specs.Images.{Image, entry_at}
-use Rattle.nv_plain.specs.Layouts.{version_1}
+use Rattle.nv_plain.specs.Images.{Image, entry_at, layout_in}
 use Rattle.nv_plain.specs.Recovered.{IsGroup, committed, group_numbers}
 use Rattle.nv_look.specs.declared.listing.Row.{Row}
 use Rattle.nv_look.specs.declared.listing.Row.TheVariants.{Group, Bad}
@@ -14,9 +13,9 @@ group_bytes image leader = sum_by (λ number. (entry_at image number).size) (gro
 -- A committed number is listed as the group that it leads, where that meets each rule of the log, and as a bad one where it doesn't.
 abbrev pub IsRow : Image → (number : ℕ) → Row → Type 0
 IsRow image number (Group leader count file at len) =
-    (leader ≡ number) × IsGroup version_1 image number × (count ≡ (entry_at image number).count) × (file ≡ (entry_at image number).file)
+    (leader ≡ number) × IsGroup (layout_in image) image number × (count ≡ (entry_at image number).count) × (file ≡ (entry_at image number).file)
     × (at ≡ (entry_at image number).at) × (len ≡ group_bytes image number)
-IsRow image number (Bad bad) = (bad ≡ number) × (¬ IsGroup version_1 image number)
+IsRow image number (Bad bad) = (bad ≡ number) × (¬ IsGroup (layout_in image) image number)
 
 -- Each committed number is listed, rising, and nothing else.
 abbrev pub IsListing : Image → List Row → Type 0

@@ -1,7 +1,7 @@
 -- Texts: how a region is shown.
 use Rattle.std.specs.Prelude.{◌≡◌, ℕ, ◌+◌, ◌-◌, nat_lt, Bool, true, false, if◌then◌else◌, List, [], ◌∷◌, ◌++◌, length, count_by, codes}
 use Rattle.std.specs.Fmt.{decimal}
-use Rattle.nv_plain.specs.Layouts.{version_1}
+use Rattle.nv_plain.specs.Layouts.{layout_of}
 use Rattle.nv_header.specs.declared.head.Head.{Head}
 use Rattle.nv_trace.specs.Report.{line_text, file_text}
 use Rattle.nv_plain.specs.Images.{Image}
@@ -13,7 +13,7 @@ use Rattle.nv_look.specs.declared.listing.Row.TheVariants.{Group, Bad}
 -- `region VERSION PAGE N FILES TAIL`
 abbrev pub walk_region_text : Head → List ℕ
 walk_region_text head =
-    line_text (codes "region" ∷ decimal version_1.version ∷ decimal head.geometry.page ∷ decimal head.geometry.entries ∷ decimal (length head.names) ∷ decimal head.tail ∷ [])
+    line_text (codes "region" ∷ decimal (layout_of head.version).version ∷ decimal head.geometry.page ∷ decimal head.geometry.entries ∷ decimal (length head.names) ∷ decimal head.tail ∷ [])
 
 -- `name I NAME`
 abbrev pub name_text : ℕ → (name : List ℕ) → List ℕ

@@ -1,8 +1,7 @@
 -- Walks: what has been listed of a log so far.
 use Rattle.std.specs.Prelude.{◌≡◌, ℕ, ◌-◌, List, filter}
 use Rattle.std.specs.List.{AllZip, range_with_len}
-use Rattle.nv_plain.specs.Images.{Image, header_of, entry_at}
-use Rattle.nv_plain.specs.Layouts.{version_1}
+use Rattle.nv_plain.specs.Images.{Image, header_of, entry_at, layout_in}
 use Rattle.nv_plain.specs.Recovered.{IsGroup}
 use Rattle.nv_recover.specs.Finding.{commits_at}
 use Rattle.nv_look.specs.Listings.{IsRow}
@@ -15,4 +14,4 @@ pub record HasListed (image : Image) (tail number : ℕ) (rows : List Row) : Typ
 
 -- a number leads a whole group of so many entries
 abbrev pub IsWholeWalk : Image → (leader count : ℕ) → Type 0
-IsWholeWalk image leader count = IsGroup version_1 image leader × (count ≡ (entry_at image leader).count)
+IsWholeWalk image leader count = IsGroup (layout_in image) image leader × (count ≡ (entry_at image leader).count)

@@ -1,6 +1,7 @@
 //! The files that a recovery would leave.
 ghost use Rattle.std.specs.Prelude.{◌≡◌, ◌≢◌, ℕ, List, [], ◌∷◌, length, map, sum_by, Err, IfOk, OnOk};
-ghost use Rattle.nv_plain.specs.Layouts.{version_1};
+ghost use Rattle.nv_plain.specs.Images.{layout_in};
+ghost use Rattle.nv_plain.specs.Layouts.{layout_of};
 ghost use Rattle.nv_plain.specs.Recovered.{Fits, recovered};
 ghost use Rattle.nv_pmem.specs.Moments.{Tells};
 ghost use Rattle.nv_pmem.specs.RowStates.{AreNow};
@@ -35,17 +36,17 @@ pub fn dry_files<L: Lines, B: Backing>(
     parts: &mut [L],
     stores: &mut [B],
 ) -> Result<PlainFiles, RecoverError>
-    requires limits { HeadIsWithinLimits version_1 head.now }
+    requires limits { HeadIsWithinLimits (layout_of head.now.version) head.now }
     requires head { Tells (header_history (map L.history parts.old)) (λ now.
-        IsHeadOf version_1 version_1.header_lines (header_image now) head.now) }
-    requires parts { HasParts version_1 head.now.geometry.page head.now.geometry.entries (map L.room parts.old) }
+        IsHeadOf (layout_of head.now.version) (layout_of head.now.version).header_lines (header_image now) head.now) }
+    requires parts { HasParts (layout_of head.now.version) head.now.geometry.page head.now.geometry.entries (map L.room parts.old) }
     requires stores { length stores.old ≡ length head.now.names }
     ensures files { (was : List Store) → AreNow (map B.history stores.old) was
         → IfOk result (λ files. RowTells (map L.history parts.old) (λ told. files ≡ (recovered (row_words told) (files_of was)).files)) }
     ensures count { IfOk result (λ files. length files.contents ≡ length head.now.names) }
-    ensures fits { OnOk result (RowTells (map L.history parts.old) (λ told. Fits version_1 (row_words told))) }
+    ensures fits { OnOk result (RowTells (map L.history parts.old) (λ told. Fits (layout_in (row_words told)) (row_words told))) }
     ensures bad { (number : ℕ) → result ≡ Err (error.BadEntry number)
-        → RowTells (map L.history parts.old) (λ told. IsLeastBad version_1 (row_words told) number) }
+        → RowTells (map L.history parts.old) (λ told. IsLeastBad (layout_in (row_words told)) (row_words told) number) }
     ensures read { AreOnlyRead L.history L.room L.device parts.old parts.new }
     ensures stores_read { map B.history stores.new ≡ map B.history stores.old }
     ensures devices { map B.device stores.new ≡ map B.device stores.old }
@@ -65,15 +66,15 @@ fn files_after<L: Lines>(
     copies: &mut [MemStore],
 ) -> Result<PlainFiles, RecoverError>
     requires header { RowTells (map L.history parts.old) (λ told. SaysBounds bounds.now (row_words told)) }
-    requires parts { HasParts version_1 bounds.now.page bounds.now.entries (map L.room parts.old) }
+    requires parts { HasParts (layout_of bounds.now.version) bounds.now.page bounds.now.entries (map L.room parts.old) }
     requires copies { length copies.old ≡ bounds.now.files }
     requires synced { RowTells (map store_history copies.old) AreQuietStores }
     ensures files { (was : List Store) → AreNow (map store_history copies.old) was
         → IfOk result (λ files. RowTells (map L.history parts.old) (λ told. files ≡ (recovered (row_words told) (files_of was)).files)) }
     ensures count { IfOk result (λ files. length files.contents ≡ length copies.old) }
-    ensures fits { OnOk result (RowTells (map L.history parts.old) (λ told. Fits version_1 (row_words told))) }
+    ensures fits { OnOk result (RowTells (map L.history parts.old) (λ told. Fits (layout_in (row_words told)) (row_words told))) }
     ensures bad { (number : ℕ) → result ≡ Err (error.BadEntry number)
-        → RowTells (map L.history parts.old) (λ told. IsLeastBad version_1 (row_words told) number) }
+        → RowTells (map L.history parts.old) (λ told. IsLeastBad (layout_in (row_words told)) (row_words told) number) }
     ensures read { AreOnlyRead L.history L.room L.device parts.old parts.new }
     ensures cause { HasRegionCause (sum_by L.fault_count parts.old) (sum_by L.fault_count parts.new) result }
     ensures no_store { result ≢ Err error.StoreFault }
@@ -90,14 +91,14 @@ fn replay<L: Lines>(
     copies: &mut [MemStore],
 ) -> Result<(), RecoverError>
     requires header { RowTells (map L.history parts.old) (λ told. SaysBounds bounds.now (row_words told)) }
-    requires parts { HasParts version_1 bounds.now.page bounds.now.entries (map L.room parts.old) }
+    requires parts { HasParts (layout_of bounds.now.version) bounds.now.page bounds.now.entries (map L.room parts.old) }
     requires copies { length copies.old ≡ bounds.now.files }
     requires synced { RowTells (map store_history copies.old) AreQuietStores }
     ensures files { OnOk result (AcrossTells (map L.history parts.old) (map store_history copies.old) (map store_history copies.new) HoldRecovered) }
     ensures tells { AllTell (map store_history copies.old) → AllTell (map store_history copies.new) }
-    ensures fits { OnOk result (RowTells (map L.history parts.old) (λ told. Fits version_1 (row_words told))) }
+    ensures fits { OnOk result (RowTells (map L.history parts.old) (λ told. Fits (layout_in (row_words told)) (row_words told))) }
     ensures bad { (number : ℕ) → result ≡ Err (error.BadEntry number)
-        → RowTells (map L.history parts.old) (λ told. IsLeastBad version_1 (row_words told) number) }
+        → RowTells (map L.history parts.old) (λ told. IsLeastBad (layout_in (row_words told)) (row_words told) number) }
     ensures read { AreOnlyRead L.history L.room L.device parts.old parts.new }
     ensures cause { HasRegionCause (sum_by L.fault_count parts.old) (sum_by L.fault_count parts.new) result }
     ensures no_store { result ≢ Err error.StoreFault }

@@ -1,6 +1,7 @@
 //! A look at a region, whole.
 ghost use Rattle.std.specs.Prelude.{◌≡◌, ℕ, List, [], length, map, sum_by, Err, IfOk, OnOk};
-ghost use Rattle.nv_plain.specs.Layouts.{version_1};
+ghost use Rattle.nv_plain.specs.Images.{layout_in};
+ghost use Rattle.nv_plain.specs.Layouts.{layout_of};
 ghost use Rattle.nv_plain.specs.Recovered.{Fits, recovered};
 ghost use Rattle.nv_pmem.specs.Moments.{Tells};
 ghost use Rattle.nv_pmem.specs.RowStates.{AreNow};
@@ -29,10 +30,10 @@ use std::alloc::Global;
 /// each hole, a longest run of numbers from the tail on, below the last committed one, that are in none of them; and how many groups
 /// there are, good and bad. `head` is what `read_head` gave of the parts, which have the lines that it needs. They are only read.
 pub fn look<L: Lines>(alloc: Global, head: &Head, parts: &mut [L]) -> Result<Text, LookError>
-    requires limits { HeadIsWithinLimits version_1 head.now }
+    requires limits { HeadIsWithinLimits (layout_of head.now.version) head.now }
     requires head { Tells (header_history (map L.history parts.old)) (λ now.
-        IsHeadOf version_1 version_1.header_lines (header_image now) head.now) }
-    requires parts { HasParts version_1 head.now.geometry.page head.now.geometry.entries (map L.room parts.old) }
+        IsHeadOf (layout_of head.now.version) (layout_of head.now.version).header_lines (header_image now) head.now) }
+    requires parts { HasParts (layout_of head.now.version) head.now.geometry.page head.now.geometry.entries (map L.room parts.old) }
     ensures text { IfOk result (λ text. RowTells (map L.history parts.old) (λ told. IsLookText head.now (row_words told) [] text)) }
     ensures read { AreOnlyRead L.history L.room L.device parts.old parts.new }
     ensures cause { HasLookCause (sum_by L.fault_count parts.old) (sum_by L.fault_count parts.new) result }
@@ -49,17 +50,17 @@ pub fn look_files<L: Lines, B: Backing>(
     parts: &mut [L],
     stores: &mut [B],
 ) -> Result<Text, RecoverError>
-    requires limits { HeadIsWithinLimits version_1 head.now }
+    requires limits { HeadIsWithinLimits (layout_of head.now.version) head.now }
     requires head { Tells (header_history (map L.history parts.old)) (λ now.
-        IsHeadOf version_1 version_1.header_lines (header_image now) head.now) }
-    requires parts { HasParts version_1 head.now.geometry.page head.now.geometry.entries (map L.room parts.old) }
+        IsHeadOf (layout_of head.now.version) (layout_of head.now.version).header_lines (header_image now) head.now) }
+    requires parts { HasParts (layout_of head.now.version) head.now.geometry.page head.now.geometry.entries (map L.room parts.old) }
     requires stores { length stores.old ≡ length head.now.names }
     ensures text { (was : List Store) → AreNow (map B.history stores.old) was
         → IfOk result (λ text. RowTells (map L.history parts.old) (λ told.
         IsLookText head.now (row_words told) (recovered (row_words told) (files_of was)).files.contents text)) }
-    ensures fits { OnOk result (RowTells (map L.history parts.old) (λ told. Fits version_1 (row_words told))) }
+    ensures fits { OnOk result (RowTells (map L.history parts.old) (λ told. Fits (layout_in (row_words told)) (row_words told))) }
     ensures bad { (number : ℕ) → result ≡ Err (error.BadEntry number)
-        → RowTells (map L.history parts.old) (λ told. IsLeastBad version_1 (row_words told) number) }
+        → RowTells (map L.history parts.old) (λ told. IsLeastBad (layout_in (row_words told)) (row_words told) number) }
     ensures read { AreOnlyRead L.history L.room L.device parts.old parts.new }
     ensures stores_read { map B.history stores.new ≡ map B.history stores.old }
     ensures devices { map B.device stores.new ≡ map B.device stores.old }
@@ -74,10 +75,10 @@ pub fn look_files<L: Lines, B: Backing>(
 
 // Lists the log of a region whose header says this.
 fn list_region<L: Lines>(alloc: Global, head: &Head, parts: &mut [L]) -> Result<Listing, LookError>
-    requires limits { HeadIsWithinLimits version_1 head.now }
+    requires limits { HeadIsWithinLimits (layout_of head.now.version) head.now }
     requires head { Tells (header_history (map L.history parts.old)) (λ now.
-        IsHeadOf version_1 version_1.header_lines (header_image now) head.now) }
-    requires parts { HasParts version_1 head.now.geometry.page head.now.geometry.entries (map L.room parts.old) }
+        IsHeadOf (layout_of head.now.version) (layout_of head.now.version).header_lines (header_image now) head.now) }
+    requires parts { HasParts (layout_of head.now.version) head.now.geometry.page head.now.geometry.entries (map L.room parts.old) }
     ensures listing { IfOk result (λ listing. RowTells (map L.history parts.old) (λ told. IsListing (row_words told) listing)) }
     ensures read { AreOnlyRead L.history L.room L.device parts.old parts.new }
     ensures cause { HasLookCause (sum_by L.fault_count parts.old) (sum_by L.fault_count parts.new) result }

@@ -33,7 +33,7 @@ fn push_region(alloc: Global, text: &mut Vec<u8>, head: &Head) -> Result<(), NoM
     ensures { OnOk result (text.new.items ≡ text.old.items ++ walk_region_text head.now) }
 {
     let geometry = head.geometry;
-    let version: u64 = 1;
+    let version = head.version.number();
     let line = format!(in alloc;
         "region {version} {} {} {} {}\n",
         geometry.page,

@@ -1,6 +1,7 @@
 -- What a recovery gives of parts and stores that tell.
 use Rattle.std.proofs.Common.{◌≡◌, ℕ, suc, ◌≤◌, List, [], ◌∷◌, length, map, refl, sym, ap, ◌∙◌, subst, arith}
 use Rattle.std.proofs.lemmas.List.{length-map}
+use Rattle.nv_plain.specs.Images.{layout_in}
 use Rattle.nv_plain.specs.Layouts.{version_1}
 use Rattle.nv_plain.specs.Recovered.{region_files}
 use Rattle.nv_pmem.specs.Moments.{Tells}
@@ -90,13 +91,13 @@ module _ {X : Type 0} (history : X → lines.PartHistory) (room : X → Room) (t
   unwritten_unless_good old new row unfit =
       row_tells_from (map history parts) (λ told. ¬ (IsGood told) → (new.parts ≡ old.parts) × (new.stores ≡ old.stores)) (λ told are not_good.
       let same : new ≡ old =
-      row_tells_at old.parts (λ told. ¬ (Fits version_1 (row_words told)) → new ≡ old) told (subst (λ (row : List lines.PartHistory). AreNow row told) (sym row) are) unfit
+      row_tells_at old.parts (λ told. ¬ (Fits (layout_in (row_words told)) (row_words told)) → new ≡ old) told (subst (λ (row : List lines.PartHistory). AreNow row told) (sym row) are) unfit
       (λ fits. not_good (record { readable = can_be_read told are; long = long_told history room told_lines parts told one some are is has; fits = fits })) in
       (ap (λ (devices : Devices). devices.parts) same, ap (λ (devices : Devices). devices.stores) same))
 
   -- a refusal of the log names the least bad entry
   pub refused_by_log : (refusal : RecoverError) (why : Refusal) → of_recovery refusal ≡ error.Refused why
-      → ((number : ℕ) → refusal ≡ recovery.BadEntry number → RowTells (map history parts) (λ told. IsLeastBad version_1 (row_words told) number))
+      → ((number : ℕ) → refusal ≡ recovery.BadEntry number → RowTells (map history parts) (λ told. IsLeastBad (layout_in (row_words told)) (row_words told) number))
       → RowTells (map history parts) (λ told. IsRefusedFor told why × IsBadLog why)
   refused_by_log (recovery.BadEntry number) why same bad =
       subst (λ (one : Refusal). RowTells (map history parts) (λ told. IsRefusedFor told one × IsBadLog one)) (refused_is (BadEntry number) why same)
@@ -108,11 +109,11 @@ module _ {X : Type 0} (history : X → lines.PartHistory) (room : X → Room) (t
 
 -- and nothing is written then
 pub unwritten_log : (old new : Devices) (refusal : RecoverError) (why : Refusal) → FittingHasNoBad → of_recovery refusal ≡ error.Refused why
-    → ((number : ℕ) → refusal ≡ recovery.BadEntry number → RowTells old.parts (λ told. IsLeastBad version_1 (row_words told) number))
+    → ((number : ℕ) → refusal ≡ recovery.BadEntry number → RowTells old.parts (λ told. IsLeastBad (layout_in (row_words told)) (row_words told) number))
     → UnfitIsUnwritten old new → RowTells old.parts (λ told. new.stores ≡ old.stores)
 unwritten_log old new (recovery.BadEntry number) why good same bad unfit =
     row_tells_from old.parts (λ told. new.stores ≡ old.stores) (λ told are.
-    ap (λ (devices : Devices). devices.stores) (row_tells_at old.parts _ told are unfit (λ fits. good version_1 (row_words told) number fits (row_tells_at old.parts _ told are (bad number refl)))))
+    ap (λ (devices : Devices). devices.stores) (row_tells_at old.parts _ told are unfit (λ fits. good (layout_in (row_words told)) (row_words told) number fits (row_tells_at old.parts _ told are (bad number refl)))))
 unwritten_log old new recovery.RegionFault why good same bad unfit = cc
 unwritten_log old new recovery.StoreFault why good same bad unfit = cc
 unwritten_log old new recovery.NoMemory why good same bad unfit = cc

@@ -3,7 +3,8 @@ use Rattle.std.proofs.Common.{◌≡◌, ℕ, ◌≤◌, List, [], ◌∷◌, �
 use Rattle.std.proofs.lemmas.List.{append-nil, length-map}
 use Rattle.std.specs.Prelude.{false, Option, Some, None, IfSome, option_map, Result, Ok, Err, OnOk}
 use Rattle.nv_plain.specs.Files.{Files}
-use Rattle.nv_plain.specs.Layouts.{version_1}
+use Rattle.nv_plain.specs.Images.{layout_in}
+use Rattle.nv_plain.specs.Layouts.{layout_of, mount_version, version_1}
 use Rattle.nv_plain.specs.Recovered.{Fits, recovered, region_files}
 use Rattle.nv_pmem.specs.Moments.{Tells}
 use Rattle.nv_pmem.specs.Part.{Part}
@@ -15,8 +16,9 @@ use Rattle.nv_store.specs.Steps as stores
 use Rattle.nv_store.specs.Store.{Store}
 use Rattle.nv_bench.specs.Benches.{BenchState, with_faults, region_lent, taken_back, told_back}
 use Rattle.nv_bench.specs.Holding.{Holding, named_stores}
-use Rattle.nv_header.specs.Heads.{IsHeadOf, header_image}
+use Rattle.nv_header.specs.Heads.{HeadIsWithinLimits, IsHeadOf, header_image}
 use Rattle.nv_header.specs.Needs.{HasLines, header_history, header_lines_in}
+use Rattle.nv_header.specs.Regions.{HasParts}
 use Rattle.nv_header.specs.declared.head.Head.{Head}
 use Rattle.nv_look.specs.Texts.{IsLookText}
 use Rattle.nv_recover.specs.Standing.{ReadableStandsForRecovered}
@@ -46,6 +48,20 @@ head_needs ((now ∷ past) ∷ row) lines one is = record {
   tail = is.tail;
 }
 
+-- so is what a look or a recovery asks of a head, by its own version
+pub limits_known : (one : Head) → one.version ≡ mount_version → HeadIsWithinLimits version_1 one → HeadIsWithinLimits (layout_of one.version) one
+limits_known one known has = subst (λ version. HeadIsWithinLimits (layout_of version) one) (sym known) has
+
+pub head_known : (row : List PartHistory) (lines : ℕ) (one : Head) → one.version ≡ mount_version → Tells (header_history row) (λ now. IsHeadOf version_1 lines (header_image now) one)
+    → Tells (header_history row) (λ now. IsHeadOf (layout_of one.version) (layout_of one.version).header_lines (header_image now) one)
+head_known row lines one known is =
+    subst (λ version. Tells (header_history row) (λ now. IsHeadOf (layout_of version) (layout_of version).header_lines (header_image now) one)) (sym known)
+    (head_needs row lines one is)
+
+pub parts_known : (one : Head) (rooms : List Room) → one.version ≡ mount_version → HasParts version_1 one.geometry.page one.geometry.entries rooms
+    → HasParts (layout_of one.version) one.geometry.page one.geometry.entries rooms
+parts_known one rooms known has = subst (λ version. HasParts (layout_of version) one.geometry.page one.geometry.entries rooms) (sym known) has
+
 -- a look refuses no region
 pub no_refusal : (one : LookError) (why : Refusal) → of_looking one ≡ error.Refused why → ⊥
 no_refusal looks.RegionFault why is = cc
@@ -54,11 +70,12 @@ no_refusal looks.NoMemory why is = cc
 -- ---- what is shown
 
 module _ {X : Type 0} (history : X → PartHistory) (room : X → Room) (told_lines : (p : X) (now : Part) (past : PartHistory) → history p ≡ now ∷ past → length now ≡ (room p).lines)
-    (parts : List X) (one : Head) (some : 1 ≤ length parts) (has : HasLines version_1 one.geometry.page one.geometry.entries (map room parts))
+    (parts : List X) (one : Head) (known : one.version ≡ mount_version) (some : 1 ≤ length parts) (has : HasLines version_1 one.geometry.page one.geometry.entries (map room parts))
     (is : Tells (header_history (map history parts)) (λ now. IsHeadOf version_1 (header_lines_in (map room parts)) (header_image now) one)) where
   shown_one : (files : List (List ℕ)) (text : List ℕ) (told : List Part) → AreNow (map history parts) told → IsLookText one (row_words told) files text → ShowsRegion told files text
   shown_one files text told are shows = record {
     head = one;
+    version_is = known;
     says = head_told history room told_lines parts told one some are is;
     long = long_told history room told_lines parts told one some are is has;
     text_is = shows;
@@ -69,7 +86,7 @@ module _ {X : Type 0} (history : X → PartHistory) (room : X → Room) (told_li
       row_tells_from (map history parts) (λ told. ShowsRegion told files text) (λ told are. shown_one files text told are (row_tells_at (map history parts) _ told are shows))
 
   -- the files that a recovery would leave are those that the region stands for
-  pub files_shown : ReadableStandsForRecovered → (base : Files) (text : List ℕ) → RowTells (map history parts) (λ told. Fits version_1 (row_words told))
+  pub files_shown : ReadableStandsForRecovered → (base : Files) (text : List ℕ) → RowTells (map history parts) (λ told. Fits (layout_in (row_words told)) (row_words told))
       → RowTells (map history parts) (λ told. IsLookText one (row_words told) (recovered (row_words told) base).files.contents text)
       → RowTells (map history parts) (λ told. ShowsFiles told (region_files (row_words told) base) text)
   files_shown readable base text fits shows =

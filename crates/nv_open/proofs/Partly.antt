@@ -6,7 +6,7 @@ use Rattle.std.proofs.Math.Seq.{take-append_seam, take-append-add}
 use Rattle.std.proofs.lemmas.List.{get_or_append_left, get_or-append-add, get_or_default, length-map, length-set, map-append, take-map, take_all}
 use Rattle.std.proofs.lemmas.List.Elements.{All-nil, All-cons, All-append, Contains-append_right}
 use Rattle.nv_plain.specs.Files.{Files}
-use Rattle.nv_plain.specs.Images.{Image, header_of}
+use Rattle.nv_plain.specs.Images.{Image, header_of, layout_in}
 use Rattle.nv_plain.specs.Layouts.{version_1}
 use Rattle.nv_plain.specs.Recovered.{Fits, committed, group_numbers, recovered, with_entry}
 use Rattle.nv_pmem.specs.Part.{Part}
@@ -33,11 +33,12 @@ use Rattle.nv_open.specs.Begun.{files_behind, files_with}
 use Rattle.nv_open.specs.Held.{files_named, header_names}
 use Rattle.nv_open.specs.Lending.{stores_lent, stores_named, without_named, without_stores}
 use Rattle.nv_open.specs.Refusals.{head_image}
-use Rattle.nv_open.specs.Unopened.{GivesBack, HasFirstNames, HasRest, HasSome, InEachImage, StandsAsBefore, StandsWithSome, TellRow, entries_known, first_files, line_counts, names_in, names_known, page_known}
+use Rattle.nv_open.specs.Unopened.{GivesBack, HasFirstNames, HasHeader, HasRest, HasSome, InEachImage, StandsAsBefore, StandsWithSome, TellRow, entries_known, first_files, line_counts, names_in, names_known, page_known}
 use Rattle.nv_open.proofs.GivenBack.{among}
 use Rattle.nv_open.proofs.Homes.{NotNamed, all_away, all_behind, all_in_front, behind, found_same, in_front, kept_in_all, not_given, one_or_none, other_name, own_stores}
 use Rattle.nv_open.proofs.Openings.{store_of_others}
 use Rattle.nv_open.proofs.Returns.{named_quiet}
+use Rattle.nv_open.proofs.Stands.{head_alike}
 use Rattle.nv_open.proofs.Tells.{did_tells}
 
 -- ---- parts after the last step of a call
@@ -70,7 +71,7 @@ many_recovered image files = many_entries image (flat_map (group_numbers image) 
 empty_stands : (page entries : ℕ) (names : List (List ℕ)) (next : ℕ) (image : Image) (bytes files : Files) → HasEmptyLog version_1 page entries names next image → bytes ≡ files → StandsFor image bytes files
 empty_stands page entries names next image bytes files empty same =
     let none = empty_none page entries names next image empty in
-    record { fits = empty_fits version_1 image none; recovers = empty_recovered image bytes none ∙ same }
+    record { fits = empty_fits (layout_in image) image none; recovers = empty_recovered image bytes none ∙ same }
 
 same_contents : (bytes : Files) (contents : List (List ℕ)) → bytes.contents ≡ contents → bytes ≡ record { contents = contents }
 same_contents bytes contents same = ap (λ these. let files : Files = record { contents = these } in files) same
@@ -122,8 +123,8 @@ blank_left geometry was back wanted blank each image bytes is are = elim (each i
 
 -- ---- a region that stands as before
 
-pub kept_left : (geometry : Geometry) (was back : Holding) (wanted : List (List ℕ)) → is_blank was.parts ≡ false → Fits version_1 (row_words was.parts) → StandsAsBefore was back → InEachImage (StandsWithSome geometry was wanted) back
-kept_left geometry was back wanted blank fits stands image bytes is are =
+pub kept_left : (geometry : Geometry) (was back : Holding) (wanted : List (List ℕ)) → is_blank was.parts ≡ false → HasHeader was.parts → Fits (layout_in (row_words was.parts)) (row_words was.parts) → StandsAsBefore was back → InEachImage (StandsWithSome geometry was wanted) back
+kept_left geometry was back wanted blank can fits stands image bytes is are =
     let names = header_names was.parts in
     let known = names_known was.parts in
     let same : known ≡ names = kept_known was.parts blank in
@@ -144,7 +145,7 @@ kept_left geometry was back wanted blank fits stands image bytes is are =
     inr (record {
       count = length known;
       enough = omega arith;
-      readable = place.header.readable;
+      readable = head_alike (row_words was.parts) image can.fields.version_is place.header;
       page_is = place.header.page ∙ sym (kept_page was.parts geometry blank);
       entries_is = place.header.entries ∙ sym (kept_entries was.parts geometry blank);
       names_are = read ∙ sym same ∙ sym (take-append_seam known (new_names known wanted));

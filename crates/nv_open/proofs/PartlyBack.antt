@@ -5,7 +5,7 @@ use Rattle.std.proofs.Math.Seq.{take-append-add}
 use Rattle.std.proofs.lemmas.List.{append-nil, get_or-take, length-map, length-take, map-append}
 use Rattle.std.proofs.lemmas.List.Elements.{Contains-append_left}
 use Rattle.nv_plain.specs.Files.{Files}
-use Rattle.nv_plain.specs.Images.{Image}
+use Rattle.nv_plain.specs.Images.{Image, layout_in}
 use Rattle.nv_plain.specs.Layouts.{version_1}
 use Rattle.nv_plain.specs.Recovered.{Fits}
 use Rattle.nv_pmem.specs.Laws.{QuietPartHasOneImage}
@@ -60,11 +60,11 @@ by_test true yes_so no_so = yes_so refl
 by_test false yes_so no_so = no_so refl
 
 -- what stands as before stands so too
-pub opening_kept : (geometry : Geometry) (was back : Holding) (wanted : List (List ℕ)) → is_blank was.parts ≡ false → Fits version_1 (row_words was.parts) → StandsAsBefore was back → StandsOpening (line_counts was.parts) geometry was wanted back
-opening_kept geometry was back wanted blank fits stands =
+pub opening_kept : (geometry : Geometry) (was back : Holding) (wanted : List (List ℕ)) → is_blank was.parts ≡ false → HasHeader was.parts → Fits (layout_in (row_words was.parts)) (row_words was.parts) → StandsAsBefore was back → StandsOpening (line_counts was.parts) geometry was wanted back
+opening_kept geometry was back wanted blank can fits stands =
     let known = names_known was.parts in
     record {
-      images = kept_left geometry was back wanted blank fits stands;
+      images = kept_left geometry was back wanted blank can fits stands;
       rest = record {
         lines_are = stands.rest.lines_are;
         others = λ name other. stands.rest.others name
@@ -90,7 +90,7 @@ module _ {X Y : Type 0} (part_history : X → lines.PartHistory) (store_history 
       row_tells_from row (λ told. StandForFiles told → Back told holding) (λ told are stand.
       let kept = row_tells_at row (λ told. is_blank told ≡ false) told are blank in
       gives_more part_history store_history (StandsAsBefore (was told holding)) (StandsOpening (line_counts told) geometry (was told holding) wanted) new parts stores
-      (λ back. opening_kept geometry (was told holding) back wanted kept (stand.fits kept))
+      (λ back. opening_kept geometry (was told holding) back wanted kept (stand.readable kept) (stand.fits kept))
       (row_tells_at row (λ told. HasHeader told → GivesBack part_history store_history (StandsAsBefore (was told holding)) new parts stores) told are
       (at_some old.told (λ holding. RowTells row (λ told. HasHeader told → GivesBack part_history store_history (StandsAsBefore (was told holding)) new parts stores)) holding told_is stands) (stand.readable kept))))
 
@@ -135,7 +135,7 @@ module _ {X Y : Type 0} (part_history : X → lines.PartHistory) (store_history 
       (λ blank. blank_at holding told told told_is home is (no_store none) blank (subst (λ (these : List lines.PartHistory). AreNow these told) (sym same) are) refl
       (λ image is_image. inl ((blank_row one told (row_tells_at row AreQuiet told are quiet) blank).blank image is_image)))
       (λ kept. gives_more part_history store_history (StandsAsBefore (was told holding)) (StandsOpening (line_counts told) geometry (was told holding) wanted) new parts stores
-      (λ back. opening_kept geometry (was told holding) back wanted kept (stand.fits kept))
+      (λ back. opening_kept geometry (was told holding) back wanted kept (stand.readable kept) (stand.fits kept))
       (row_tells_at row (λ told. HasHeader told → GivesBack part_history store_history (StandsAsBefore (was told holding)) new parts stores) told are
       (at_some old.told (λ holding. RowTells row (λ told. HasHeader told → GivesBack part_history store_history (StandsAsBefore (was told holding)) new parts stores)) holding told_is stands) (stand.readable kept)))))
 
@@ -373,5 +373,5 @@ unopened_made geometry was wanted now stands = record {
 pub made_stand : (geometry : Geometry) (parts : List Part) → StandForFiles parts → StandForFiles (opened (Some geometry) parts)
 made_stand geometry parts stand = record {
   readable = λ kept. (let was = sym (blank_stays geometry parts) ∙ kept in subst HasHeader (sym (opened_kept geometry parts was)) (stand.readable was));
-  fits = λ kept. (let was = sym (blank_stays geometry parts) ∙ kept in subst (λ (these : List Part). Fits version_1 (row_words these)) (sym (opened_kept geometry parts was)) (stand.fits was));
+  fits = λ kept. (let was = sym (blank_stays geometry parts) ∙ kept in subst (λ (these : List Part). Fits (layout_in (row_words these)) (row_words these)) (sym (opened_kept geometry parts was)) (stand.fits was));
 }

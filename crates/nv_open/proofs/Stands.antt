@@ -3,9 +3,10 @@ use Rattle.std.proofs.Common.{◌≡◌, ℕ, inl, All, List, [], ◌∷◌, len
 use Rattle.std.proofs.lemmas.List.{length-map, get_or-map}
 use Rattle.std.proofs.lemmas.List.Elements.{All-nil, All-cons}
 use Rattle.nv_plain.specs.Files.{Files}
-use Rattle.nv_plain.specs.Images.{Image, header_of}
-use Rattle.nv_plain.specs.Layouts.{version_1}
-use Rattle.nv_plain.specs.Recovered.{Recovered as Recovery, recovered}
+use Rattle.nv_plain.specs.Images.{Image, header_of, layout_in}
+use Rattle.nv_plain.specs.Layouts.{mount_version, version_1}
+use Rattle.nv_plain.proofs.OwnLayouts.{layout_is, layout_same}
+use Rattle.nv_plain.specs.Recovered.{Fits, Recovered as Recovery, recovered}
 use Rattle.nv_pmem.specs.Part.{Part}
 use Rattle.nv_pmem.specs.RowStates.{AreNow, TellingRowsHaveStates, row_tells_at}
 use Rattle.nv_pmem.specs.Runs.{run}
@@ -21,10 +22,11 @@ use Rattle.nv_recover.specs.Alike.{SayTheSame}
 use Rattle.nv_recover.specs.Changes.{Devices, devices_after_change}
 use Rattle.nv_recover.specs.Interrupted.{IsRecoveryStop, PromisesKeepTelling, Start}
 use Rattle.nv_recover.specs.Recovering.{StandThroughout}
-use Rattle.nv_recover.specs.Standing.{AreQuietStores, AreStoreImages, StandsStill, TakesPlace, files_of}
+use Rattle.nv_recover.specs.Standing.{AreQuietStores, AreStoreImages, ReadsAlike, StandsStill, TakesPlace, files_of}
 use Rattle.nv_recover.proofs.AlikeLaws.{same_fits, same_recovered}
 use Rattle.nv_recover.proofs.ApplyLaws.{quiet_image}
 use Rattle.nv_recover.proofs.EmptyLaws.{same_words, reads_too}
+use Rattle.nv_recover.proofs.StandLaws.{header_alike}
 use Rattle.nv_recover.proofs.Interrupted.{end_is_stop, promise_is_run}
 use Rattle.nv_recover.specs.Telling.{TellingStoresHaveStates}
 use Rattle.nv_open.specs.Held.{header_names}
@@ -40,18 +42,30 @@ stands_quiet parts stores quiet still readable other bytes is are =
     λ part line word. quiet_line (slice_index_or parts part []) (other part) line word ((quiet.each part).lines line) (is.each part) in
     let same : SayTheSame image other = same_words image other here in
     let header = header_of image in
-    let reads : ReadsAs version_1 header.page header.entries (first_names version_1 image header.files) header.tail image =
+    let names = first_names version_1 image header.files in
+    let reads : ReadsAs version_1 header.page header.entries names header.tail image =
     record { readable = readable; page_is = refl; entries_is = refl; names_are = refl; tail_is = refl } in
-    let too = reads_too header.page header.entries (first_names version_1 image header.files) header.tail image other (here 0) reads in
+    let too = reads_too mount_version header.page header.entries names header.tail image other (here 0) reads in
     let log = same_recovered image other same in
     record {
-      header = record { readable = too.readable; page = too.page_is; entries = too.entries_is; names = too.names_are };
+      header = header_alike mount_version header.page header.entries names header.tail header.tail image other reads too;
       log = inl (record { first = λ files. ap (λ (all : Recovery). all.first) (log files); groups = λ files. ap (λ (all : Recovery). all.groups) (log files); next = λ files. ap (λ (all : Recovery). all.next) (log files) });
       files = λ fits. record {
-        fits = same_fits image other same version_1 fits;
+        fits = subst (λ layout. Fits layout other) (sym (layout_same image other (here 0 0 1))) (same_fits image other same (layout_in image) fits);
         recovers = ap (λ (all : Recovery). all.files) (log bytes) ∙ ap (λ (files : Files). (recovered image files).files) (quiet_image stores bytes still are);
       };
     }
+
+-- A header of the version that mounts have, and one that reads like it: that can be read,
+pub head_alike : (image other : Image) → (header_of image).version ≡ version_1.version → ReadsAlike image other → IsHead version_1 version_1.header_lines other
+head_alike image other is alike = subst (λ layout. IsHead layout layout.header_lines other) (layout_is mount_version other (alike.version ∙ is)) alike.readable
+
+-- and says the same names.
+names_alike : (image other : Image) → (header_of image).version ≡ version_1.version → ReadsAlike image other → names_in other ≡ names_in image
+names_alike image other is alike =
+    ap (λ layout. first_names layout other (header_of other).files) (sym (layout_is mount_version other (alike.version ∙ is)))
+    ∙ alike.names
+    ∙ ap (λ layout. first_names layout image (header_of image).files) (layout_is mount_version image is)
 
 -- What one stop of a recovery comes to takes the place of what was before.
 stop_stands : (before after : Start) → IsRecoveryStop before after → TakesPlace before.image before.bytes after.image after.bytes
@@ -95,8 +109,8 @@ names_read parts = refl
 
 -- What a recovery leaves that failed.
 pub stood : (old new : Devices) (parts : List Part) (stores : List Store) → PromisesKeepTelling → TellingRowsHaveStates → TellingStoresHaveStates → StandThroughout old new → AreNow old.parts parts → AreNow old.stores stores
-    → ((held : List Store) → AreNow new.stores held → All IsWholeStore held) → StandAsBefore parts stores new.parts new.stores
-stood old new parts stores keep part_states store_states promise parts_are stores_are whole =
+    → ((held : List Store) → AreNow new.stores held → All IsWholeStore held) → (header_of (row_words parts)).version ≡ version_1.version → StandAsBefore parts stores new.parts new.stores
+stood old new parts stores keep part_states store_states promise parts_are stores_are whole version =
     let tell = keep old new (states_tell old.parts parts parts_are) (states_tell old.stores stores stores_are) promise in
     let now = part_states new.parts tell.0 in
     let (held, held_are) = (store_states new.stores).0 tell.1 in
@@ -106,7 +120,10 @@ stood old new parts stores keep part_states store_states promise parts_are store
       held = held;
       now_are = now.are;
       held_are = held_are;
-      same_names = λ image is. (stands image (record { contents = map (λ (store : Store). store.durable) held }) is (durable_images held (whole held held_are))).header.names ∙ sym (names_read parts);
+      same_names = λ image is.
+          names_alike (row_words parts) image version
+          (stands image (record { contents = map (λ (store : Store). store.durable) held }) is (durable_images held (whole held held_are))).header
+          ∙ sym (names_read parts);
       stands = stands;
     }
 
@@ -133,7 +150,12 @@ stands_read parts stores back quiet still readable same_parts same_stores rest =
     let here = stands_quiet parts (stores_named names stores) quiet still readable in
     let Names : List Part → Type 0 = λ now. (image : Image) → IsRowImage now image → names_in image ≡ names in
     record {
-      same_names = subst Names (sym same_parts) (λ image is. (here image (files_of (stores_named names stores)) is (own_images (stores_named names stores) still)).header.names ∙ sym (names_read parts));
+      same_names =
+          subst Names (sym same_parts)
+          (λ image is.
+          names_alike (row_words parts) image readable.fields.version_is
+          (here image (files_of (stores_named names stores)) is (own_images (stores_named names stores) still)).header
+          ∙ sym (names_read parts));
       stands =
           subst (λ now. StandsStill (row_words parts) (files_of (stores_named names stores)) now (stores_named names back.stores)) (sym same_parts)
           (subst (λ held. StandsStill (row_words parts) (files_of (stores_named names stores)) parts held) (sym same_stores) here);

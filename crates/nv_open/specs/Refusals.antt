@@ -1,6 +1,6 @@
 -- Refusals: why a region isn't opened, by the bytes of its parts.
 use Rattle.std.specs.Prelude.{◌≡◌, ◌⊎◌, ℕ, List, [], map, length, slice_index_or}
-use Rattle.nv_plain.specs.Images.{Image, header_of}
+use Rattle.nv_plain.specs.Images.{Image, header_of, layout_in}
 use Rattle.nv_plain.specs.Layouts.{version_1}
 use Rattle.nv_pmem.specs.Part.{Part}
 use Rattle.nv_pmem.specs.Room.{Room}
@@ -85,7 +85,7 @@ IsRefusedFor parts BadMagic = IsHeadRefused parts head.BadMagic
 IsRefusedFor parts (BadVersion found) = IsHeadRefused parts (head.BadVersion found)
 IsRefusedFor parts (BadGeometry field found) = IsHeadRefused parts (head.BadGeometry field found)
 IsRefusedFor parts (BadName i) = IsHeadRefused parts (head.BadName i)
-IsRefusedFor parts (BadEntry number) = CanBeRead parts × AreLong parts × IsLeastBad version_1 (row_words parts) number
+IsRefusedFor parts (BadEntry number) = CanBeRead parts × AreLong parts × IsLeastBad (layout_in (row_words parts)) (row_words parts) number
 IsRefusedFor parts TooManyFiles = ⊥
 
 -- the refusal is that of an entry

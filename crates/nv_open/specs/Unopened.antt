@@ -1,7 +1,7 @@
 -- Unopened: what a bench holds, whatever a power failure leaves of it, whose region wasn't opened, or wasn't recovered.
 use Rattle.std.specs.Prelude.{◌≡◌, ◌⊎◌, ℕ, ◌<◌, ◌≤◌, true, false, if◌then◌else◌, Contains, List, [], ◌++◌, length, map, take, Option, Some}
 use Rattle.nv_plain.specs.Files.{Files}
-use Rattle.nv_plain.specs.Images.{Image, header_of}
+use Rattle.nv_plain.specs.Images.{Image, header_of, layout_in}
 use Rattle.nv_plain.specs.Layouts.{version_1}
 use Rattle.nv_plain.specs.Recovered.{Fits, IsBlank}
 use Rattle.nv_pmem.specs.Part.{Part}
@@ -95,7 +95,7 @@ entries_known parts geometry = if is_blank parts then geometry.entries else (hea
 -- Parts stand for files: they are blank, or a region that can be read, whose committed numbers lead whole groups.
 pub record StandForFiles (parts : List Part) : Type 0 where
   pub readable : is_blank parts ≡ false → HasHeader parts
-  pub fits : is_blank parts ≡ false → Fits version_1 (row_words parts)
+  pub fits : is_blank parts ≡ false → Fits (layout_in (row_words parts)) (row_words parts)
 
 -- An image of what is left of a bench: it is blank, as the bench was; or it has the sizes and all names of the region, and maybe some of the new ones, and
 -- stands for their files.
@@ -120,7 +120,7 @@ pub record StandsUnopened (was : Holding) (geometry : Geometry) (wanted : List (
 pub record IsGood (parts : List Part) : Type 0 where
   pub readable : CanBeRead parts
   pub long : AreLong parts
-  pub fits : Fits version_1 (row_words parts)
+  pub fits : Fits (layout_in (row_words parts)) (row_words parts)
 
 -- A bench holds what it held, but that the stores of some names of its header came back behind the others, as they were.
 pub record IsUntouched (was now : Holding) : Type 0 where

@@ -1,6 +1,6 @@
 //! The header of a region that is lent.
 ghost use Rattle.std.specs.Prelude.{◌≡◌, All, map, sum_by, Err, IfOk};
-ghost use Rattle.nv_plain.specs.Layouts.{version_1};
+ghost use Rattle.nv_plain.specs.Layouts.{mount_version, version_1};
 ghost use Rattle.nv_pmem.specs.Moments.{Tells};
 ghost use Rattle.nv_pmem.specs.Rows.{RowTells, AreOnlyRead};
 ghost use Rattle.nv_header.specs.Heads.{IsHeadOf, HeadIsWithinLimits, header_image};
@@ -21,6 +21,7 @@ use std::alloc::Global;
 /// What the header of a region says, whose parts have the lines that it needs. A region that has another version than a mount opens
 /// over is refused here, whoever reads it.
 pub(crate) fn read_header<L: Lines>(alloc: Global, parts: &mut [L]) -> Result<Head, OpenError>
+    ensures version { IfOk result (λ head. head.version ≡ mount_version) }
     ensures head { IfOk result (λ head. Tells (header_history (map L.history parts.old)) (λ now.
         IsHeadOf version_1 (header_lines_in (map L.room parts.old)) (header_image now) head)) }
     ensures names { IfOk result (λ head. RowTells (map L.history parts.old) (λ told. header_names told ≡ head.names)) }

@@ -36,6 +36,7 @@ pub(crate) fn recover_log<L: Lines + Drop, B: Backing>(
     parts: Vec<L>,
     stores: &mut Vec<B>,
 ) -> Result<(Region<L>, Recovered), (Vec<L>, OpenError)>
+    requires version { head.version ≡ mount_version }
     requires limits { HeadIsWithinLimits version_1 head }
     requires head { Tells (header_history (map L.history parts.items)) (λ now.
         IsHeadOf version_1 (header_lines_in (map L.room parts.items)) (header_image now) head) }

@@ -1,7 +1,7 @@
 //! The look at a region of a bench.
 ghost use Rattle.std.specs.Prelude.{◌≡◌, ◌+◌, ℕ, List, [], false, true, length, map, sum_by, All, Err, IfOk, IfSome, OnOk};
 ghost use Rattle.nv_plain.specs.Faults.{saturated};
-ghost use Rattle.nv_plain.specs.Layouts.{version_1};
+ghost use Rattle.nv_plain.specs.Layouts.{mount_version, version_1};
 ghost use Rattle.nv_plain.specs.Recovered.{region_files};
 ghost use Rattle.nv_pmem.specs.Moments.{Tells};
 ghost use Rattle.nv_pmem.specs.RowStates.{AreNow};
@@ -123,6 +123,7 @@ fn look_at_log<L: Lines, B: Backing>(
     parts: &mut [L],
     stores: &mut [B],
 ) -> Result<Text, OpenError>
+    requires version { head.now.version ≡ mount_version }
     requires limits { HeadIsWithinLimits version_1 head.now }
     requires head { Tells (header_history (map L.history parts.old)) (λ now.
         IsHeadOf version_1 (header_lines_in (map L.room parts.old)) (header_image now) head.now) }

@@ -1,4 +1,5 @@
 pub mod FileLemmas
 pub mod HistoryLemmas
 pub mod MadeLemmas
+pub mod OwnLayouts
 pub mod PieceLemmas

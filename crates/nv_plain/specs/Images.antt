@@ -1,8 +1,10 @@
 -- Images: what the header and the entries of a region say, as their words read.
-use Rattle.std.specs.Prelude.{ℕ, ◌+◌, ◌-◌, ◌*◌, ◌/◌, ◌%◌, List, [], ◌∷◌, take}
+use Rattle.std.specs.Prelude.{ℕ, ◌+◌, ◌-◌, ◌*◌, ◌/◌, ◌%◌, ◌==◌, if◌then◌else◌, List, [], ◌∷◌, take}
 use Rattle.std.specs.Int.{to_le_bytes, w64}
 use Rattle.std.specs.List.{flat_map, range_with_len}
-use Rattle.nv_plain.specs.Layouts.{Layout}
+use Rattle.nv_plain.specs.Layouts.{Layout, layout_of}
+use Rattle.nv_plain.specs.declared.limits.Version.{Version}
+use Rattle.nv_plain.specs.declared.limits.Version.TheVariants.{One, Two}
 
 -- the words of one part, by line and word
 abbrev pub PartImage : Type 0
@@ -71,6 +73,14 @@ header_of image = record {
   files = image 0 0 4;
   tail = image 0 1 0;
 }
+
+-- the version that the header of an image says; version 1, where it is no version that is known
+abbrev pub version_in : Image → Version
+version_in image = if (header_of image).version == (layout_of Two).version then Two else One
+
+-- the layout of that version: where the image keeps what
+unfoldable pub layout_in : Image → Layout
+layout_in image = layout_of (version_in image)
 
 -- the name in record i: its length is the record's first word, and its bytes stand behind that
 abbrev pub name_of : Layout → Image → ℕ → List ℕ

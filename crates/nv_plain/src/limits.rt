@@ -82,6 +82,16 @@ impl Version {
             Version::Two => 64,
         }
     }
+
+    /// Most entries of a group.
+    pub fn group_limit(self) -> u64
+        ensures { result ≡ (layout_of self).group_limit }
+    {
+        match self {
+            Version::One => 16,
+            Version::Two => 64,
+        }
+    }
 }
 
 /// Most bytes of a file's name in any version.

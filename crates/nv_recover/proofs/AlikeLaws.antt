@@ -4,8 +4,10 @@ use Rattle.std.proofs.lemmas.Bool.{cases_eq, eq-eqb, ne_eqb}
 use Rattle.std.specs.Prelude.{filter, fold, take}
 use Rattle.std.specs.List.{flat_map, range_with_len}
 use Rattle.nv_plain.specs.Files.{Files, contents_of, with_contents, overwritten}
-use Rattle.nv_plain.specs.Images.{Image, Header, header_of, entry_at, slot_part, data_of, line_bytes, lines_for}
-use Rattle.nv_plain.specs.Layouts.{Layout}
+use Rattle.nv_plain.specs.Images.{Image, Header, header_of, entry_at, layout_in, slot_part, data_of, line_bytes, lines_for}
+use Rattle.nv_plain.specs.Layouts.{Layout, layout_of}
+use Rattle.nv_plain.specs.declared.limits.Version.{Version}
+use Rattle.nv_plain.proofs.OwnLayouts.{layout_is}
 use Rattle.nv_plain.specs.Recovered.{IsCommitted, IsInGroup, IsLeader, IsFollower, IsPiece, IsGroup, Fits, committed, group_numbers, next_after, with_entry, recovered}
 use Rattle.nv_recover.specs.Alike.{SayTheSame}
 
@@ -181,6 +183,16 @@ module _ (image other : Image) (same : SayTheSame image other) where
   same_fits layout fits leader commits =
       let too = committed_too leader commits in
       group_too layout leader too.from_tail (fits leader too)
+
+-- ---- by which version an image fits
+
+-- by the version that its header says, and so by its own,
+pub fits_own : (version : Version) (image : Image) → (header_of image).version ≡ (layout_of version).version → Fits (layout_of version) image → Fits (layout_in image) image
+fits_own version image says fits = subst (λ layout. Fits layout image) (sym (layout_is version image says)) fits
+
+-- and the other way round
+pub fits_said : (version : Version) (image : Image) → (header_of image).version ≡ (layout_of version).version → Fits (layout_in image) image → Fits (layout_of version) image
+fits_said version image says fits = subst (λ layout. Fits layout image) (layout_is version image says) fits
 
 -- ---- an empty log
 

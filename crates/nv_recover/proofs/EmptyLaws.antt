@@ -1,14 +1,16 @@
 -- Words that are cleared and a tail that moves: what images then say of the log.
-use Rattle.std.proofs.Common.{◌≡◌, ◌≢◌, ◌⊎◌, ◌↔◌, inl, inr, ℕ, ◌+◌, ◌*◌, ◌/◌, ◌%◌, ◌^◌, ◌<◌, ◌≤◌, List, take, map, sym, ap, ◌∙◌, subst, arith}
+use Rattle.std.proofs.Common.{◌≡◌, ◌≢◌, ◌⊎◌, ◌↔◌, inl, inr, ℕ, ◌+◌, ◌-◌, ◌*◌, ◌/◌, ◌%◌, ◌^◌, ◌<◌, ◌≤◌, List, take, map, sym, ap, ◌∙◌, subst, arith}
 use Rattle.std.specs.Prelude.{IsTrue}
 use Rattle.std.specs.Int.{to_le_bytes, w64}
 use Rattle.std.specs.List.{flat_map, range_with_len}
 use Rattle.nv_plain.specs.Images.{Image, header_of, entry_at, name_of}
-use Rattle.nv_plain.specs.Layouts.{version_1}
+use Rattle.nv_plain.specs.Layouts.{Layout, layout_of}
+use Rattle.nv_plain.specs.declared.limits.Version.{Version}
 use Rattle.nv_plain.specs.Recovered.{IsCommitted}
 use Rattle.nv_pmem.specs.Limits.{IsPageSize, IsEntryCount}
-use Rattle.nv_header.specs.Heads.{IsGoodName, first_names, length_of, room_of_name, is_record}
+use Rattle.nv_header.specs.Heads.{IsGoodName, first_names, length_of, record_line, room_of_name, is_record}
 use Rattle.nv_header.specs.Regions.{ReadsAs, HasEmptyLog}
+use Rattle.nv_header.proofs.VersionLaws.{record_line-behind}
 use Rattle.nv_recover.specs.Alike.{SayTheSame}
 use Rattle.nv_recover.specs.Emptying.{IsTrimmed, HasNoneAbove, CommitsNoneFrom}
 
@@ -64,32 +66,39 @@ none_too image other next same none number from commits =
 
 -- ---- a tail that moves
 
-same_name : (image other : Image) (i : ℕ) → ((line word : ℕ) → 2 ≤ line → other 0 line word ≡ image 0 line word) → name_of version_1 other i ≡ name_of version_1 image i
-same_name image other i same =
-    let Bytes = λ (these : Image) (k : ℕ). to_le_bytes w64 (these 0 (2 + i * 1 + k / 8) (k % 8)) in
-    ap (λ size. take size (flat_map (Bytes other) (range_with_len 1 7))) (same (2 + i * 1) 0 (omega arith))
-    ∙ ap (λ bytes. take (image 0 (2 + i * 1) 0) (flat_map bytes (range_with_len 1 7)))
-    (λ at k. to_le_bytes w64 (same (2 + i * 1 + k / 8) (k % 8) (omega arith) at))
+same_name : (version : Version) (image other : Image) (i : ℕ) → ((line word : ℕ) → 2 ≤ line → other 0 line word ≡ image 0 line word) → name_of (layout_of version) other i ≡ name_of (layout_of version) image i
+same_name version image other i same =
+    let layout = layout_of version in
+    let line = record_line layout i in
+    let words = range_with_len 1 (layout.lines_per_name * 8 - 1) in
+    let behind = record_line-behind version i in
+    let Bytes = λ (these : Image) (k : ℕ). to_le_bytes w64 (these 0 (line + k / 8) (k % 8)) in
+    ap (λ size. take size (flat_map (Bytes other) words)) (same line 0 behind)
+    ∙ ap (λ bytes. take (image 0 line 0) (flat_map bytes words))
+    (λ at k. to_le_bytes w64 (same (line + k / 8) (k % 8) (omega (arith, behind)) at))
 
-same_room : (image other : Image) (i : ℕ) → ((line word : ℕ) → 2 ≤ line → other 0 line word ≡ image 0 line word) → room_of_name version_1 other i ≡ room_of_name version_1 image i
-same_room image other i same =
-    ap (λ bytes. flat_map bytes (range_with_len 1 7))
-    (λ at k. to_le_bytes w64 (same (2 + i * 1 + k / 8) (k % 8) (omega arith) at))
+same_room : (version : Version) (image other : Image) (i : ℕ) → ((line word : ℕ) → 2 ≤ line → other 0 line word ≡ image 0 line word) → room_of_name (layout_of version) other i ≡ room_of_name (layout_of version) image i
+same_room version image other i same =
+    let layout = layout_of version in
+    let behind = record_line-behind version i in
+    ap (λ bytes. flat_map bytes (range_with_len 1 (layout.lines_per_name * 8 - 1)))
+    (λ at k. to_le_bytes w64 (same (record_line layout i + k / 8) (k % 8) (omega (arith, behind)) at))
 
-good_too : (image other : Image) (i : ℕ) → ((line word : ℕ) → 2 ≤ line → other 0 line word ≡ image 0 line word) → IsGoodName version_1 image i → IsGoodName version_1 other i
-good_too image other i same good =
-    let Room : List ℕ → Type 0 = λ room. IsTrue (is_record 56 (length_of version_1 image i) room) in
-    let Length : ℕ → Type 0 = λ size. IsTrue (is_record 56 size (room_of_name version_1 other i)) in
+good_too : (version : Version) (image other : Image) (i : ℕ) → ((line word : ℕ) → 2 ≤ line → other 0 line word ≡ image 0 line word) → IsGoodName (layout_of version) image i → IsGoodName (layout_of version) other i
+good_too version image other i same good =
+    let layout = layout_of version in
+    let Room : List ℕ → Type 0 = λ room. IsTrue (is_record layout.name_limit (length_of layout image i) room) in
+    let Length : ℕ → Type 0 = λ size. IsTrue (is_record layout.name_limit size (room_of_name layout other i)) in
     record {
-      whole = subst Length (sym (same (2 + i * 1) 0 (omega arith))) (subst Room (sym (same_room image other i same)) good.whole);
-      new = λ j earlier equal. good.new j earlier (sym (same_name image other j same) ∙ equal ∙ same_name image other i same);
+      whole = subst Length (sym (same (record_line layout i) 0 (record_line-behind version i))) (subst Room (sym (same_room version image other i same)) good.whole);
+      new = λ j earlier equal. good.new j earlier (sym (same_name version image other j same) ∙ equal ∙ same_name version image other i same);
     }
 
 -- The header reads the same, with another tail.
-pub reads_moved : (page entries : ℕ) (names : List (List ℕ)) (tail next : ℕ) (image other : Image) → ((line word : ℕ) → (line ≢ 1) ⊎ (word ≢ 0) → other 0 line word ≡ image 0 line word) → other 0 1 0 ≡ next → next ≤ 2 ^ 60
-    → ReadsAs version_1 page entries names tail image → ReadsAs version_1 page entries names next other
+pub reads_moved : (version : Version) (page entries : ℕ) (names : List (List ℕ)) (tail next : ℕ) (image other : Image) → ((line word : ℕ) → (line ≢ 1) ⊎ (word ≢ 0) → other 0 line word ≡ image 0 line word) → other 0 1 0 ≡ next → next ≤ 2 ^ 60
+    → ReadsAs (layout_of version) page entries names tail image → ReadsAs (layout_of version) page entries names next other
 unfolding first_names
-reads_moved page entries names tail next image other same moved small reads =
+reads_moved version page entries names tail next image other same moved small reads =
     let Page : ℕ → Type 0 = IsPageSize in
     let Entries : ℕ → Type 0 = IsEntryCount in
     let fields = reads.readable.fields in
@@ -106,28 +115,28 @@ reads_moved page entries names tail next image other same moved small reads =
           files = omega (arith, first 4, fields.files);
           tail = omega (arith, moved, small);
         };
-        names = λ i below. good_too image other i behind (reads.readable.names i (omega (arith, first 4)));
+        names = λ i below. good_too version image other i behind (reads.readable.names i (omega (arith, first 4)));
       };
       page_is = first 2 ∙ reads.page_is;
       entries_is = first 3 ∙ reads.entries_is;
       names_are =
-          ap (first_names version_1 other) (first 4)
-          ∙ ap (λ name. map name (range_with_len 0 (header_of image).files)) (λ at i. same_name image other i behind at)
+          ap (first_names (layout_of version) other) (first 4)
+          ∙ ap (λ name. map name (range_with_len 0 (header_of image).files)) (λ at i. same_name version image other i behind at)
           ∙ reads.names_are;
       tail_is = moved;
     }
 
-pub reads_too : (page entries : ℕ) (names : List (List ℕ)) (tail : ℕ) (image other : Image) → ((line word : ℕ) → other 0 line word ≡ image 0 line word) → ReadsAs version_1 page entries names tail image → ReadsAs version_1 page entries names tail other
-reads_too page entries names tail image other same reads =
-    reads_moved page entries names tail tail image other (λ line word apart. same line word) (same 1 0 ∙ reads.tail_is)
+pub reads_too : (version : Version) (page entries : ℕ) (names : List (List ℕ)) (tail : ℕ) (image other : Image) → ((line word : ℕ) → other 0 line word ≡ image 0 line word) → ReadsAs (layout_of version) page entries names tail image → ReadsAs (layout_of version) page entries names tail other
+reads_too version page entries names tail image other same reads =
+    reads_moved version page entries names tail tail image other (λ line word apart. same line word) (same 1 0 ∙ reads.tail_is)
     (omega (arith, reads.tail_is, reads.readable.fields.tail)) reads
 
 -- Where no number from the new tail on is committed, and no commit word is past the window of the old one, the log is empty.
-pub moved_empty : (page entries : ℕ) (names : List (List ℕ)) (tail next : ℕ) (image other : Image) → ((line word : ℕ) → (line ≢ 1) ⊎ (word ≢ 0) → other 0 line word ≡ image 0 line word)
+pub moved_empty : (version : Version) (page entries : ℕ) (names : List (List ℕ)) (tail next : ℕ) (image other : Image) → ((line word : ℕ) → (line ≢ 1) ⊎ (word ≢ 0) → other 0 line word ≡ image 0 line word)
     → ((part line word : ℕ) → 1 ≤ part → other part line word ≡ image part line word) → other 0 1 0 ≡ next
-    → tail ≤ next → next ≤ 2 ^ 60 → HasNoneAbove image → CommitsNoneFrom next image → ReadsAs version_1 page entries names tail image → HasEmptyLog version_1 page entries names next other
-moved_empty page entries names tail next image other header words moved low small above none reads = record {
-  header = reads_moved page entries names tail next image other header moved small reads;
+    → tail ≤ next → next ≤ 2 ^ 60 → HasNoneAbove image → CommitsNoneFrom next image → ReadsAs (layout_of version) page entries names tail image → HasEmptyLog (layout_of version) page entries names next other
+moved_empty version page entries names tail next image other header words moved low small above none reads = record {
+  header = reads_moved version page entries names tail next image other header moved small reads;
   log = record {
     uncommitted = λ number from commit.
         let some : 2 ≤ entries = omega (arith, reads.entries_is, reads.readable.fields.entries.least) in
@@ -143,7 +152,7 @@ moved_empty page entries names tail next image other header words moved low smal
 }
 
 -- An empty log commits nothing.
-pub empty_none : (page entries : ℕ) (names : List (List ℕ)) (next : ℕ) (image : Image) → HasEmptyLog version_1 page entries names next image → (number : ℕ) → ¬ IsCommitted image number
+pub empty_none : {layout : Layout} (page entries : ℕ) (names : List (List ℕ)) (next : ℕ) (image : Image) → HasEmptyLog layout page entries names next image → (number : ℕ) → ¬ IsCommitted image number
 empty_none page entries names next image empty number commits =
     empty.log.uncommitted number (omega (arith, empty.header.tail_is, commits.from_tail))
     (ap (λ count. image (1 + number % count) 0 0) (sym empty.header.entries_is) ∙ commits.commit)

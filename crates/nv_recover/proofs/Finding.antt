@@ -5,8 +5,8 @@ use Rattle.std.proofs.lemmas.List.{append-nil, map-append}
 use Rattle.std.proofs.lemmas.List.Elements.{filter-append, All-nil, All-push}
 use Rattle.std.specs.Prelude.{filter}
 use Rattle.std.specs.List.{range_with_len}
-use Rattle.nv_plain.specs.Images.{Image, header_of, entry_at}
-use Rattle.nv_plain.specs.Layouts.{Layout, version_1}
+use Rattle.nv_plain.specs.Images.{Image, header_of, entry_at, layout_in}
+use Rattle.nv_plain.specs.Layouts.{Layout}
 use Rattle.nv_plain.specs.Recovered.{IsCommitted, IsInGroup, IsGroup}
 use Rattle.nv_entry.specs.Checks.{IsGood, IsFirstBad}
 use Rattle.nv_recover.specs.Finding.{commits_at, HasFound}
@@ -58,11 +58,11 @@ found_past image tail number groups from not so_far = record {
 }
 
 -- a committed group
-pub found_more : (image : Image) (tail number : ℕ) (groups : List Group) (group : Group) → tail ≤ number → (entry_at image number).commit ≡ number + 1 → group.leader ≡ number → IsGroup version_1 image number → group.count ≡ (entry_at image number).count → HasFound image tail number groups → HasFound image tail (number + 1) (groups ++ group ∷ [])
+pub found_more : (image : Image) (tail number : ℕ) (groups : List Group) (group : Group) → tail ≤ number → (entry_at image number).commit ≡ number + 1 → group.leader ≡ number → IsGroup (layout_in image) image number → group.count ≡ (entry_at image number).count → HasFound image tail number groups → HasFound image tail (number + 1) (groups ++ group ∷ [])
 found_more image tail number groups group from commit leader whole count so_far = record {
   tail_is = so_far.tail_is;
   fits = λ other commits below. elim (cases_eq other number) [
-    | inl same ↦ let At : ℕ → Type 0 = IsGroup version_1 image in subst At (sym same) whole
+    | inl same ↦ let At : ℕ → Type 0 = IsGroup (layout_in image) image in subst At (sym same) whole
     | inr differs ↦ so_far.fits other commits (omega arith)
   ];
   leaders =
@@ -134,8 +134,8 @@ least_bad layout image leader bad commits breaks earlier = record {
 }
 
 -- so it is where a walk has found the groups before that one
-pub found_bad : (image : Image) (tail number bad : ℕ) (groups : List Group) → tail ≤ number → number < tail + (header_of image).entries → (entry_at image number).commit ≡ number + 1 → IsFirstBad version_1 image number bad → HasFound image tail number groups → IsLeastBad version_1 image bad
+pub found_bad : (image : Image) (tail number bad : ℕ) (groups : List Group) → tail ≤ number → number < tail + (header_of image).entries → (entry_at image number).commit ≡ number + 1 → IsFirstBad (layout_in image) image number bad → HasFound image tail number groups → IsLeastBad (layout_in image) image bad
 found_bad image tail number bad groups from below commit breaks so_far =
-    least_bad version_1 image number bad
+    least_bad (layout_in image) image number bad
     (record { from_tail = omega (arith, so_far.tail_is); in_window = omega (arith, so_far.tail_is); commit = commit })
     breaks so_far.fits

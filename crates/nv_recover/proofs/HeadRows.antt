@@ -3,13 +3,14 @@ use Rattle.std.proofs.Common.{◌≡◌, ℕ, ◌≤◌, List, [], ◌∷◌, le
 use Rattle.std.proofs.lemmas.List.{length-map}
 use Rattle.std.proofs.lemmas.List.FromFn.{length-range_with_len}
 use Rattle.std.specs.List.{range_with_len}
-use Rattle.nv_plain.specs.Images.{header_of, name_of}
-use Rattle.nv_plain.specs.Layouts.{version_1}
+use Rattle.nv_plain.specs.Images.{Image, header_of, layout_in, name_of}
+use Rattle.nv_plain.specs.Layouts.{Layout, layout_of}
+use Rattle.nv_plain.proofs.OwnLayouts.{layout_is}
 use Rattle.nv_pmem.specs.Moments.{Tells}
 use Rattle.nv_pmem.specs.Part.{Part}
 use Rattle.nv_pmem.specs.Rows.{RowTells, row_words}
 use Rattle.nv_pmem.specs.Steps.{PartHistory}
-use Rattle.nv_pmem.proofs.RowLaws.{row_tells_more}
+use Rattle.nv_pmem.proofs.RowLaws.{row_tells_more, row_tells_both}
 use Rattle.nv_entry.specs.declared.bounds.Bounds.{Bounds}
 use Rattle.nv_entry.specs.Checks.{SaysBounds}
 use Rattle.nv_entry.proofs.Checking.{row_tells_part}
@@ -23,8 +24,8 @@ header_first : (row : List PartHistory) → header_history row ≡ slice_index_o
 header_first [] = refl
 header_first (history ∷ row) = refl
 
-reads_as : (lines : ℕ) (head : Head) (bounds : Bounds) (parts : List Part) → HasBounds head bounds → IsHeadOf version_1 lines (header_image (slice_index_or parts 0 [])) head
-    → ReadsAs version_1 bounds.page bounds.entries head.names bounds.tail (row_words parts)
+reads_as : (lines : ℕ) (head : Head) (bounds : Bounds) (parts : List Part) → HasBounds head bounds → IsHeadOf (layout_of head.version) lines (header_image (slice_index_or parts 0 [])) head
+    → ReadsAs (layout_of head.version) bounds.page bounds.entries head.names bounds.tail (row_words parts)
 unfolding first_names
 reads_as lines head bounds parts has is = record {
   readable = record {
@@ -38,16 +39,17 @@ reads_as lines head bounds parts has is = record {
   tail_is = sym is.tail ∙ has.tail;
 }
 
-says_bounds : (lines : ℕ) (head : Head) (bounds : Bounds) (parts : List Part) → HasBounds head bounds → IsHeadOf version_1 lines (header_image (slice_index_or parts 0 [])) head → SaysBounds bounds (row_words parts)
+says_bounds : (lines : ℕ) (head : Head) (bounds : Bounds) (parts : List Part) → HasBounds head bounds → IsHeadOf (layout_of head.version) lines (header_image (slice_index_or parts 0 [])) head → SaysBounds bounds (row_words parts)
 unfolding first_names
 says_bounds lines head bounds parts has is =
     let image = header_image (slice_index_or parts 0 []) in
     let files = (header_of image).files in
     record {
+      version = is.readable.fields.version_is ∙ ap (λ version. (layout_of version).version) has.version;
       page = sym is.page ∙ has.page;
       entries = sym is.entries ∙ has.entries;
       files =
-          sym (length-range_with_len 0 files) ∙ sym (length-map (range_with_len 0 files) (name_of version_1 image)) ∙ ap length (sym is.names) ∙ has.files;
+          sym (length-range_with_len 0 files) ∙ sym (length-map (range_with_len 0 files) (name_of (layout_of head.version) image)) ∙ ap length (sym is.names) ∙ has.files;
       tail = sym is.tail ∙ has.tail;
     }
 
@@ -58,14 +60,28 @@ told_first row Q P some step told =
     (row_tells_part row 0 Q (omega arith) (subst At (header_first row) told))
 
 -- The row says what the head does.
-pub row_reads_as : (lines : ℕ) (head : Head) (bounds : Bounds) (row : List PartHistory) → HasBounds head bounds → 1 ≤ length row → Tells (header_history row) (λ now. IsHeadOf version_1 lines (header_image now) head)
-    → RowTells row (λ parts. ReadsAs version_1 bounds.page bounds.entries head.names bounds.tail (row_words parts))
+pub row_reads_as : (lines : ℕ) (head : Head) (bounds : Bounds) (row : List PartHistory) → HasBounds head bounds → 1 ≤ length row → Tells (header_history row) (λ now. IsHeadOf (layout_of head.version) lines (header_image now) head)
+    → RowTells row (λ parts. ReadsAs (layout_of bounds.version) bounds.page bounds.entries head.names bounds.tail (row_words parts))
 row_reads_as lines head bounds row has some told =
-    told_first row (λ now. IsHeadOf version_1 lines (header_image now) head) (λ parts. ReadsAs version_1 bounds.page bounds.entries head.names bounds.tail (row_words parts))
-    some (λ parts. reads_as lines head bounds parts has) told
+    told_first row (λ now. IsHeadOf (layout_of head.version) lines (header_image now) head) (λ parts. ReadsAs (layout_of bounds.version) bounds.page bounds.entries head.names bounds.tail (row_words parts))
+    some
+    (λ parts is.
+    subst (λ version. ReadsAs (layout_of version) bounds.page bounds.entries head.names bounds.tail (row_words parts)) has.version
+    (reads_as lines head bounds parts has is))
+    told
 
-pub row_says_bounds : (lines : ℕ) (head : Head) (bounds : Bounds) (row : List PartHistory) → HasBounds head bounds → 1 ≤ length row → Tells (header_history row) (λ now. IsHeadOf version_1 lines (header_image now) head)
+pub row_says_bounds : (lines : ℕ) (head : Head) (bounds : Bounds) (row : List PartHistory) → HasBounds head bounds → 1 ≤ length row → Tells (header_history row) (λ now. IsHeadOf (layout_of head.version) lines (header_image now) head)
     → RowTells row (λ parts. SaysBounds bounds (row_words parts))
 row_says_bounds lines head bounds row has some told =
-    told_first row (λ now. IsHeadOf version_1 lines (header_image now) head) (λ parts. SaysBounds bounds (row_words parts)) some
+    told_first row (λ now. IsHeadOf (layout_of head.version) lines (header_image now) head) (λ parts. SaysBounds bounds (row_words parts)) some
     (λ parts. says_bounds lines head bounds parts has) told
+
+-- What the row tells by the version of its bounds, it tells by its own.
+pub by_own : (row : List PartHistory) (bounds : Bounds) (P : Layout → Image → Type 0) → RowTells row (λ parts. SaysBounds bounds (row_words parts))
+    → RowTells row (λ parts. P (layout_of bounds.version) (row_words parts)) → RowTells row (λ parts. P (layout_in (row_words parts)) (row_words parts))
+by_own row bounds P says told =
+    let Says : List Part → Type 0 = λ parts. SaysBounds bounds (row_words parts) in
+    let Told : List Part → Type 0 = λ parts. P (layout_of bounds.version) (row_words parts) in
+    row_tells_more row (λ parts. Says parts × Told parts) (λ parts. P (layout_in (row_words parts)) (row_words parts))
+    (λ parts both. subst (λ layout. P layout (row_words parts)) (sym (layout_is bounds.version (row_words parts) both.0.version)) both.1)
+    (row_tells_both row Says Told says told)

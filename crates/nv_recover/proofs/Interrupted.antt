@@ -2,8 +2,7 @@
 use Rattle.std.proofs.Common.{◌≡◌, ◌⊎◌, inl, inr, List, [], ◌∷◌, length, take, refl, sym, ap, ◌∙◌, subst, arith}
 use Rattle.std.proofs.lemmas.List.{take_all}
 use Rattle.nv_plain.specs.Files.{Files}
-use Rattle.nv_plain.specs.Images.{Image, header_of}
-use Rattle.nv_plain.specs.Layouts.{version_1}
+use Rattle.nv_plain.specs.Images.{Image, header_of, layout_in}
 use Rattle.nv_plain.specs.Recovered.{next_after, recovered}
 use Rattle.nv_pmem.specs.Part.{Part}
 use Rattle.nv_pmem.specs.Rows.{IsRowImage, RowTells}
@@ -70,7 +69,7 @@ end_is_stop before after old new parts stores runs parts_are stores_are image by
 -- a log that was emptied is done
 emptied_done : (image other : Image) → HasEmptiedLog image other → HasDoneLog image other
 emptied_done image other empty =
-    let none = λ (stores : Files). no_commit other (empty_none (header_of image).page (header_of image).entries (first_names version_1 image (header_of image).files) (recovered image stores).next other (empty stores)) in
+    let none = λ (stores : Files). no_commit other (empty_none (header_of image).page (header_of image).entries (first_names (layout_in image) image (header_of image).files) (recovered image stores).next other (empty stores)) in
     record {
       first = λ stores. (empty stores).header.tail_is;
       groups = none;
@@ -112,11 +111,17 @@ stops_log first (next ∷ later) stops =
 
 -- it has a header that reads alike,
 pub stops_read : (first : Start) (later : List Start) → AreStops first later → StartReads first → ReadsAlike first.image (last_of first later).image
-stops_read first [] stops reads = record { readable = reads; page = refl; entries = refl; names = refl }
+stops_read first [] stops reads = record { version = refl; readable = reads; page = refl; entries = refl; names = refl }
 stops_read first (next ∷ later) stops reads =
     let one = (stop_stands first next stops.0).header in
     let all = stops_read next later stops.1 one.readable in
-    record { readable = all.readable; page = all.page ∙ one.page; entries = all.entries ∙ one.entries; names = all.names ∙ one.names }
+    record {
+      version = all.version ∙ one.version;
+      readable = all.readable;
+      page = all.page ∙ one.page;
+      entries = all.entries ∙ one.entries;
+      names = all.names ∙ one.names;
+    }
 
 -- and stands for the same files.
 pub stops_stand : (first : Start) (later : List Start) → AreStops first later → StartFits first

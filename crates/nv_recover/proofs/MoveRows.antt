@@ -3,7 +3,8 @@ use Rattle.std.proofs.Common.{◌≡◌, ◌≢◌, inl, inr, ℕ, ◌^◌, ◌�
 use Rattle.std.proofs.lemmas.Bool.{cases_eq, cases_lt}
 use Rattle.std.proofs.lemmas.List.{get_or_past, get_or-set_same, get_or-set_other, length-map, length-set, map-set}
 use Rattle.nv_plain.specs.Images.{Image}
-use Rattle.nv_plain.specs.Layouts.{version_1}
+use Rattle.nv_plain.specs.Layouts.{layout_of}
+use Rattle.nv_plain.specs.declared.limits.Version.{Version}
 use Rattle.nv_pmem.specs.Images.{IsQuietPart}
 use Rattle.nv_pmem.specs.Part.{Part}
 use Rattle.nv_pmem.specs.Moments.{Tells, EachMoment}
@@ -55,11 +56,11 @@ other_same R count was now pairs i other = elim (cases_lt i count) [
 -- ---- images of the row
 
 -- a row whose tail can be moved, and its log so be emptied
-pub record CanMove (page entries : ℕ) (names : List (List ℕ)) (tail next : ℕ) (was : List Part) : Type 0 where
+pub record CanMove (version : Version) (page entries : ℕ) (names : List (List ℕ)) (tail next : ℕ) (was : List Part) : Type 0 where
   pub quiet : AreQuiet was
   pub above : HasNoneAbove (row_words was)
   pub none : CommitsNoneFrom next (row_words was)
-  pub reads : ReadsAs version_1 page entries names tail (row_words was)
+  pub reads : ReadsAs (layout_of version) page entries names tail (row_words was)
 
 kept_words : (next : ℕ) (was image : Image) → IsMoved next (was 0) (image 0) → image 0 1 0 ≡ was 0 1 0 → ((part line word : ℕ) → 1 ≤ part → image part line word ≡ was part line word) → (part line word : ℕ) → image part line word ≡ was part line word
 kept_words next was image moved kept others zero line word = elim (cases_eq line 1) [
@@ -75,23 +76,23 @@ other_words : (R : Part → Part → Type 0) (count : ℕ) (was now : List Part)
 other_words R count was now image quiet pairs is part line word some =
     quiet_same (slice_index_or was part []) (slice_index_or now part []) image part line word (other_same R count was now pairs part (omega arith)) (quiet.each part) (is.each part)
 
-same_or_empty : (page entries : ℕ) (names : List (List ℕ)) (tail next count : ℕ) (was now : List Part) → 1 ≤ count → tail ≤ next → next ≤ 2 ^ 60 → CanMove page entries names tail next was → EachPair (IsFirst (MayBeMoved next)) count was now
-    → InEachRowImage (SaysTheSameOrEmpty page entries names next (row_words was)) now
-same_or_empty page entries names tail next count was now some low small can pairs image is =
+same_or_empty : (version : Version) (page entries : ℕ) (names : List (List ℕ)) (tail next count : ℕ) (was now : List Part) → 1 ≤ count → tail ≤ next → next ≤ 2 ^ 60 → CanMove version page entries names tail next was → EachPair (IsFirst (MayBeMoved next)) count was now
+    → InEachRowImage (SaysTheSameOrEmpty (layout_of version) page entries names next (row_words was)) now
+same_or_empty version page entries names tail next count was now some low small can pairs image is =
     let moved = (pairs.has 0 (omega arith)).header refl (can.quiet.each 0) (image 0) (is.each 0) in
     let others = other_words (MayBeMoved next) count was now image can.quiet pairs is in
     elim moved.tail [
       | inl kept ↦ inl (same_words (row_words was) image (kept_words next (row_words was) image moved kept others))
-      | inr new ↦ inr (moved_empty page entries names tail next (row_words was) image moved.others others new low small can.above can.none can.reads)
+      | inr new ↦ inr (moved_empty version page entries names tail next (row_words was) image moved.others others new low small can.above can.none can.reads)
     ]
 
 -- the tail is moved, and durable
 abbrev pub IsTailMoved : ℕ → Part → Part → Type 0
 IsTailMoved next was now = MayBeMoved next was now × HasTail next was now
 
-at_rest : (page entries : ℕ) (names : List (List ℕ)) (tail next count : ℕ) (was now : List Part) → 1 ≤ count → tail ≤ next → next ≤ 2 ^ 60 → CanMove page entries names tail next was → EachPair (IsFirst (IsTailMoved next)) count was now
-    → IsAtRest version_1 page entries names next now
-at_rest page entries names tail next count was now some low small can pairs =
+at_rest : (version : Version) (page entries : ℕ) (names : List (List ℕ)) (tail next count : ℕ) (was now : List Part) → 1 ≤ count → tail ≤ next → next ≤ 2 ^ 60 → CanMove version page entries names tail next was → EachPair (IsFirst (IsTailMoved next)) count was now
+    → IsAtRest (layout_of version) page entries names next now
+at_rest version page entries names tail next count was now some low small can pairs =
     let header = (pairs.has 0 (omega arith)).header refl in
     record {
       quiet = record {
@@ -105,66 +106,66 @@ at_rest page entries names tail next count was now some low small can pairs =
             ];
       };
       empty = λ image is.
-          moved_empty page entries names tail next (row_words was) image (header.0 (can.quiet.each 0) (image 0) (is.each 0)).others
+          moved_empty version page entries names tail next (row_words was) image (header.0 (can.quiet.each 0) (image 0) (is.each 0)).others
           (other_words (IsTailMoved next) count was now image can.quiet pairs is)
           ((header.1 (can.quiet.each 0)).1 (image 0) (is.each 0)) low small can.above can.none can.reads;
     }
 
 -- ---- what the devices tell
 
-rows_can : (page entries : ℕ) (names : List (List ℕ)) (tail next : ℕ) (row : List PartHistory) → RowTells row AreQuiet → RowTells row (λ was. HasNoneAbove (row_words was)) → RowTells row (λ was. CommitsNoneFrom next (row_words was))
-    → RowTells row (λ was. ReadsAs version_1 page entries names tail (row_words was)) → RowTells row (CanMove page entries names tail next)
-rows_can page entries names tail next row quiet above none reads =
+rows_can : (version : Version) (page entries : ℕ) (names : List (List ℕ)) (tail next : ℕ) (row : List PartHistory) → RowTells row AreQuiet → RowTells row (λ was. HasNoneAbove (row_words was)) → RowTells row (λ was. CommitsNoneFrom next (row_words was))
+    → RowTells row (λ was. ReadsAs (layout_of version) page entries names tail (row_words was)) → RowTells row (CanMove version page entries names tail next)
+rows_can version page entries names tail next row quiet above none reads =
     let Above : List Part → Type 0 = λ was. HasNoneAbove (row_words was) in
     let None : List Part → Type 0 = λ was. CommitsNoneFrom next (row_words was) in
-    let Reads : List Part → Type 0 = λ was. ReadsAs version_1 page entries names tail (row_words was) in
-    row_tells_more row (λ was. (AreQuiet was × Above was) × (None was × Reads was)) (CanMove page entries names tail next)
+    let Reads : List Part → Type 0 = λ was. ReadsAs (layout_of version) page entries names tail (row_words was) in
+    row_tells_more row (λ was. (AreQuiet was × Above was) × (None was × Reads was)) (CanMove version page entries names tail next)
     (λ was all. record { quiet = all.0.0; above = all.0.1; none = all.1.0; reads = all.1.1 })
     (row_tells_both row (λ was. AreQuiet was × Above was) (λ was. None was × Reads was)
     (row_tells_both row AreQuiet Above quiet above) (row_tells_both row None Reads none reads))
 
-moved_row : (page entries : ℕ) (names : List (List ℕ)) (tail next : ℕ) (row : List PartHistory) (header : PartHistory) → 1 ≤ length row → tail ≤ next → next ≤ 2 ^ 60
-    → RowTells row (CanMove page entries names tail next) → BothTell (slice_index_or row 0 []) header (MayBeMoved next)
-    → RowsTell row (slice_set row 0 header) (λ was. InEachRowImage (SaysTheSameOrEmpty page entries names next (row_words was)))
-moved_row page entries names tail next row header some low small can moved =
+moved_row : (version : Version) (page entries : ℕ) (names : List (List ℕ)) (tail next : ℕ) (row : List PartHistory) (header : PartHistory) → 1 ≤ length row → tail ≤ next → next ≤ 2 ^ 60
+    → RowTells row (CanMove version page entries names tail next) → BothTell (slice_index_or row 0 []) header (MayBeMoved next)
+    → RowsTell row (slice_set row 0 header) (λ was. InEachRowImage (SaysTheSameOrEmpty (layout_of version) page entries names next (row_words was)))
+moved_row version page entries names tail next row header some low small can moved =
     let count = length row in
-    rows_more row (slice_set row 0 header) (CanMove page entries names tail next) (EachPair (IsFirst (MayBeMoved next)) count)
-    (λ was. InEachRowImage (SaysTheSameOrEmpty page entries names next (row_words was)))
-    (λ was now. same_or_empty page entries names tail next count was now (omega arith) low small)
+    rows_more row (slice_set row 0 header) (CanMove version page entries names tail next) (EachPair (IsFirst (MayBeMoved next)) count)
+    (λ was. InEachRowImage (SaysTheSameOrEmpty (layout_of version) page entries names next (row_words was)))
+    (λ was now. same_or_empty version page entries names tail next count was now (omega arith) low small)
     can (first_rows (MayBeMoved next) count row header refl (omega arith) moved)
 
 -- While the tail moves, each image says the same as before, or has an empty log.
-pub moving_throughout : {X : Type 0} (history : X → PartHistory) (page entries : ℕ) (names : List (List ℕ)) (tail next : ℕ) (parts : List X) (was new d : X) → 1 ≤ length parts → was ≡ get_or parts 0 d → tail ≤ next → next ≤ 2 ^ 60
-    → RowTells (map history parts) (CanMove page entries names tail next) → Tells (history was) (λ before. EachMoment (MayBeMoved next before) (history was) (history new))
-    → RowTells (map history parts) (λ these. ThroughoutRow (InEachRowImage (SaysTheSameOrEmpty page entries names next (row_words these))) (map history parts) (map history (slice_set parts 0 new)))
-moving_throughout history page entries names tail next parts was new d some is low small can moments =
+pub moving_throughout : {X : Type 0} (history : X → PartHistory) (version : Version) (page entries : ℕ) (names : List (List ℕ)) (tail next : ℕ) (parts : List X) (was new d : X) → 1 ≤ length parts → was ≡ get_or parts 0 d → tail ≤ next → next ≤ 2 ^ 60
+    → RowTells (map history parts) (CanMove version page entries names tail next) → Tells (history was) (λ before. EachMoment (MayBeMoved next before) (history was) (history new))
+    → RowTells (map history parts) (λ these. ThroughoutRow (InEachRowImage (SaysTheSameOrEmpty (layout_of version) page entries names next (row_words these))) (map history parts) (map history (slice_set parts 0 new)))
+moving_throughout history version page entries names tail next parts was new d some is low small can moments =
     let row : List PartHistory = map history parts in
     let after : List PartHistory = map history (slice_set parts 0 new) in
-    let Says : List Part → List Part → Type 0 = λ these. InEachRowImage (SaysTheSameOrEmpty page entries names next (row_words these)) in
+    let Says : List Part → List Part → Type 0 = λ these. InEachRowImage (SaysTheSameOrEmpty (layout_of version) page entries names next (row_words these)) in
     row_tells_from row (λ these. ThroughoutRow (Says these) row after)
     (λ these are.
     device_throughout history parts 0 was new d (MayBeMoved next) (Says these) (omega arith) is (presents_tell row these are)
     (λ header moved.
     row_tells_at row (λ these. RowTells (slice_set row 0 header) (Says these)) these are
-    (moved_row page entries names tail next row header (omega (arith, length-map parts history)) low small can moved))
+    (moved_row version page entries names tail next row header (omega (arith, length-map parts history)) low small can moved))
     moments)
 
-pub rest_rows : {X : Type 0} (history : X → PartHistory) (page entries : ℕ) (names : List (List ℕ)) (tail next : ℕ) (parts : List X) (was new d : X) → 1 ≤ length parts → was ≡ get_or parts 0 d → tail ≤ next → next ≤ 2 ^ 60
+pub rest_rows : {X : Type 0} (history : X → PartHistory) (version : Version) (page entries : ℕ) (names : List (List ℕ)) (tail next : ℕ) (parts : List X) (was new d : X) → 1 ≤ length parts → was ≡ get_or parts 0 d → tail ≤ next → next ≤ 2 ^ 60
     → (AllTell (map history (slice_set parts 0 new)) → AllTell (map history parts))
-    → RowTells (map history parts) (CanMove page entries names tail next) → BothTell (history was) (history new) (MayBeMoved next) → BothTell (history was) (history new) (HasTail next)
-    → RowTells (map history (slice_set parts 0 new)) (IsAtRest version_1 page entries names next)
-rest_rows history page entries names tail next parts was new d some is low small back can moved settled =
+    → RowTells (map history parts) (CanMove version page entries names tail next) → BothTell (history was) (history new) (MayBeMoved next) → BothTell (history was) (history new) (HasTail next)
+    → RowTells (map history (slice_set parts 0 new)) (IsAtRest (layout_of version) page entries names next)
+rest_rows history version page entries names tail next parts was new d some is low small back can moved settled =
     let row : List PartHistory = map history parts in
     let count = length row in
     let long = length-map parts history in
     let after = slice_set row 0 (history new) in
     let From : PartHistory → Type 0 = λ these. BothTell these (history new) (IsTailMoved next) in
     let Back : List PartHistory → Type 0 = λ these. AllTell these → AllTell row in
-    let To : List PartHistory → Type 0 = λ these. RowTells these (IsAtRest version_1 page entries names next) in
+    let To : List PartHistory → Type 0 = λ these. RowTells these (IsAtRest (layout_of version) page entries names next) in
     subst To (sym (map-set history parts 0 new))
-    (rows_new row after (IsAtRest version_1 page entries names next) (subst Back (map-set history parts 0 new) back)
-    (rows_more row after (CanMove page entries names tail next) (EachPair (IsFirst (IsTailMoved next)) count) (λ before now. IsAtRest version_1 page entries names next now)
-    (λ before now. at_rest page entries names tail next count before now (omega arith) low small)
+    (rows_new row after (IsAtRest (layout_of version) page entries names next) (subst Back (map-set history parts 0 new) back)
+    (rows_more row after (CanMove version page entries names tail next) (EachPair (IsFirst (IsTailMoved next)) count) (λ before now. IsAtRest (layout_of version) page entries names next now)
+    (λ before now. at_rest version page entries names tail next count before now (omega arith) low small)
     can
     (first_rows (IsTailMoved next) count row (history new) refl (omega arith)
     (subst From (part_history history parts 0 was d some is) (both_both (history was) (history new) (MayBeMoved next) (HasTail next) moved settled)))))
@@ -190,19 +191,19 @@ none_carried : (next : ℕ) (old new : List PartHistory) → (AllTell new → Al
 none_carried next old new back same told =
     carried (CommitsNoneFrom next) old new (λ was now says. none_too was now next says) back same told
 
-reads_carried : (page entries : ℕ) (names : List (List ℕ)) (tail : ℕ) (old new : List PartHistory) → (AllTell new → AllTell old) → RowsTell old new (λ was. InEachRowImage (SayTheSame (row_words was)))
-    → RowTells old (λ was. ReadsAs version_1 page entries names tail (row_words was)) → RowTells new (λ now. ReadsAs version_1 page entries names tail (row_words now))
-reads_carried page entries names tail old new back same told =
-    carried (ReadsAs version_1 page entries names tail) old new (λ was now says. reads_too page entries names tail was now says.header) back same told
+reads_carried : (version : Version) (page entries : ℕ) (names : List (List ℕ)) (tail : ℕ) (old new : List PartHistory) → (AllTell new → AllTell old) → RowsTell old new (λ was. InEachRowImage (SayTheSame (row_words was)))
+    → RowTells old (λ was. ReadsAs (layout_of version) page entries names tail (row_words was)) → RowTells new (λ now. ReadsAs (layout_of version) page entries names tail (row_words now))
+reads_carried version page entries names tail old new back same told =
+    carried (ReadsAs (layout_of version) page entries names tail) old new (λ was now says. reads_too version page entries names tail was now says.header) back same told
 
 -- Images that say the same, and then images that do or have an empty log.
-pub same_then : (page entries : ℕ) (names : List (List ℕ)) (next : ℕ) (old between new : List PartHistory) → (AllTell old → AllTell between)
+pub same_then : (version : Version) (page entries : ℕ) (names : List (List ℕ)) (next : ℕ) (old between new : List PartHistory) → (AllTell old → AllTell between)
     → RowTells old (λ was. ThroughoutRow (InEachRowImage (SayTheSame (row_words was))) old between)
-    → RowTells between (λ was. ThroughoutRow (InEachRowImage (SaysTheSameOrEmpty page entries names next (row_words was))) between new)
-    → RowTells old (λ was. ThroughoutRow (InEachRowImage (SaysTheSameOrEmpty page entries names next (row_words was))) old new)
-same_then page entries names next old between new on same later =
+    → RowTells between (λ was. ThroughoutRow (InEachRowImage (SaysTheSameOrEmpty (layout_of version) page entries names next (row_words was))) between new)
+    → RowTells old (λ was. ThroughoutRow (InEachRowImage (SaysTheSameOrEmpty (layout_of version) page entries names next (row_words was))) old new)
+same_then version page entries names next old between new on same later =
     let Same : List Part → List Part → Type 0 = λ was. InEachRowImage (SayTheSame (row_words was)) in
-    let Says : List Part → List Part → Type 0 = λ was. InEachRowImage (SaysTheSameOrEmpty page entries names next (row_words was)) in
+    let Says : List Part → List Part → Type 0 = λ was. InEachRowImage (SaysTheSameOrEmpty (layout_of version) page entries names next (row_words was)) in
     rows_throughout old between new Same Says Says on (λ was now each image is. inl (each image is))
     (λ was mid now says each image is. elim (each image is) [
       | inl kept ↦ inl (same_same (row_words was) (row_words mid) image (says (row_words mid) (row_image_of_now mid)) kept)
@@ -210,18 +211,18 @@ same_then page entries names next old between new on same later =
     ])
     same later
 
-pub same_alone : (page entries : ℕ) (names : List (List ℕ)) (next : ℕ) (old new : List PartHistory) → RowTells old (λ was. ThroughoutRow (InEachRowImage (SayTheSame (row_words was))) old new)
-    → RowTells old (λ was. ThroughoutRow (InEachRowImage (SaysTheSameOrEmpty page entries names next (row_words was))) old new)
-same_alone page entries names next old new same =
+pub same_alone : (version : Version) (page entries : ℕ) (names : List (List ℕ)) (next : ℕ) (old new : List PartHistory) → RowTells old (λ was. ThroughoutRow (InEachRowImage (SayTheSame (row_words was))) old new)
+    → RowTells old (λ was. ThroughoutRow (InEachRowImage (SaysTheSameOrEmpty (layout_of version) page entries names next (row_words was))) old new)
+same_alone version page entries names next old new same =
     let Same : List Part → List Part → Type 0 = λ was. InEachRowImage (SayTheSame (row_words was)) in
-    let Says : List Part → List Part → Type 0 = λ was. InEachRowImage (SaysTheSameOrEmpty page entries names next (row_words was)) in
+    let Says : List Part → List Part → Type 0 = λ was. InEachRowImage (SaysTheSameOrEmpty (layout_of version) page entries names next (row_words was)) in
     row_tells_more old (λ was. ThroughoutRow (Same was) old new) (λ was. ThroughoutRow (Says was) old new)
     (λ was through. row_throughout_more (Same was) (Says was) (λ now each image is. inl (each image is)) through)
     same
 
 -- a row whose words are cleared can have its tail moved
-pub can_after : (page entries : ℕ) (names : List (List ℕ)) (tail next : ℕ) (old new : List PartHistory) → (AllTell new → AllTell old) → RowsTell old new (λ was. InEachRowImage (SayTheSame (row_words was)))
-    → RowTells new AreQuiet → RowTells new (λ now. HasNoneAbove (row_words now)) → RowTells old (λ was. CommitsNoneFrom next (row_words was)) → RowTells old (λ was. ReadsAs version_1 page entries names tail (row_words was))
-    → RowTells new (CanMove page entries names tail next)
-can_after page entries names tail next old new back same quiet above none reads =
-    rows_can page entries names tail next new quiet above (none_carried next old new back same none) (reads_carried page entries names tail old new back same reads)
+pub can_after : (version : Version) (page entries : ℕ) (names : List (List ℕ)) (tail next : ℕ) (old new : List PartHistory) → (AllTell new → AllTell old) → RowsTell old new (λ was. InEachRowImage (SayTheSame (row_words was)))
+    → RowTells new AreQuiet → RowTells new (λ now. HasNoneAbove (row_words now)) → RowTells old (λ was. CommitsNoneFrom next (row_words was)) → RowTells old (λ was. ReadsAs (layout_of version) page entries names tail (row_words was))
+    → RowTells new (CanMove version page entries names tail next)
+can_after version page entries names tail next old new back same quiet above none reads =
+    rows_can version page entries names tail next new quiet above (none_carried next old new back same none) (reads_carried version page entries names tail old new back same reads)

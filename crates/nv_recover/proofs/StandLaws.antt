@@ -2,8 +2,10 @@
 use Rattle.std.proofs.Common.{◌≡◌, inl, inr, ℕ, ◌<◌, ◌≤◌, ◌^◌, List, [], length, map, slice_index_or, sym, ap, ◌∙◌, subst, arith}
 use Rattle.std.proofs.lemmas.List.{length-map, get_or-map}
 use Rattle.nv_plain.specs.Files.{Files}
-use Rattle.nv_plain.specs.Images.{Image}
-use Rattle.nv_plain.specs.Layouts.{version_1}
+use Rattle.nv_plain.specs.Images.{Image, header_of, layout_in}
+use Rattle.nv_plain.specs.Layouts.{layout_of}
+use Rattle.nv_plain.proofs.OwnLayouts.{layout_is, layout_same}
+use Rattle.nv_plain.specs.declared.limits.Version.{Version}
 use Rattle.nv_plain.specs.Recovered.{Fits, Recovered as All, recovered}
 use Rattle.nv_pmem.specs.Part.{Part}
 use Rattle.nv_pmem.specs.Rows.{RowTells, InEachRowImage, IsRowImage, row_words, AreQuiet}
@@ -15,6 +17,7 @@ use Rattle.nv_store.specs.Store.{Store, IsQuietStore}
 use Rattle.nv_store.proofs.StoreLaws.{quiet_is_quiet}
 use Rattle.nv_entry.specs.declared.bounds.Bounds.{Bounds}
 use Rattle.nv_entry.specs.Checks.{SaysBounds}
+use Rattle.nv_header.specs.Heads.{IsHead, first_names}
 use Rattle.nv_header.specs.Regions.{ReadsAs, HasEmptyLog, HasNoneFrom}
 use Rattle.nv_pmem.specs.RowStates.{AreNow, row_tells_at, row_tells_from}
 use Rattle.nv_recover.specs.Alike.{SayTheSame}
@@ -45,13 +48,21 @@ quiet_says parts image quiet is =
     same_words (row_words parts) image (λ part line word. quiet_line (slice_index_or parts part []) (image part) line word ((quiet.each part).lines line) (is.each part))
 
 -- headers that say the same but for the tail read alike
-header_alike : (page entries : ℕ) (names : List (List ℕ)) (tail next : ℕ) (image other : Image) → ReadsAs version_1 page entries names tail image → ReadsAs version_1 page entries names next other → ReadsAlike image other
-header_alike page entries names tail next image other reads later = record {
-  readable = later.readable;
-  page = later.page_is ∙ sym reads.page_is;
-  entries = later.entries_is ∙ sym reads.entries_is;
-  names = later.names_are ∙ sym reads.names_are;
-}
+pub header_alike : (version : Version) (page entries : ℕ) (names : List (List ℕ)) (tail next : ℕ) (image other : Image) → ReadsAs (layout_of version) page entries names tail image → ReadsAs (layout_of version) page entries names next other → ReadsAlike image other
+header_alike version page entries names tail next image other reads later =
+    let was = layout_is version image reads.readable.fields.version_is in
+    let now = layout_is version other later.readable.fields.version_is in
+    record {
+      version = later.readable.fields.version_is ∙ sym reads.readable.fields.version_is;
+      readable = subst (λ layout. IsHead layout layout.header_lines other) (sym now) later.readable;
+      page = later.page_is ∙ sym reads.page_is;
+      entries = later.entries_is ∙ sym reads.entries_is;
+      names =
+          ap (λ layout. first_names layout other (header_of other).files) now
+          ∙ later.names_are
+          ∙ sym reads.names_are
+          ∙ ap (λ layout. first_names layout image (header_of image).files) (sym was);
+    }
 
 -- images that say the same have the same log
 same_log : (image other : Image) → SayTheSame image other → HasSameLog image other
@@ -62,11 +73,14 @@ same_log image other same = record {
 }
 
 -- one whose log is empty, and goes on with the next number
-emptied_log : (page entries : ℕ) (names : List (List ℕ)) (tail next : ℕ) (image other : Image) → ((stores : Files) → next ≡ (recovered image stores).next)
-    → ReadsAs version_1 page entries names tail image → HasEmptyLog version_1 page entries names next other → HasEmptiedLog image other
-emptied_log page entries names tail next image other goes_on reads empty stores =
+pub emptied_log : (version : Version) (page entries : ℕ) (names : List (List ℕ)) (tail next : ℕ) (image other : Image) → ((stores : Files) → next ≡ (recovered image stores).next)
+    → ReadsAs (layout_of version) page entries names tail image → HasEmptyLog (layout_of version) page entries names next other → HasEmptiedLog image other
+emptied_log version page entries names tail next image other goes_on reads empty stores =
     let None : ℕ → Type 0 = λ count. HasNoneFrom count (recovered image stores).next other in
-    record {
+    subst
+    (λ layout. HasEmptyLog layout (header_of image).page (header_of image).entries (first_names layout image (header_of image).files) (recovered image stores).next other)
+    (sym (layout_is version image reads.readable.fields.version_is))
+    (record {
       header = record {
         readable = empty.header.readable;
         page_is = empty.header.page_is ∙ sym reads.page_is;
@@ -75,37 +89,37 @@ emptied_log page entries names tail next image other goes_on reads empty stores 
         tail_is = empty.header.tail_is ∙ goes_on stores;
       };
       log = subst None (sym reads.entries_is) (record { uncommitted = λ number from. empty.log.uncommitted number (omega (arith, goes_on stores)) });
-    }
+    })
 
-module _ (page entries : ℕ) (names : List (List ℕ)) (tail : ℕ) where
-  same_stands : (image other : Image) (was held : List Store) (bytes : Files) → ReadsAs version_1 page entries names tail image → SayTheSame image other → RecoverAlike image was held → AreStoreImages held bytes
+module _ (version : Version) (page entries : ℕ) (names : List (List ℕ)) (tail : ℕ) where
+  same_stands : (image other : Image) (was held : List Store) (bytes : Files) → ReadsAs (layout_of version) page entries names tail image → SayTheSame image other → RecoverAlike image was held → AreStoreImages held bytes
       → TakesPlace image (files_of was) other bytes
   same_stands image other was held bytes reads same alike are = record {
-    header = header_alike page entries names tail tail image other reads (reads_too page entries names tail image other same.header reads);
+    header = header_alike version page entries names tail tail image other reads (reads_too version page entries names tail image other same.header reads);
     log = inl (same_log image other same);
     files = λ fits. record {
-      fits = same_fits image other same version_1 fits;
+      fits = subst (λ layout. Fits layout other) (sym (layout_same image other (same.header 0 1))) (same_fits image other same (layout_in image) fits);
       recovers = ap (λ (all : All). all.files) (same_recovered image other same bytes) ∙ alike bytes are;
     };
   }
 
-  stands_read : (parts now : List Part) (was held : List Store) → now ≡ parts → AreQuiet parts → ReadsAs version_1 page entries names tail (row_words parts) → RecoverAlike (row_words parts) was held
+  stands_read : (parts now : List Part) (was held : List Store) → now ≡ parts → AreQuiet parts → ReadsAs (layout_of version) page entries names tail (row_words parts) → RecoverAlike (row_words parts) was held
       → StandsStill (row_words parts) (files_of was) now held
   stands_read parts now was held same quiet reads alike image bytes is are =
       let Is : List Part → Type 0 = λ these. IsRowImage these image in
       same_stands (row_words parts) image was held bytes reads (quiet_says parts image quiet (subst Is same is)) alike are
 
-  stands_emptied : (next : ℕ) (image : Image) (now : List Part) (was held : List Store) → ((stores : Files) → next ≡ (recovered image stores).next) → ReadsAs version_1 page entries names tail image
-      → InEachRowImage (SaysTheSameOrEmpty page entries names next image) now → RecoverAlike image was held → HoldRecovered image was held → StandsStill image (files_of was) now held
+  stands_emptied : (next : ℕ) (image : Image) (now : List Part) (was held : List Store) → ((stores : Files) → next ≡ (recovered image stores).next) → ReadsAs (layout_of version) page entries names tail image
+      → InEachRowImage (SaysTheSameOrEmpty (layout_of version) page entries names next image) now → RecoverAlike image was held → HoldRecovered image was held → StandsStill image (files_of was) now held
   stands_emptied next image now was held goes_on reads each alike hold other bytes is are = elim (each other is) [
     | inl same ↦ same_stands image other was held bytes reads same alike are
     | inr empty ↦
         let none = empty_none page entries names next other empty in
         record {
-          header = header_alike page entries names tail next image other reads empty.header;
-          log = inr (emptied_log page entries names tail next image other goes_on reads empty);
+          header = header_alike version page entries names tail next image other reads empty.header;
+          log = inr (emptied_log version page entries names tail next image other goes_on reads empty);
           files = λ fits. record {
-            fits = empty_fits version_1 other none;
+            fits = empty_fits (layout_in other) other none;
             recovers = empty_recovered other bytes none ∙ quiet_image held bytes hold.synced are ∙ hold.files;
           };
         }
@@ -156,7 +170,7 @@ abbrev pub both_rows : List lines.PartHistory → List StoreHistory → Devices
 both_rows parts stores = record { parts = parts; stores = stores }
 
 -- while the stores are written, and the parts only read
-module _ (page entries : ℕ) (names : List (List ℕ)) (tail : ℕ) (parts : List lines.PartHistory) (reads : RowTells parts (λ these. ReadsAs version_1 page entries names tail (row_words these))) (quiet : RowTells parts AreQuiet) (old new : List StoreHistory) (alike : AcrossThroughout parts old new RecoverAlike) where
+module _ (version : Version) (page entries : ℕ) (names : List (List ℕ)) (tail : ℕ) (parts : List lines.PartHistory) (reads : RowTells parts (λ these. ReadsAs (layout_of version) page entries names tail (row_words these))) (quiet : RowTells parts AreQuiet) (old new : List StoreHistory) (alike : AcrossThroughout parts old new RecoverAlike) where
   stands_written : (these : List Part) (was : List Store) → AreNow parts these → AreNow old was → ThroughoutDevices (StandsStill (row_words these) (files_of was)) (both_rows parts old) (both_rows parts new)
   stands_written these was are were =
       let image = row_words these in
@@ -166,8 +180,8 @@ module _ (page entries : ℕ) (names : List (List ℕ)) (tail : ℕ) (parts : Li
       (λ now they.
       row_tells_more row (RecoverAlike image was) (StandsStill image (files_of was) now)
       (λ held like.
-      stands_read page entries names tail these now was held (are_now_same parts now these they are) (row_tells_at parts AreQuiet these are quiet)
-      (row_tells_at parts (λ these. ReadsAs version_1 page entries names tail (row_words these)) these are reads) like)
+      stands_read version page entries names tail these now was held (are_now_same parts now these they are) (row_tells_at parts AreQuiet these are quiet)
+      (row_tells_at parts (λ these. ReadsAs (layout_of version) page entries names tail (row_words these)) these are reads) like)
       alikes))
       (row_tells_at old (λ was. ThroughoutRow (RecoverAlike image was) old new) was were
       (row_tells_at parts (λ these. RowTells old (λ was. ThroughoutRow (RecoverAlike (row_words these) was) old new)) these are alike))
@@ -181,13 +195,13 @@ module _ (page entries : ℕ) (names : List (List ℕ)) (tail : ℕ) (parts : Li
 
   -- and then the log is emptied, and the stores stay
   pub stand_emptied : (next : ℕ) (parts_now : List lines.PartHistory) → RowTells parts (λ these. (stores : Files) → next ≡ (recovered (row_words these) stores).next)
-      → RowTells parts (λ was. ThroughoutRow (InEachRowImage (SaysTheSameOrEmpty page entries names next (row_words was))) parts parts_now)
+      → RowTells parts (λ was. ThroughoutRow (InEachRowImage (SaysTheSameOrEmpty (layout_of version) page entries names next (row_words was))) parts parts_now)
       → AcrossTells parts old new HoldRecovered → StandThroughout (both_rows parts old) (both_rows parts_now new)
   stand_emptied next parts_now goes_on says hold =
       row_tells_from parts (λ these. RowTells old (λ was. ThroughoutDevices (StandsStill (row_words these) (files_of was)) (both_rows parts old) (both_rows parts_now new)))
       (λ these are.
       let image = row_words these in
-      let Says : List Part → Type 0 = InEachRowImage (SaysTheSameOrEmpty page entries names next image) in
+      let Says : List Part → Type 0 = InEachRowImage (SaysTheSameOrEmpty (layout_of version) page entries names next image) in
       row_tells_from old (λ was. ThroughoutDevices (StandsStill image (files_of was)) (both_rows parts old) (both_rows parts_now new))
       (λ was were.
       let like : RowTells new (RecoverAlike image was) =
@@ -203,38 +217,38 @@ module _ (page entries : ℕ) (names : List (List ℕ)) (tail : ℕ) (parts : Li
       (λ now each.
       row_tells_more new (λ held. RecoverAlike image was held × HoldRecovered image was held) (StandsStill image (files_of was) now)
       (λ held both.
-      stands_emptied page entries names tail next image now was held
+      stands_emptied version page entries names tail next image now was held
       (row_tells_at parts (λ these. (stores : Files) → next ≡ (recovered (row_words these) stores).next) these are goes_on)
-      (row_tells_at parts (λ these. ReadsAs version_1 page entries names tail (row_words these)) these are reads) each both.0 both.1)
+      (row_tells_at parts (λ these. ReadsAs (layout_of version) page entries names tail (row_words these)) these are reads) each both.0 both.1)
       (row_tells_both new (RecoverAlike image was) (HoldRecovered image was) like held))
       saying)
-      (row_tells_at parts (λ was. ThroughoutRow (InEachRowImage (SaysTheSameOrEmpty page entries names next (row_words was))) parts parts_now) these are says))))
+      (row_tells_at parts (λ was. ThroughoutRow (InEachRowImage (SaysTheSameOrEmpty (layout_of version) page entries names next (row_words was))) parts parts_now) these are says))))
 
 -- ---- in the rows that calls leave, which were read
 
 -- while the stores are written
-pub stand_on : (page entries : ℕ) (names : List (List ℕ)) (tail : ℕ) (first read then : List lines.PartHistory) (old new : List StoreHistory) → read ≡ first → then ≡ read
-    → RowTells first (λ these. ReadsAs version_1 page entries names tail (row_words these)) → RowTells first AreQuiet
+pub stand_on : (version : Version) (page entries : ℕ) (names : List (List ℕ)) (tail : ℕ) (first read then : List lines.PartHistory) (old new : List StoreHistory) → read ≡ first → then ≡ read
+    → RowTells first (λ these. ReadsAs (layout_of version) page entries names tail (row_words these)) → RowTells first AreQuiet
     → AcrossThroughout read old new RecoverAlike → StandThroughout (both_rows first old) (both_rows then new)
-stand_on page entries names tail first read then old new one two reads quiet alike =
+stand_on version page entries names tail first read then old new one two reads quiet alike =
     let At : List lines.PartHistory → Type 0 = λ row. StandThroughout (both_rows first old) (both_rows row new) in
     let Alike : List lines.PartHistory → Type 0 = λ row. AcrossThroughout row old new RecoverAlike in
-    subst At (sym (two ∙ one)) (stand_read page entries names tail first reads quiet old new (subst Alike one alike))
+    subst At (sym (two ∙ one)) (stand_read version page entries names tail first reads quiet old new (subst Alike one alike))
 
 -- and then the log is emptied
-pub stand_last : (page entries : ℕ) (names : List (List ℕ)) (tail : ℕ) (first read then last : List lines.PartHistory) (old new : List StoreHistory) (found : Recovered) → read ≡ first → then ≡ read
-    → RowTells first (λ these. ReadsAs version_1 page entries names tail (row_words these)) → RowTells first AreQuiet
+pub stand_last : (version : Version) (page entries : ℕ) (names : List (List ℕ)) (tail : ℕ) (first read then last : List lines.PartHistory) (old new : List StoreHistory) (found : Recovered) → read ≡ first → then ≡ read
+    → RowTells first (λ these. ReadsAs (layout_of version) page entries names tail (row_words these)) → RowTells first AreQuiet
     → AcrossThroughout read old new RecoverAlike → AcrossTells read old new HoldRecovered → RowTells first (λ these. HasFoundAll (row_words these) found)
-    → ((these : List (List ℕ)) → RowTells then (λ was. ReadsAs version_1 page entries these tail (row_words was))
-    → RowTells then (λ was. ThroughoutRow (InEachRowImage (SaysTheSameOrEmpty page entries these found.next (row_words was))) then last))
+    → ((these : List (List ℕ)) → RowTells then (λ was. ReadsAs (layout_of version) page entries these tail (row_words was))
+    → RowTells then (λ was. ThroughoutRow (InEachRowImage (SaysTheSameOrEmpty (layout_of version) page entries these found.next (row_words was))) then last))
     → StandThroughout (both_rows first old) (both_rows last new)
-stand_last page entries names tail first read then last old new found one two reads quiet alike hold found_all says =
+stand_last version page entries names tail first read then last old new found one two reads quiet alike hold found_all says =
     let Alike : List lines.PartHistory → Type 0 = λ row. AcrossThroughout row old new RecoverAlike in
     let Hold : List lines.PartHistory → Type 0 = λ row. AcrossTells row old new HoldRecovered in
-    let Reads : List lines.PartHistory → Type 0 = λ row. RowTells row (λ these. ReadsAs version_1 page entries names tail (row_words these)) in
+    let Reads : List lines.PartHistory → Type 0 = λ row. RowTells row (λ these. ReadsAs (layout_of version) page entries names tail (row_words these)) in
     let Says : List lines.PartHistory → Type 0 = λ row.
-    RowTells row (λ was. ThroughoutRow (InEachRowImage (SaysTheSameOrEmpty page entries names found.next (row_words was))) row last) in
-    stand_emptied page entries names tail first reads quiet old new (subst Alike one alike) found.next last
+    RowTells row (λ was. ThroughoutRow (InEachRowImage (SaysTheSameOrEmpty (layout_of version) page entries names found.next (row_words was))) row last) in
+    stand_emptied version page entries names tail first reads quiet old new (subst Alike one alike) found.next last
     (row_tells_more first (λ these. HasFoundAll (row_words these) found) (λ these. (stores : Files) → found.next ≡ (recovered (row_words these) stores).next) (λ these all. all.next) found_all)
     (subst Says (two ∙ one) (says names (subst Reads (sym (two ∙ one)) reads))) (subst Hold one hold)
 
@@ -243,13 +257,13 @@ stand_last page entries names tail first read then last old new found one two re
 -- nothing was written
 pub unfit_read : (parts now : List lines.PartHistory) (stores : List StoreHistory) → now ≡ parts → UnfitIsUnwritten (both_rows parts stores) (both_rows now stores)
 unfit_read parts now stores same =
-    row_tells_any parts (λ these. ¬ Fits version_1 (row_words these) → both_rows now stores ≡ both_rows parts stores)
+    row_tells_any parts (λ these. ¬ Fits (layout_in (row_words these)) (row_words these) → both_rows now stores ≡ both_rows parts stores)
     (λ these unfit. ap (λ row. both_rows row stores) same)
 
 -- none was found to fit
 pub unfit_found : (parts : List lines.PartHistory) (stores : List StoreHistory) (groups : List Group) (new : Devices) → RowTells parts (λ these. AreGroups (row_words these) groups) → UnfitIsUnwritten (both_rows parts stores) new
 unfit_found parts stores groups new found =
-    row_tells_more parts (λ these. AreGroups (row_words these) groups) (λ these. ¬ Fits version_1 (row_words these) → new ≡ both_rows parts stores)
+    row_tells_more parts (λ these. AreGroups (row_words these) groups) (λ these. ¬ Fits (layout_in (row_words these)) (row_words these) → new ≡ both_rows parts stores)
     (λ these are unfit. absurd (unfit are.fits)) found
 
 -- ---- what was found

@@ -2,8 +2,7 @@
 use Rattle.std.specs.Prelude.{◌≡◌, ◌⊎◌, ℕ, List, [], ◌∷◌, ◌++◌, slice_index_or, slice_set}
 use Rattle.std.specs.List.{flat_map, range_with_len}
 use Rattle.nv_plain.specs.Files.{Files}
-use Rattle.nv_plain.specs.Images.{Image, entry_at, slot_part, data_of}
-use Rattle.nv_plain.specs.Layouts.{version_1}
+use Rattle.nv_plain.specs.Images.{Image, entry_at, slot_part, data_of, layout_in}
 use Rattle.nv_plain.specs.Recovered.{IsGroup, IsPiece, committed, group_numbers, recovered}
 use Rattle.nv_pmem.specs.Rows.{RowTells, row_words}
 use Rattle.nv_pmem.specs.Steps as lines
@@ -37,14 +36,14 @@ pub record AreAmong (image : Image) (numbers : List ℕ) : Type 0 where
 
 -- a committed group, whole
 pub record IsGroupOf (image : Image) (group : Group) : Type 0 where
-  pub whole : IsGroup version_1 image group.leader
+  pub whole : IsGroup (layout_in image) image group.leader
   pub count : group.count ≡ (entry_at image group.leader).count
   pub among : AreAmong image (range_with_len group.leader group.count)
 
 -- the number of an entry of a committed group
 pub record IsNumberOf (image : Image) (number : ℕ) : Type 0 where
   pub leader : ℕ
-  pub piece : IsPiece version_1 image leader number
+  pub piece : IsPiece (layout_in image) image leader number
   pub among : AreAmong image (number ∷ [])
 
 -- the piece of an entry: which file it is of, where it goes and its bytes

@@ -1,7 +1,7 @@
 -- Emptying: what the parts of a region come to while its log is emptied.
 use Rattle.std.specs.Prelude.{◌≡◌, ◌≢◌, ◌⊎◌, ℕ, ◌+◌, ◌<◌, ◌≤◌, List}
 use Rattle.nv_plain.specs.Images.{Image, PartImage, header_of, entry_of}
-use Rattle.nv_plain.specs.Layouts.{version_1}
+use Rattle.nv_plain.specs.Layouts.{Layout, layout_of}
 use Rattle.nv_plain.specs.Recovered.{IsCommitted}
 use Rattle.nv_pmem.specs.Images.{InEachPartImage, IsQuietPart}
 use Rattle.nv_pmem.specs.Moments.{Tells}
@@ -38,9 +38,9 @@ CommitsNoneFrom next image = (number : ℕ) → next ≤ number → ¬ IsCommitt
 
 -- the header can be read, and it says these bounds and names
 abbrev pub SaysBoundsAndNames : Bounds → List (List ℕ) → Image → Type 0
-SaysBoundsAndNames bounds names image = ReadsAs version_1 bounds.page bounds.entries names bounds.tail image
+SaysBoundsAndNames bounds names image = ReadsAs (layout_of bounds.version) bounds.page bounds.entries names bounds.tail image
 
 -- an image says the same of the log as another, or the log is empty and goes on with this number
-abbrev pub SaysTheSameOrEmpty : (page entries : ℕ) → List (List ℕ) → (next : ℕ) → Image → Image → Type 0
-SaysTheSameOrEmpty page entries names next was image =
-    SayTheSame was image ⊎ HasEmptyLog version_1 page entries names next image
+abbrev pub SaysTheSameOrEmpty : Layout → (page entries : ℕ) → List (List ℕ) → (next : ℕ) → Image → Image → Type 0
+SaysTheSameOrEmpty layout page entries names next was image =
+    SayTheSame was image ⊎ HasEmptyLog layout page entries names next image

@@ -1,8 +1,8 @@
 -- Groups: what a walk over the log finds.
 use Rattle.std.specs.Prelude.{◌≡◌, ℕ, ◌≤◌, List, map, All}
 use Rattle.std.specs.List.{flat_map, range_with_len}
-use Rattle.nv_plain.specs.Images.{Image, entry_at}
-use Rattle.nv_plain.specs.Layouts.{Layout, version_1}
+use Rattle.nv_plain.specs.Images.{Image, entry_at, layout_in}
+use Rattle.nv_plain.specs.Layouts.{Layout}
 use Rattle.nv_plain.specs.Recovered.{IsCommitted, Fits, committed}
 use Rattle.nv_entry.specs.Checks.{IsFirstBad}
 use Rattle.nv_recover.specs.declared.group.Group.{Group}
@@ -17,7 +17,7 @@ numbers_of groups = flat_map (λ group. range_with_len group.leader group.count)
 
 -- An image fits, and these are its committed groups, rising.
 pub record AreGroups (image : Image) (groups : List Group) : Type 0 where
-  pub fits : Fits version_1 image
+  pub fits : Fits (layout_in image) image
   pub leaders : leaders_of groups ≡ committed image
   pub counts : All (λ group. group.count ≡ (entry_at image group.leader).count) groups
 

@@ -1,8 +1,7 @@
 -- Interrupted: recoveries that power failures stop, one after another.
 use Rattle.std.specs.Prelude.{◌≡◌, ◌⊎◌, ℕ, ◌≤◌, List, [], ◌∷◌, length, take}
 use Rattle.nv_plain.specs.Files.{Files}
-use Rattle.nv_plain.specs.Images.{Image}
-use Rattle.nv_plain.specs.Layouts.{version_1}
+use Rattle.nv_plain.specs.Images.{Image, layout_in}
 use Rattle.nv_plain.specs.Recovered.{Fits, recovered}
 use Rattle.nv_pmem.specs.Part.{Part}
 use Rattle.nv_pmem.specs.Rows.{IsRowImage, row_words}
@@ -26,11 +25,11 @@ start_of parts stores = record { image = row_words parts; bytes = files_of store
 
 -- the header of a start can be read
 abbrev pub StartReads : Start → Type 0
-StartReads start = IsHead version_1 version_1.header_lines start.image
+StartReads start = IsHead (layout_in start.image) (layout_in start.image).header_lines start.image
 
 -- the image of a start fits
 abbrev pub StartFits : Start → Type 0
-StartFits start = Fits version_1 start.image
+StartFits start = Fits (layout_in start.image) start.image
 
 -- the files that a start stands for
 abbrev pub files_from : Start → Files

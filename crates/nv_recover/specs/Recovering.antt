@@ -1,8 +1,7 @@
 -- Recovering: what recovery gives, and what its devices stand for at each moment of it.
 use Rattle.std.specs.Prelude.{◌≡◌, ℕ, ◌+◌, List, drop, fold, map}
 use Rattle.nv_plain.specs.Files.{Files}
-use Rattle.nv_plain.specs.Images.{Image}
-use Rattle.nv_plain.specs.Layouts.{version_1}
+use Rattle.nv_plain.specs.Images.{Image, layout_in}
 use Rattle.nv_plain.specs.Recovered.{Fits, recovered}
 use Rattle.nv_pmem.specs.Room.{Room}
 use Rattle.nv_pmem.specs.Rows.{RowTells, row_words}
@@ -20,7 +19,7 @@ end_of tail groups = fold (λ next group. group.leader + group.count) tail group
 
 -- A recovery of an image found that it fits, its tail, its groups and its next number, whatever the stores hold.
 pub record HasFoundAll (image : Image) (found : Recovered) : Type 0 where
-  pub fits : Fits version_1 image
+  pub fits : Fits (layout_in image) image
   pub first : (stores : Files) → found.first ≡ (recovered image stores).first
   pub next : (stores : Files) → found.next ≡ (recovered image stores).next
   pub groups : (stores : Files) → found.groups ≡ (recovered image stores).groups
@@ -32,7 +31,7 @@ pub record HoldRecovered (image : Image) (was now : List Store) : Type 0 where
 
 -- Where the parts tell of an image that doesn't fit, nothing was written: the stores are as they were, and the parts too.
 abbrev pub UnfitIsUnwritten : Devices → Devices → Type 0
-UnfitIsUnwritten old new = RowTells old.parts (λ parts. ¬ Fits version_1 (row_words parts) → new ≡ old)
+UnfitIsUnwritten old new = RowTells old.parts (λ parts. ¬ Fits (layout_in (row_words parts)) (row_words parts) → new ≡ old)
 
 -- At each moment of a call, where all devices tell, whatever a power failure leaves of them can take the place of the image
 -- that the parts had and the bytes that the stores had.

@@ -1,8 +1,8 @@
 -- Standing: which files the parts of a region and its stores stand for, whatever a power failure leaves of them.
 use Rattle.std.specs.Prelude.{◌≡◌, ◌⊎◌, ℕ, ◌<◌, List, length, map, slice_index_or, All}
 use Rattle.nv_plain.specs.Files.{Files, contents_of}
-use Rattle.nv_plain.specs.Images.{Image, header_of}
-use Rattle.nv_plain.specs.Layouts.{Layout, version_1}
+use Rattle.nv_plain.specs.Images.{Image, header_of, layout_in}
+use Rattle.nv_plain.specs.Layouts.{Layout}
 use Rattle.nv_plain.specs.Recovered.{Fits, recovered, region_files}
 use Rattle.nv_pmem.specs.Part.{Part}
 use Rattle.nv_pmem.specs.Rows.{IsRowImage}
@@ -34,17 +34,18 @@ ReadableStandsForRecovered =
     (layout : Layout) (lines : ℕ) (image : Image) (bytes : Files)
     → IsHead layout lines image → region_files image bytes ≡ (recovered image bytes).files
 
--- A region's image and its stores' bytes stand for some files: the image fits, and recovers to them.
+-- A region's image and its stores' bytes stand for some files: the image fits, by its own version, and recovers to them.
 pub record StandsFor (image : Image) (bytes files : Files) : Type 0 where
-  pub fits : Fits version_1 image
+  pub fits : Fits (layout_in image) image
   pub recovers : (recovered image bytes).files ≡ files
 
--- The header of the other image can be read, and says what that of the image says, but for the tail.
+-- The header of the other image can be read, and says what that of the image says, its version too, but for the tail.
 pub record ReadsAlike (image other : Image) : Type 0 where
-  pub readable : IsHead version_1 version_1.header_lines other
+  pub version : (header_of other).version ≡ (header_of image).version
+  pub readable : IsHead (layout_in other) (layout_in other).header_lines other
   pub page : (header_of other).page ≡ (header_of image).page
   pub entries : (header_of other).entries ≡ (header_of image).entries
-  pub names : first_names version_1 other (header_of other).files ≡ first_names version_1 image (header_of image).files
+  pub names : first_names (layout_in other) other (header_of other).files ≡ first_names (layout_in image) image (header_of image).files
 
 -- The log of the other image says what that of the image does, whatever the stores hold: its first number, its groups and its
 -- next number.
@@ -57,7 +58,7 @@ pub record HasSameLog (image other : Image) : Type 0 where
 abbrev pub HasEmptiedLog : Image → Image → Type 0
 HasEmptiedLog image other =
     (stores : Files)
-    → HasEmptyLog version_1 (header_of image).page (header_of image).entries (first_names version_1 image (header_of image).files)
+    → HasEmptyLog (layout_in image) (header_of image).page (header_of image).entries (first_names (layout_in image) image (header_of image).files)
     (recovered image stores).next other
 
 -- Another image and other bytes can take the place of these: the header reads alike, so that they can be recovered; the log
@@ -65,7 +66,7 @@ HasEmptiedLog image other =
 pub record TakesPlace (image : Image) (bytes : Files) (other : Image) (others : Files) : Type 0 where
   pub header : ReadsAlike image other
   pub log : HasSameLog image other ⊎ HasEmptiedLog image other
-  pub files : Fits version_1 image → StandsFor other others (recovered image bytes).files
+  pub files : Fits (layout_in image) image → StandsFor other others (recovered image bytes).files
 
 -- Whatever a power failure leaves of the parts and of the stores can take the place of the image and the bytes.
 abbrev pub StandsStill : Image → Files → List Part → List Store → Type 0

@@ -1,7 +1,7 @@
 //! The log is emptied.
 ghost use Rattle.std.specs.Prelude.{◌≡◌, ℕ, ◌+◌, ◌^◌, ◌<◌, ◌≤◌, ◌↔◌, List, length, map, drop, sum_by, OnOk};
 ghost use Rattle.nv_plain.specs.Faults.{HasCause};
-ghost use Rattle.nv_plain.specs.Layouts.{version_1};
+ghost use Rattle.nv_plain.specs.Layouts.{layout_of};
 ghost use Rattle.nv_pmem.specs.Moments.{Tells, EachMoment};
 ghost use Rattle.nv_pmem.specs.Rows.{RowTells, InEachRowImage, row_words, AreQuiet};
 ghost use Rattle.nv_entry.specs.Checks.{SaysBounds};
@@ -23,7 +23,7 @@ pub(crate) fn empty_log<L: Lines>(
     bounds: &Bounds,
     next: u64,
 ) -> Result<(), RegionFault>
-    requires parts { HasParts version_1 bounds.now.page bounds.now.entries (map L.room parts.old) }
+    requires parts { HasParts (layout_of bounds.now.version) bounds.now.page bounds.now.entries (map L.room parts.old) }
     requires header { RowTells (map L.history parts.old) (λ told. SaysBounds bounds.now (row_words told)) }
     requires quiet { RowTells (map L.history parts.old) AreQuiet }
     requires none { RowTells (map L.history parts.old) (λ told. CommitsNoneFrom next (row_words told)) }
@@ -32,12 +32,12 @@ pub(crate) fn empty_log<L: Lines>(
     ensures moments { (names : List (List ℕ))
         → RowTells (map L.history parts.old) (λ was. SaysBoundsAndNames bounds.now names (row_words was))
         → RowTells (map L.history parts.old) (λ was. ThroughoutRow
-        (InEachRowImage (SaysTheSameOrEmpty bounds.now.page bounds.now.entries names next (row_words was)))
+        (InEachRowImage (SaysTheSameOrEmpty (layout_of bounds.now.version) bounds.now.page bounds.now.entries names next (row_words was)))
         (map L.history parts.old) (map L.history parts.new)) }
     ensures rest { OnOk result ((names : List (List ℕ))
         → RowTells (map L.history parts.old) (λ was. SaysBoundsAndNames bounds.now names (row_words was))
-        → RowTells (map L.history parts.new) (IsAtRest version_1 bounds.now.page bounds.now.entries names next)) }
-    ensures parts { OnOk result (HasParts version_1 bounds.now.page bounds.now.entries (map L.room parts.new)) }
+        → RowTells (map L.history parts.new) (IsAtRest (layout_of bounds.now.version) bounds.now.page bounds.now.entries names next)) }
+    ensures parts { OnOk result (HasParts (layout_of bounds.now.version) bounds.now.page bounds.now.entries (map L.room parts.new)) }
     ensures rooms { OnOk result (StayParts (map L.room parts.old) (map L.room parts.new)) }
     ensures further { drop (1 + bounds.now.entries) (map L.history parts.new) ≡ drop (1 + bounds.now.entries) (map L.history parts.old) }
     ensures lines { map (λ part. (L.room part).lines) parts.new ≡ map (λ part. (L.room part).lines) parts.old }
@@ -51,14 +51,14 @@ pub(crate) fn empty_log<L: Lines>(
 
 // Clears the commit words that lie past the window of the tail.
 fn clear_words<L: Lines>(parts: &mut [L], bounds: &Bounds) -> Result<(), RegionFault>
-    requires parts { HasParts version_1 bounds.now.page bounds.now.entries (map L.room parts.old) }
+    requires parts { HasParts (layout_of bounds.now.version) bounds.now.page bounds.now.entries (map L.room parts.old) }
     requires header { RowTells (map L.history parts.old) (λ told. SaysBounds bounds.now (row_words told)) }
     requires quiet { RowTells (map L.history parts.old) AreQuiet }
     ensures moments { RowTells (map L.history parts.old) (λ was.
         ThroughoutRow (InEachRowImage (SayTheSame (row_words was))) (map L.history parts.old) (map L.history parts.new)) }
     ensures cleared { OnOk result (RowTells (map L.history parts.new) (λ now. HasNoneAbove (row_words now))) }
     ensures quiet { OnOk result (RowTells (map L.history parts.new) AreQuiet) }
-    ensures parts { OnOk result (HasParts version_1 bounds.now.page bounds.now.entries (map L.room parts.new)) }
+    ensures parts { OnOk result (HasParts (layout_of bounds.now.version) bounds.now.page bounds.now.entries (map L.room parts.new)) }
     ensures rooms { OnOk result (StayParts (map L.room parts.old) (map L.room parts.new)) }
     ensures further { drop (1 + bounds.now.entries) (map L.history parts.new) ≡ drop (1 + bounds.now.entries) (map L.history parts.old) }
     ensures lines { map (λ part. (L.room part).lines) parts.new ≡ map (λ part. (L.room part).lines) parts.old }

@@ -1,7 +1,6 @@
 //! The committed groups of a log are found.
 ghost use Rattle.std.specs.Prelude.{◌≡◌, ◌≢◌, ℕ, ◌+◌, ◌<◌, ◌≤◌, length, map, take, drop, sum_by, All, Err, IfOk, OnOk};
-ghost use Rattle.nv_plain.specs.Images.{entry_at};
-ghost use Rattle.nv_plain.specs.Layouts.{version_1};
+ghost use Rattle.nv_plain.specs.Images.{entry_at, layout_in};
 ghost use Rattle.nv_plain.specs.Recovered.{IsGroup};
 ghost use Rattle.nv_pmem.specs.Rows.{RowTells, AreOnlyRead, row_words};
 ghost use Rattle.nv_entry.specs.Checks.{IsFirstBad, SaysBounds};
@@ -27,7 +26,7 @@ pub(crate) fn find_groups<L: Lines>(
     requires header { RowTells (map L.history parts.old) (λ told. SaysBounds bounds.now (row_words told)) }
     ensures found { IfOk result (λ groups. RowTells (map L.history parts.old) (λ told. AreGroups (row_words told) groups.items)) }
     ensures bad { (number : ℕ) → result ≡ Err (error.BadEntry number)
-        → RowTells (map L.history parts.old) (λ told. IsLeastBad version_1 (row_words told) number) }
+        → RowTells (map L.history parts.old) (λ told. IsLeastBad (layout_in (row_words told)) (row_words told) number) }
     ensures read { AreOnlyRead L.history L.room L.device parts.old parts.new }
     ensures cause { HasRegionCause (sum_by L.fault_count parts.old) (sum_by L.fault_count parts.new) result }
     ensures no_store { result ≢ Err error.StoreFault }
@@ -55,7 +54,7 @@ fn look_at<L: Lines>(
         HasFound (row_words told) bounds.now.tail number groups.old.items
         → HasFound (row_words told) bounds.now.tail (number + 1) groups.new.items)) }
     ensures bad { (bad : ℕ) → result ≡ Err (error.BadEntry bad) → RowTells (map L.history parts.old) (λ told.
-        HasFound (row_words told) bounds.now.tail number groups.old.items → IsLeastBad version_1 (row_words told) bad) }
+        HasFound (row_words told) bounds.now.tail number groups.old.items → IsLeastBad (layout_in (row_words told)) (row_words told) bad) }
     ensures read { AreOnlyRead L.history L.room L.device parts.old parts.new }
     ensures cause { HasRegionCause (sum_by L.fault_count parts.old) (sum_by L.fault_count parts.new) result }
     ensures no_store { result ≢ Err error.StoreFault }
@@ -77,9 +76,9 @@ fn checked<L: Lines>(parts: &mut [L], bounds: &Bounds, leader: u64) -> Result<Gr
     requires number { leader < bounds.now.tail + bounds.now.entries }
     ensures leader { IfOk result (λ group. group.leader ≡ leader) }
     ensures whole { IfOk result (λ group. RowTells (map L.history parts.old) (λ told.
-        IsGroup version_1 (row_words told) leader × (group.count ≡ (entry_at (row_words told) leader).count))) }
+        IsGroup (layout_in (row_words told)) (row_words told) leader × (group.count ≡ (entry_at (row_words told) leader).count))) }
     ensures bad { (number : ℕ) → result ≡ Err (error.BadEntry number)
-        → RowTells (map L.history parts.old) (λ told. IsFirstBad version_1 (row_words told) leader number) }
+        → RowTells (map L.history parts.old) (λ told. IsFirstBad (layout_in (row_words told)) (row_words told) leader number) }
     ensures read { AreOnlyRead L.history L.room L.device parts.old parts.new }
     ensures cause { HasRegionCause (sum_by L.fault_count parts.old) (sum_by L.fault_count parts.new) result }
     ensures no_store { result ≢ Err error.StoreFault }

@@ -1,6 +1,7 @@
 //! Recovery, whole.
 ghost use Rattle.std.specs.Prelude.{◌≡◌, ◌≢◌, ℕ, ◌+◌, ◌^◌, ◌≤◌, length, map, take, drop, sum_by, All, Err, IfOk, IfErr, OnOk};
-ghost use Rattle.nv_plain.specs.Layouts.{mount_version, version_1};
+ghost use Rattle.nv_plain.specs.Images.{layout_in};
+ghost use Rattle.nv_plain.specs.Layouts.{layout_of};
 ghost use Rattle.nv_pmem.specs.Limits.{entry_lines};
 ghost use Rattle.nv_pmem.specs.Moments.{Tells};
 ghost use Rattle.nv_pmem.specs.Rows.{RowTells, AreOnlyRead, row_words, AreQuiet};
@@ -28,7 +29,6 @@ use crate::groups::find_groups;
 use crate::{Leaders, RecoverError};
 use nv_entry::Bounds;
 use nv_header::{Head, Names, Region};
-use nv_plain::limits::MOUNT_VERSION;
 use nv_pmem::Lines;
 use nv_store::Backing;
 use std::alloc::Global;
@@ -62,10 +62,10 @@ pub fn recover<L: Lines + Drop, B: Backing>(
     parts: Vec<L>,
     stores: &mut Vec<B>,
 ) -> Result<(Region<L>, Recovered), (Vec<L>, RecoverError)>
-    requires limits { HeadIsWithinLimits version_1 head }
+    requires limits { HeadIsWithinLimits (layout_of head.version) head }
     requires head { Tells (header_history (map L.history parts.items)) (λ now.
-        IsHeadOf version_1 version_1.header_lines (header_image now) head) }
-    requires parts { HasParts version_1 head.geometry.page head.geometry.entries (map L.room parts.items) }
+        IsHeadOf (layout_of head.version) (layout_of head.version).header_lines (header_image now) head) }
+    requires parts { HasParts (layout_of head.version) head.geometry.page head.geometry.entries (map L.room parts.items) }
     requires quiet { RowTells (map L.history parts.items) AreQuiet }
     requires stores { length stores.old.items ≡ length head.names }
     requires synced { RowTells (map B.history stores.old.items) AreQuietStores }
@@ -75,7 +75,7 @@ pub fn recover<L: Lines + Drop, B: Backing>(
     ensures files { IfOk result (λ done. AcrossTells (map L.history parts.items) (map B.history stores.old.items)
         (map B.history stores.new.items) HoldRecovered) }
     ensures quiet { OnOk result (All (λ store. Tells (B.history store) IsQuietStore) stores.new.items) }
-    ensures version { IfOk result (λ done. done.0.version ≡ mount_version) }
+    ensures version { IfOk result (λ done. done.0.version ≡ head.version) }
     ensures geometry { IfOk result (λ done. done.0.geometry ≡ head.geometry) }
     ensures names { IfOk result (λ done. done.0.names ≡ head.names) }
     ensures next { IfOk result (λ done. done.0.next ≡ done.1.next) }
@@ -83,7 +83,7 @@ pub fn recover<L: Lines + Drop, B: Backing>(
 
     // At an error.
     ensures bad { (number : ℕ) → answer_of result ≡ Err (error.BadEntry number)
-        → RowTells (map L.history parts.items) (λ told. IsLeastBad version_1 (row_words told) number) }
+        → RowTells (map L.history parts.items) (λ told. IsLeastBad (layout_in (row_words told)) (row_words told) number) }
     ensures only_read { IfErr result (λ failed. failed.1 ≢ error.RegionFault
         → AreOnlyRead L.history L.room L.device parts.items failed.0.items) }
 
@@ -99,7 +99,7 @@ pub fn recover<L: Lines + Drop, B: Backing>(
         Ok(found) => {
             let region = Region::from_parts(
                 parts,
-                MOUNT_VERSION,
+                head.version,
                 head.geometry,
                 head.names,
                 found.next,
@@ -112,10 +112,11 @@ pub fn recover<L: Lines + Drop, B: Backing>(
 
 /// What a head says of the log.
 pub fn bounds_of(head: &Head) -> Bounds
-    requires { HeadIsWithinLimits version_1 head.now }
+    requires { HeadIsWithinLimits (layout_of head.now.version) head.now }
     ensures { HasBounds head.now result }
 {
     Bounds {
+        version: head.version,
         page: head.geometry.page,
         entries: head.geometry.entries,
         files: head.names.len() as u64,
@@ -134,7 +135,7 @@ pub fn recover_parts<L: Lines, B: Backing>(
 ) -> Result<Recovered, RecoverError>
     requires header { RowTells (map L.history parts.old) (λ told. SaysBounds bounds.now (row_words told)) }
     requires names { RowTells (map L.history parts.old) (λ told. SaysBoundsAndNames bounds.now names.now (row_words told)) }
-    requires parts { HasParts version_1 bounds.now.page bounds.now.entries (map L.room parts.old) }
+    requires parts { HasParts (layout_of bounds.now.version) bounds.now.page bounds.now.entries (map L.room parts.old) }
     requires quiet { RowTells (map L.history parts.old) AreQuiet }
     requires stores { length stores.old ≡ bounds.now.files }
     requires synced { RowTells (map B.history stores.old) AreQuietStores }
@@ -142,12 +143,12 @@ pub fn recover_parts<L: Lines, B: Backing>(
     ensures files { OnOk result (AcrossTells (map L.history parts.old) (map B.history stores.old) (map B.history stores.new) HoldRecovered) }
     ensures quiet { OnOk result (All (λ store. Tells (B.history store) IsQuietStore) stores.new) }
     ensures rest { IfOk result (λ found. RowTells (map L.history parts.new)
-        (IsAtRest version_1 bounds.now.page bounds.now.entries names.now found.next)) }
-    ensures parts { OnOk result (HasParts version_1 bounds.now.page bounds.now.entries (map L.room parts.new)) }
+        (IsAtRest (layout_of bounds.now.version) bounds.now.page bounds.now.entries names.now found.next)) }
+    ensures parts { OnOk result (HasParts (layout_of bounds.now.version) bounds.now.page bounds.now.entries (map L.room parts.new)) }
     ensures rooms { OnOk result (StayParts (map L.room parts.old) (map L.room parts.new)) }
     ensures limit { IfOk result (λ found. found.next ≤ 2 ^ 60) }
     ensures bad { (number : ℕ) → result ≡ Err (error.BadEntry number)
-        → RowTells (map L.history parts.old) (λ told. IsLeastBad version_1 (row_words told) number) }
+        → RowTells (map L.history parts.old) (λ told. IsLeastBad (layout_in (row_words told)) (row_words told) number) }
     ensures only_read { IfErr result (λ why. why ≢ error.RegionFault → AreOnlyRead L.history L.room L.device parts.old parts.new) }
     ensures kept { AreKept L.history L.room L.device B.history B.device (1 + bounds.now.entries) parts.old stores.old parts.new stores.new }
     ensures region_cause { HasRegionCause (sum_by L.fault_count parts.old) (sum_by L.fault_count parts.new) result }
@@ -168,13 +169,13 @@ pub fn replay_log<L: Lines, B: Backing>(
     stores: &mut [B],
 ) -> Result<Recovered, RecoverError>
     requires header { RowTells (map L.history parts.old) (λ told. SaysBounds bounds.now (row_words told)) }
-    requires parts { HasParts version_1 bounds.now.page bounds.now.entries (map L.room parts.old) }
+    requires parts { HasParts (layout_of bounds.now.version) bounds.now.page bounds.now.entries (map L.room parts.old) }
     requires stores { length stores.old ≡ bounds.now.files }
     requires synced { RowTells (map B.history stores.old) AreQuietStores }
     ensures found { IfOk result (λ found. RowTells (map L.history parts.old) (λ told. HasFoundAll (row_words told) found)) }
     ensures files { OnOk result (AcrossTells (map L.history parts.old) (map B.history stores.old) (map B.history stores.new) HoldRecovered) }
     ensures bad { (number : ℕ) → result ≡ Err (error.BadEntry number)
-        → RowTells (map L.history parts.old) (λ told. IsLeastBad version_1 (row_words told) number) }
+        → RowTells (map L.history parts.old) (λ told. IsLeastBad (layout_in (row_words told)) (row_words told) number) }
     ensures read { AreOnlyRead L.history L.room L.device parts.old parts.new }
     ensures tells { AllTell (map B.history stores.old) → AllTell (map B.history stores.new) }
     ensures region_cause { HasRegionCause (sum_by L.fault_count parts.old) (sum_by L.fault_count parts.new) result }
@@ -201,7 +202,7 @@ fn read_log<L: Lines>(
     ensures from_tail { IfOk result (λ log. bounds.now.tail ≤ log.1.next) }
     ensures limit { IfOk result (λ log. log.1.next ≤ 2 ^ 60) }
     ensures bad { (number : ℕ) → result ≡ Err (error.BadEntry number)
-        → RowTells (map L.history parts.old) (λ told. IsLeastBad version_1 (row_words told) number) }
+        → RowTells (map L.history parts.old) (λ told. IsLeastBad (layout_in (row_words told)) (row_words told) number) }
     ensures read { AreOnlyRead L.history L.room L.device parts.old parts.new }
     ensures cause { HasRegionCause (sum_by L.fault_count parts.old) (sum_by L.fault_count parts.new) result }
     ensures no_store { result ≢ Err error.StoreFault }

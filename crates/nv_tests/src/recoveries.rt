@@ -5,10 +5,9 @@ ghost use Rattle.nv_pmem.specs.Rows.{RowTells, AreQuiet};
 ghost use Rattle.nv_store.specs.MemStore.{store_history};
 ghost use Rattle.nv_recover.specs.Standing.{AreQuietStores};
 
-use nv_header::{Region, check_lines, needed_lines_make_parts, read_head_of};
+use nv_header::{Region, check_lines, needed_lines_make_parts, read_head};
 use nv_look::{Text, dry_files, look};
 use nv_plain::PlainFiles;
-use nv_plain::limits::MOUNT_VERSION;
 use nv_pmem::{Lines, MemPart, Pick, Picker};
 use nv_recover::{RecoverError, Recovered, recover};
 use nv_store::{Backing, MemStore, StoreFault};
@@ -133,7 +132,7 @@ fn recovery(
 ) -> Result<Recovery, Fail> {
     let mut parts = parts;
     lose_power(&mut parts, stores, pick);
-    let head = read_head_of(alloc, &mut parts, MOUNT_VERSION)?;
+    let head = read_head(alloc, &mut parts)?;
     check_lines(&parts, &head)?;
     needed_lines_make_parts();
     if stores.len() != head.names.len() {
@@ -161,7 +160,7 @@ fn recovers_three_groups(rt: HostRuntime) -> Result<(), Fail> {
 // The devices lose power, and what is left is listed. An error where the parts are too few or short.
 fn listed(alloc: Global, parts: &mut [MemPart], stores: &mut [MemStore]) -> Result<Text, Fail> {
     lose_power(parts, stores, Pick::New);
-    let head = read_head_of(alloc, parts, MOUNT_VERSION)?;
+    let head = read_head(alloc, parts)?;
     check_lines(parts, &head)?;
     needed_lines_make_parts();
     Ok(look(alloc, &head, parts)?)
@@ -175,7 +174,7 @@ fn dried(alloc: Global, parts: &mut [MemPart], stores: &mut [MemStore]) -> Resul
     ensures { IfOk result (λ answer. IfOk answer (λ plain. 0 < length plain.contents)) }
 {
     lose_power(parts, stores, Pick::New);
-    let head = read_head_of(alloc, parts, MOUNT_VERSION)?;
+    let head = read_head(alloc, parts)?;
     check_lines(parts, &head)?;
     needed_lines_make_parts();
     if stores.is_empty() || stores.len() != head.names.len() {

@@ -5,8 +5,8 @@ use Rattle.std.specs.Prelude.{IfOk, IfSome, IsOk, is_ok, slice_index_or}
 use Rattle.std.proofs.lemmas.Bool.{eqb-true, true≢false}
 use Rattle.nv_plain.specs.Faults.{Rose}
 use Rattle.nv_plain.specs.Files.{Files}
-use Rattle.nv_plain.specs.Images.{Image, header_of}
-use Rattle.nv_plain.specs.Layouts.{mount_layout}
+use Rattle.nv_plain.specs.Images.{Image, header_of, layout_in}
+use Rattle.nv_plain.specs.Layouts.{mount_layout, mount_version}
 use Rattle.nv_plain.specs.Recovered.{Fits, IsBlank}
 use Rattle.nv_pmem.specs.Draws.{draws_of}
 use Rattle.nv_pmem.specs.Laws.{QuietPartHasOneImage}
@@ -25,7 +25,7 @@ use Rattle.nv_header.specs.Heads.{IsHead}
 use Rattle.nv_header.specs.Needs.{HasLines, header_lines_in}
 use Rattle.nv_header.specs.Regions.{IsAtRest}
 use Rattle.nv_recover.specs.Standing.{AreStoreImages}
-use Rattle.nv_recover.proofs.AlikeLaws.{empty_fits}
+use Rattle.nv_recover.proofs.AlikeLaws.{empty_fits, fits_own}
 use Rattle.nv_recover.proofs.EmptyLaws.{empty_none}
 use Rattle.nv_open.specs.Held.{header_names}
 use Rattle.nv_open.specs.Lending.{stores_named}
@@ -36,7 +36,7 @@ use Rattle.nv_open.proofs.LineCounts.{long_alike}
 use Rattle.nv_open.proofs.Partly.{blank_entries, blank_page, kept_entries, kept_page}
 use Rattle.nv_open.proofs.PartlyBack.{known_entries, known_page}
 use Rattle.nv_open.proofs.Sized.{blank_stays, long_opened, opened_kept}
-use Rattle.nv_open.proofs.Stands.{durable_images}
+use Rattle.nv_open.proofs.Stands.{durable_images, head_alike}
 use Rattle.nv_trace.specs.Traced.{Traced}
 use Rattle.nv_trace.specs.declared.trace.Form.{Form}
 use Rattle.nv_trace.specs.declared.trace.Form.TheVariants as forms
@@ -98,7 +98,7 @@ not_blank parts good = go (is_blank parts) refl
     go false e = refl
 
 -- a region is good whose header can be read of its words, and which has the lines that this says and whole groups
-good_of : (parts : List Part) → IsHead mount_layout mount_layout.header_lines (row_words parts) → Fits mount_layout (row_words parts)
+good_of : (parts : List Part) → IsHead mount_layout mount_layout.header_lines (row_words parts) → Fits (layout_in (row_words parts)) (row_words parts)
     → HasLines mount_layout (header_of (head_image parts)).page (header_of (head_image parts)).entries (rooms_of parts) → IsGood parts
 good_of parts read fits long = record { readable = read_of parts read (first_long parts long.header); long = long; fits = fits }
 
@@ -170,7 +170,7 @@ module _ (one_so : QuietPartHasOneImage) (power_so : PowerLeavesAnImage) (was : 
       let bytes = bytes_of (names_in image) now whole in
       let behind = images image bytes.0 (image_of now whole pick) bytes.1 in
       let geometry = begun.geometry in
-      inl (good_of parts behind.readable behind.fits (sizes_long (page_known was.parts geometry) (entries_known was.parts geometry) parts
+      inl (good_of parts behind.readable (fits_own mount_version image behind.readable.fields.version_is behind.fits) (sizes_long (page_known was.parts geometry) (entries_known was.parts geometry) parts
       (behind.page_is ∙ sym (known_page was.parts geometry basis.sizes.page basis.sizes.entries begun.known basis.next begun.begun))
       (behind.entries_is ∙ sym (known_entries was.parts geometry basis.sizes.page basis.sizes.entries begun.known basis.next begun.begun))
       (lines_left now pick (page_known was.parts geometry) (entries_known was.parts geometry) (opened (Some geometry) was.parts) counted (known_long geometry was.parts sound))))
@@ -181,7 +181,7 @@ module _ (one_so : QuietPartHasOneImage) (power_so : PowerLeavesAnImage) (was : 
       let bytes = bytes_of (header_names was.parts) now whole in
       let takes = before.stands (row_words parts) bytes.0 (image_of now whole pick) bytes.1 in
       let header = header_of (head_image was.parts) in
-      inl (good_of parts takes.header.readable (takes.files good.fits).fits (sizes_long header.page header.entries parts takes.header.page takes.header.entries
+      inl (good_of parts (head_alike (row_words was.parts) (row_words parts) good.readable.fields.version_is takes.header) (takes.files good.fits).fits (sizes_long header.page header.entries parts takes.header.page takes.header.entries
       (lines_left now pick header.page header.entries was.parts before.rest.lines_are good.long)))
 
   -- the same parts
@@ -192,7 +192,7 @@ module _ (one_so : QuietPartHasOneImage) (power_so : PowerLeavesAnImage) (was : 
       let header = header_of (head_image was.parts) in
       elim sound [
         | inl blank ↦ blank_or parts (subst IsBlank (sym image) (blank_is was.parts blank)) blank
-        | inr good ↦ inl (good_of parts (subst (IsHead mount_layout mount_layout.header_lines) (sym image) (head_of was.parts good.readable)) (subst (Fits mount_layout) (sym image) good.fits)
+        | inr good ↦ inl (good_of parts (subst (IsHead mount_layout mount_layout.header_lines) (sym image) (head_of was.parts good.readable)) (subst (λ (one : Image). Fits (layout_in one) one) (sym image) good.fits)
             (sizes_long header.page header.entries parts (ap (λ (one : Image). (header_of one).page) image) (ap (λ (one : Image). (header_of one).entries) image)
             (lines_left now pick header.page header.entries was.parts (ap line_counts same) good.long)))
       ]
@@ -285,7 +285,7 @@ rest_good page entries next names parts rest long =
     record {
       readable = read_of parts header.readable (first_long parts long.header);
       long = subst Of (sym header.page_is) (subst (Long page) (sym header.entries_is) long);
-      fits = empty_fits mount_layout (row_words parts) (empty_none page entries names next (row_words parts) empty);
+      fits = empty_fits (layout_in (row_words parts)) (row_words parts) (empty_none page entries names next (row_words parts) empty);
     }
 
 same_parts : (now here : Holding) (told : Option Holding) → told ≡ Some now → told ≡ Some here → IsGood now.parts → IsGood here.parts

@@ -3,9 +3,8 @@ use Rattle.std.proofs.Common.{◌≡◌, ◌≢◌, ℕ, ◌<◌, Bool, true, fa
 use Rattle.std.specs.Prelude.{Contains, IfSome, option_map}
 use Rattle.std.proofs.lemmas.List.Elements.{All-nil, All-cons, All-head, All-tail}
 use Rattle.nv_plain.specs.Files.{Files}
-use Rattle.nv_plain.specs.Images.{Image, header_of}
-use Rattle.nv_plain.specs.Layouts.{mount_layout}
-use Rattle.nv_plain.specs.Recovered.{recovered}
+use Rattle.nv_plain.specs.Images.{Image, header_of, layout_in}
+use Rattle.nv_plain.specs.Layouts.{mount_layout, mount_version}
 use Rattle.nv_pmem.specs.Laws.{QuietPartHasOneImage}
 use Rattle.nv_pmem.specs.Part.{Part}
 use Rattle.nv_pmem.specs.RowStates.{AreNow, row_tells_at, row_tells_from}
@@ -21,21 +20,21 @@ use Rattle.nv_bench.specs.Laws.{AreWholeStores, PowerLeavesAnImage}
 use Rattle.nv_bench.specs.Naming.{AreDistinct, names_of}
 use Rattle.nv_bench.specs.Powered.{powered, powered_parts}
 use Rattle.nv_pmem.specs.Draws.{draws_of}
-use Rattle.nv_header.specs.Heads.{first_names}
-use Rattle.nv_header.specs.Regions.{HasEmptyLog, IsAtRest}
+use Rattle.nv_header.specs.Regions.{IsAtRest, ReadsAs}
 use Rattle.nv_recover.specs.Standing.{AreQuietStores, AreStoreImages, ReadableStandsForRecovered, files_of}
 use Rattle.nv_recover.specs.Telling.{AllTell}
 use Rattle.nv_recover.specs.declared.recovering.Recovered as recover
-use Rattle.nv_recover.proofs.AlikeLaws.{empty_fits, empty_recovered}
+use Rattle.nv_recover.proofs.AlikeLaws.{empty_fits, empty_recovered, fits_own, fits_said}
 use Rattle.nv_recover.proofs.ApplyLaws.{quiet_image}
 use Rattle.nv_recover.proofs.EmptyLaws.{empty_none}
+use Rattle.nv_recover.proofs.StandLaws.{emptied_log, header_alike}
 use Rattle.nv_open.specs.Held.{IsRecovered, files_named, header_names}
 use Rattle.nv_open.specs.Lending.{stores_named, without_stores}
 use Rattle.nv_open.specs.Unopened.{HasHeader, InEachImage, StandsAsBefore, TellsOf, line_counts, names_in}
 use Rattle.nv_open.proofs.Homes.{back_again, in_front, not_given, others_again}
 use Rattle.nv_open.proofs.Openings.{store_of_others}
 use Rattle.nv_open.proofs.Returns.{named_quiet}
-use Rattle.nv_open.proofs.Stands.{durable_images, names_read, own_images}
+use Rattle.nv_open.proofs.Stands.{durable_images, head_alike, names_read, own_images}
 use Rattle.nv_trace.specs.Reading.{ending_of, Whole}
 use Rattle.nv_trace.specs.declared.trace.Form.TheVariants as forms
 use Rattle.nv_trace.specs.Traced.{Traced}
@@ -193,13 +192,14 @@ module _ (basis : Basis) (trace : Traced) where
             λ image bytes is are.
                 let same = after.is_so.same_names image is in
                 let place = after.is_so.stands image bytes is (subst (λ names. AreStoreImages (stores_named names after.now.stores) bytes) same are) in
-                let stand = place.files here.fits in
+                let version = here.readable.fields.version_is in
+                let stand = place.files (fits_own mount_version first version here.fits) in
                 record {
-                  readable = place.header.readable;
+                  readable = head_alike first image version place.header;
                   page_is = place.header.page ∙ here.page_is;
                   entries_is = place.header.entries ∙ here.entries_is;
                   names_are = same ∙ read ∙ here.names_are;
-                  fits = stand.fits;
+                  fits = fits_said mount_version image (place.header.version ∙ version) stand.fits;
                   kept = here.kept;
                   of_trace = here.of_trace;
                   own_lines = here.own_lines;
@@ -257,20 +257,14 @@ module _ (stand_so : ReadableStandsForRecovered) (was : Holding) (page entries n
             let empty = rest.empty image is in
             let none = empty_none page entries names next image empty in
             let base = files_of (stores_named (header_names was.parts) was.stores) in
+            let tail = (header_of first).tail in
+            let reads : ReadsAs mount_layout page entries names tail first =
+            record { readable = readable; page_is = sym recovered_so.page_is; entries_is = sym recovered_so.entries_is; names_are = sym (same ∙ read); tail_is = refl } in
             record {
-              header = record {
-                readable = empty.header.readable;
-                page = empty.header.page_is ∙ recovered_so.page_is;
-                entries = empty.header.entries_is ∙ recovered_so.entries_is;
-                names = empty.header.names_are ∙ same ∙ read;
-              };
-              log = inr (λ files.
-                  subst (λ (n : ℕ). HasEmptyLog mount_layout n (header_of first).entries (first_names mount_layout first (header_of first).files) (recovered first files).next image) recovered_so.page_is
-                  (subst (λ (n : ℕ). HasEmptyLog mount_layout page n (first_names mount_layout first (header_of first).files) (recovered first files).next image) recovered_so.entries_is
-                  (subst (λ (names : List (List ℕ)). HasEmptyLog mount_layout page entries names (recovered first files).next image) (same ∙ read)
-                  (subst (λ (n : ℕ). HasEmptyLog mount_layout page entries names n image) (recovered_so.next_is ∙ recovered_so.log.next files) empty))));
+              header = header_alike mount_version page entries names tail next first image reads empty.header;
+              log = inr (emptied_log mount_version page entries names tail next first image (λ files. recovered_so.next_is ∙ recovered_so.log.next files) reads empty);
               files = λ fits. record {
-                fits = empty_fits mount_layout image none;
+                fits = empty_fits (layout_in image) image none;
                 recovers =
                     empty_recovered image bytes none ∙ quiet_image held bytes quiet (subst (λ stores. AreStoreImages stores bytes) there are) ∙ files_are
                     ∙ ap (λ names. files_named was.parts names was.stores) same ∙ stand_so mount_layout mount_layout.header_lines first base readable;

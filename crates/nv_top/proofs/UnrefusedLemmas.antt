@@ -1,8 +1,8 @@
 -- Regions that aren't refused: the header can be read, the lines are there, and the groups are whole. So it is with one that power was lost of.
 use Rattle.std.proofs.Common.{◌≡◌, ℕ, ◌≤◌, All, List, [], ◌∷◌, Option, Some, IfSome, option_map, length, map, sym, ap, subst, ◌∙◌, inl, inr, arith}
 use Rattle.std.proofs.lemmas.List.Elements.{All-nil, All-cons, All-head, All-tail}
-use Rattle.nv_plain.specs.Images.{header_of}
-use Rattle.nv_plain.specs.Layouts.{mount_layout}
+use Rattle.nv_plain.specs.Images.{header_of, layout_in}
+use Rattle.nv_plain.specs.Layouts.{mount_layout, mount_version}
 use Rattle.nv_plain.specs.Recovered.{Fits}
 use Rattle.nv_pmem.specs.Draws.{draws_of}
 use Rattle.nv_pmem.specs.Part.{Part}
@@ -22,6 +22,7 @@ use Rattle.nv_header.specs.Regions.{ReadsAs}
 use Rattle.nv_header.specs.declared.head.HeadError.{HeadError}
 use Rattle.nv_header.specs.declared.head.HeadError.TheVariants as head
 use Rattle.nv_recover.specs.Groups.{FittingHasNoBad}
+use Rattle.nv_recover.proofs.AlikeLaws.{fits_own}
 use Rattle.nv_open.proofs.Stands.{durable_images}
 use Rattle.nv_core.specs.state.Values.{Value}
 use Rattle.nv_table.specs.state.Opened.{Opened, mount_of}
@@ -59,13 +60,13 @@ module _ (read_so : ReadIsNotRefused) (parts : List Part) (readable : CanBeRead 
   header_allowed TooManyFiles bad is = bad
 
   -- nor for an entry, where its groups are whole
-  pub region_allowed : FittingHasNoBad → Fits mount_layout (row_words parts) → (why : Refusal) → ¬ (IsRefusedFor parts why)
+  pub region_allowed : FittingHasNoBad → Fits (layout_in (row_words parts)) (row_words parts) → (why : Refusal) → ¬ (IsRefusedFor parts why)
   region_allowed good_so fits (Truncated found wanted) is = header_allowed (Truncated found wanted) tt is
   region_allowed good_so fits BadMagic is = header_allowed BadMagic tt is
   region_allowed good_so fits (BadVersion found) is = header_allowed (BadVersion found) tt is
   region_allowed good_so fits (BadGeometry field found) is = header_allowed (BadGeometry field found) tt is
   region_allowed good_so fits (BadName i) is = header_allowed (BadName i) tt is
-  region_allowed good_so fits (BadEntry number) is = good_so mount_layout (row_words parts) number fits is.2
+  region_allowed good_so fits (BadEntry number) is = good_so (layout_in (row_words parts)) (row_words parts) number fits is.2
   region_allowed good_so fits TooManyFiles is = is
 
 -- ---- one that power was lost of
@@ -90,7 +91,7 @@ module _ (good_so : FittingHasNoBad) (read_so : ReadIsNotRefused) (page entries 
       subst Of (sym header.page_is) (subst (Long page) (sym header.entries_is) long)
 
   pub not_refused : (why : Refusal) → ¬ (IsRefusedFor parts why)
-  not_refused = region_allowed read_so parts can_be_read are_long good_so fits
+  not_refused = region_allowed read_so parts can_be_read are_long good_so (fits_own mount_version (row_words parts) header.readable.fields.version_is fits)
 
 -- ---- an image that stores may be left with
 

@@ -1,7 +1,6 @@
 -- Commands: what each makes of a bench.
 use Rattle.std.specs.Prelude.{◌≡◌, ℕ, Bool, true, false, List, [], ◌++◌, length, Option, Some, None}
-use Rattle.nv_plain.specs.Images.{header_of}
-use Rattle.nv_plain.specs.Layouts.{mount_layout}
+use Rattle.nv_plain.specs.Images.{header_of, layout_in}
 use Rattle.nv_plain.specs.Recovered.{Fits, recovered}
 use Rattle.nv_pmem.specs.Rows.{row_words}
 use Rattle.nv_pmem.specs.declared.geometry.Geometry.{Geometry}
@@ -100,7 +99,7 @@ recovery_of holding =
 pub record HasRecovered (holding : Holding) (told : Option Holding) (text : List ℕ) : Type 0 where
   pub readable : CanBeRead holding.parts
   pub long : AreLong holding.parts
-  pub fits : Fits mount_layout (row_words holding.parts)
+  pub fits : Fits (layout_in (row_words holding.parts)) (row_words holding.parts)
   pub plain : HavePlainNames (recovery_of holding).files
   pub text_is : text ≡ recovery_text (recovery_of holding)
   pub left : Leaves None (header_names holding.parts) (files_named holding.parts (header_names holding.parts) holding.stores) holding told

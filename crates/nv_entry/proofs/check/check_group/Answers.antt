@@ -1,6 +1,6 @@
 use Rattle.std.proofs.Common.{◌≡◌, ◌+◌, ◌-◌, List, map, sym, ap, ◌∙◌, subst, arith}
 use Rattle.nv_plain.specs.Images.{entry_at}
-use Rattle.nv_plain.specs.Layouts.{version_1}
+use Rattle.nv_plain.specs.Layouts.{layout_of}
 use Rattle.nv_pmem.specs.Part.{Part}
 use Rattle.nv_pmem.specs.Rows.{RowTells, row_words}
 use Rattle.nv_pmem.specs.Steps.{PartHistory}
@@ -17,8 +17,8 @@ returns-then-not-fit_first-clause-check g c =
     let row : List PartHistory = map g.L.Lines.history c.args.parts.now in
     let Says : List Part → Type 0 = λ parts. SaysBounds c.args.bounds.now (row_words parts) in
     let Has : List Part → Type 0 = λ parts. as_entry c.in_ok-first.first ≡ entry_at (row_words parts) c.args.leader in
-    row_tells_more row (λ parts. Says parts × Has parts) (λ parts. IsFirstBad version_1 (row_words parts) c.args.leader c.args.leader)
-    (λ parts both. bad_first version_1 (row_words parts) c.args.leader
+    row_tells_more row (λ parts. Says parts × Has parts) (λ parts. IsFirstBad (layout_of c.args.bounds.now.version) (row_words parts) c.args.leader c.args.leader)
+    (λ parts both. bad_first (layout_of c.args.bounds.now.version) (row_words parts) c.args.leader
     (not_from_false c.fit_first.result _ c.if-not-fit_first.true (c.fit_first.ensures.good (row_words parts) both.0 both.1)))
     (row_tells_both row Says Has c.requires.header c.in_ok-first.ensures.words)
 
@@ -31,8 +31,8 @@ loop-number-init g c =
     record {
       checked =
           row_tells_more row (λ parts. Says parts × Has parts)
-          (λ parts. HasChecked version_1 (row_words parts) c.args.leader (c.args.leader + 1) first.head.count first.head.file (first.head.at + first.head.size))
-          (λ parts both. checked_first version_1 (row_words parts) c.args.leader first.head.count first.head.file (first.head.at + first.head.size)
+          (λ parts. HasChecked (layout_of c.args.bounds.now.version) (row_words parts) c.args.leader (c.args.leader + 1) first.head.count first.head.file (first.head.at + first.head.size))
+          (λ parts both. checked_first (layout_of c.args.bounds.now.version) (row_words parts) c.args.leader first.head.count first.head.file (first.head.at + first.head.size)
           (ap (λ entry. entry.count) (sym both.1))
           (record { file = ap (λ entry. entry.file) (sym both.1); end = ap (λ entry. entry.at + entry.size) (sym both.1) })
           (from_true c.fit_first.result _ c.if-not-fit_first.false (c.fit_first.ensures.good (row_words parts) both.0 both.1)))
@@ -60,10 +60,10 @@ returns-then-not-fit_next-clause-check g c =
     let first = c.in_ok-first.first in
     let number = c.loop-number.number in
     let At : List PartHistory → Type 0 = λ these. RowTells these (λ parts. as_entry c.in_ok-entry.entry ≡ entry_at (row_words parts) number) in
-    entry_tells row c.args.bounds.now c.in_ok-entry.entry c.args.leader number first.head.count first.head.file c.loop-number.end
-    (λ parts. SaysOfGroup version_1 (row_words parts) c.args.leader (Bad number))
+    entry_tells (layout_of c.args.bounds.now.version) row c.args.bounds.now c.in_ok-entry.entry c.args.leader number first.head.count first.head.file c.loop-number.end
+    (λ parts. SaysOfGroup (layout_of c.args.bounds.now.version) (row_words parts) c.args.leader (Bad number))
     (λ parts so_far says has.
-    checked_bad version_1 (row_words parts) c.args.leader number first.head.count first.head.file c.loop-number.end (omega arith) (omega arith) so_far
+    checked_bad (layout_of c.args.bounds.now.version) (row_words parts) c.args.leader number first.head.count first.head.file c.loop-number.end (omega arith) (omega arith) so_far
     (not_from_false c.fit_next.result _ c.if-not-fit_next.true
     (c.fit_next.ensures.good (row_words parts) (number - 1) says has so_far.ends (omega arith) (omega arith))))
     c.loop-number.invariant.checked c.requires.header (subst At c.loop-number.invariant.read.histories c.in_ok-entry.ensures.words)
@@ -80,10 +80,10 @@ loop-number-preserved g c =
     let At : List PartHistory → Type 0 = λ these. RowTells these (λ parts. as_entry entry ≡ entry_at (row_words parts) number) in
     record {
       checked =
-          entry_tells row c.args.bounds.now entry c.args.leader number first.head.count first.head.file c.loop-number.end
-          (λ parts. HasChecked version_1 (row_words parts) c.args.leader (number + 1) first.head.count first.head.file (c.loop-number.end + entry.head.size))
+          entry_tells (layout_of c.args.bounds.now.version) row c.args.bounds.now entry c.args.leader number first.head.count first.head.file c.loop-number.end
+          (λ parts. HasChecked (layout_of c.args.bounds.now.version) (row_words parts) c.args.leader (number + 1) first.head.count first.head.file (c.loop-number.end + entry.head.size))
           (λ parts so_far says has.
-          checked_next version_1 (row_words parts) c.args.leader number first.head.count first.head.file c.loop-number.end entry.head.size (omega arith) so_far
+          checked_next (layout_of c.args.bounds.now.version) (row_words parts) c.args.leader number first.head.count first.head.file c.loop-number.end entry.head.size (omega arith) so_far
           (ap (λ words. words.size) (sym has))
           (from_true c.fit_next.result _ c.if-not-fit_next.false
           (c.fit_next.ensures.good (row_words parts) (number - 1) says has so_far.ends (omega arith) (omega arith))))
@@ -98,10 +98,10 @@ returns-clause-check g c =
     let row : List PartHistory = map g.L.Lines.history c.args.parts.now in
     let first = c.in_ok-first.first in
     row_tells_more row
-    (λ parts. HasChecked version_1 (row_words parts) c.args.leader c.loop-number.number first.head.count first.head.file c.loop-number.end)
-    (λ parts. SaysOfGroup version_1 (row_words parts) c.args.leader (Whole first.head.count))
+    (λ parts. HasChecked (layout_of c.args.bounds.now.version) (row_words parts) c.args.leader c.loop-number.number first.head.count first.head.file c.loop-number.end)
+    (λ parts. SaysOfGroup (layout_of c.args.bounds.now.version) (row_words parts) c.args.leader (Whole first.head.count))
     (λ parts so_far. (
-      checked_all version_1 (row_words parts) c.args.leader c.loop-number.number first.head.count first.head.file c.loop-number.end
+      checked_all (layout_of c.args.bounds.now.version) (row_words parts) c.args.leader c.loop-number.number first.head.count first.head.file c.loop-number.end
           (c.fit_first.ensures.count c.if-not-fit_first.false).0 (omega arith) so_far,
       sym so_far.count_is,
     ))

@@ -1,7 +1,7 @@
 use Rattle.std.proofs.Common.{◌≡◌, IfOk, List, map, sym, ap, ◌∙◌, subst, arith}
 use Rattle.std.proofs.lemmas.List.{length-map}
 use Rattle.nv_plain.specs.Files.{Files}
-use Rattle.nv_plain.specs.Layouts.{version_1}
+use Rattle.nv_plain.specs.Layouts.{layout_of}
 use Rattle.nv_plain.specs.Recovered.{recovered}
 use Rattle.nv_pmem.specs.RowStates.{AreNow}
 use Rattle.nv_pmem.specs.Rows.{RowTells, row_words}
@@ -25,7 +25,7 @@ pub files_after-requires-clause-header : goal.files_after-requires-clause-header
 files_after-requires-clause-header g c =
     let head = c.args.head.now in
     let parts = c.args.parts.now in
-    row_says_bounds version_1.header_lines head c.bounds_of.result (map g.L.Lines.history parts) c.bounds_of.ensures
+    row_says_bounds (layout_of head.version).header_lines head c.bounds_of.result (map g.L.Lines.history parts) c.bounds_of.ensures
     (omega (arith, parts_count g.L.Lines.room head.geometry.page head.geometry.entries parts c.requires.parts, length-map parts g.L.Lines.history)) c.requires.head
 
 -- the copies have the histories of what was read

@@ -1,6 +1,6 @@
 use Rattle.std.proofs.Common.{◌≤◌, ℕ, All, map, take, drop, subst, arith}
 use Rattle.std.proofs.lemmas.List.{length-map}
-use Rattle.nv_plain.specs.Layouts.{version_1}
+use Rattle.nv_plain.specs.Layouts.{layout_of}
 use Rattle.nv_recover.proofs.HeadRows.{row_says_bounds}
 use Rattle.nv_recover.proofs.RoomLaws.{parts_count, slots_some}
 use Rattle.nv_look.proofs.looking.list_region.Goals as goal
@@ -21,5 +21,5 @@ pub list_log-requires-clause-header : goal.list_log-requires-clause-header
 list_log-requires-clause-header g c =
     let head = c.args.head.now in
     let parts = c.args.parts.now in
-    row_says_bounds version_1.header_lines head c.bounds_of.result (map g.L.Lines.history parts) c.bounds_of.ensures
+    row_says_bounds (layout_of head.version).header_lines head c.bounds_of.result (map g.L.Lines.history parts) c.bounds_of.ensures
     (omega (arith, parts_count g.L.Lines.room head.geometry.page head.geometry.entries parts c.requires.parts, length-map parts g.L.Lines.history)) c.requires.head

@@ -1,7 +1,7 @@
 use Rattle.std.proofs.Common.{◌≡◌, ◌+◌, List, length, get_or, map, refl, ◌∙◌, subst, arith}
 use Rattle.std.proofs.Math.Seq.{map-set_same}
 use Rattle.std.proofs.lemmas.List.{length-map}
-use Rattle.nv_plain.specs.Layouts.{version_1}
+use Rattle.nv_plain.specs.Layouts.{layout_of}
 use Rattle.nv_pmem.specs.Rows.{InEachRowImage, row_words}
 use Rattle.nv_pmem.specs.Steps.{PartHistory}
 use Rattle.nv_pmem.proofs.OneOfRow.{same_sum_in_row}
@@ -32,12 +32,12 @@ loop-entry-init g c = record {
 
 pub clear_word-requires-clause-line : goal.clear_word-requires-clause-line
 clear_word-requires-clause-line g c =
-    (entry_line g.L.Lines.room c.args.bounds.now.page c.args.bounds.now.entries c.loop-entry.parts c.loop-entry.entry c.index-parts-entry.result
+    (entry_line g.L.Lines.room c.args.bounds.now.page c.args.bounds.now.entries c.args.bounds.now.version c.loop-entry.parts c.loop-entry.entry c.index-parts-entry.result
     c.loop-entry.invariant.parts (omega arith)).0
 
 pub clear_word-requires-clause-spare : goal.clear_word-requires-clause-spare
 clear_word-requires-clause-spare g c =
-    (entry_line g.L.Lines.room c.args.bounds.now.page c.args.bounds.now.entries c.loop-entry.parts c.loop-entry.entry c.index-parts-entry.result
+    (entry_line g.L.Lines.room c.args.bounds.now.page c.args.bounds.now.entries c.args.bounds.now.version c.loop-entry.parts c.loop-entry.entry c.index-parts-entry.result
     c.loop-entry.invariant.parts (omega arith)).1
 
 pub returns-in_err-clear_word-clause-moments : goal.returns-in_err-clear_word-clause-moments
@@ -88,7 +88,7 @@ loop-entry-preserved g c =
           clearing_throughout g.L.Lines.history c.args.bounds.now c.loop-entry.entry old parts was new d c.requires.quiet c.requires.header
           c.loop-entry.invariant.done inside refl c.clear_word.ensures.moments c.loop-entry.invariant.moments;
       parts =
-          has_parts_set g.L.Lines.room version_1 c.args.bounds.now.page c.args.bounds.now.entries parts i was new d inside refl
+          has_parts_set g.L.Lines.room (layout_of c.args.bounds.now.version) c.args.bounds.now.page c.args.bounds.now.entries parts i was new d inside refl
           c.in_ok-clear_word.ensures.room c.loop-entry.invariant.parts;
       rooms =
           parts_stay c.loop-entry.invariant.rooms

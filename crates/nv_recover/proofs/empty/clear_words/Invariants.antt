@@ -1,5 +1,5 @@
 use Rattle.std.proofs.Common.{◌≡◌, ◌+◌, map, drop, sum_by}
-use Rattle.nv_plain.specs.Layouts.{version_1}
+use Rattle.nv_plain.specs.Layouts.{layout_of}
 use Rattle.nv_pmem.specs.Rows.{RowTells, InEachRowImage, row_words}
 use Rattle.nv_header.specs.Regions.{HasParts}
 use Rattle.nv_recover.specs.Alike.{SayTheSame}
@@ -13,7 +13,7 @@ invariant-loop-entry g l = record {
   done : AreClearedTo (l.bounds.tail + l.bounds.entries) l.entry (map g.L.Lines.history l.fn.parts) (map g.L.Lines.history l.parts);
   moments : RowTells (map g.L.Lines.history l.fn.parts) (λ was.
       ThroughoutRow (InEachRowImage (SayTheSame (row_words was))) (map g.L.Lines.history l.fn.parts) (map g.L.Lines.history l.parts));
-  parts : HasParts version_1 l.bounds.page l.bounds.entries (map g.L.Lines.room l.parts);
+  parts : HasParts (layout_of l.bounds.version) l.bounds.page l.bounds.entries (map g.L.Lines.room l.parts);
   rooms : StayParts (map g.L.Lines.room l.fn.parts) (map g.L.Lines.room l.parts);
   further : drop (1 + l.bounds.entries) (map g.L.Lines.history l.parts) ≡ drop (1 + l.bounds.entries) (map g.L.Lines.history l.fn.parts);
   lines : map (λ part. (g.L.Lines.room part).lines) l.parts ≡ map (λ part. (g.L.Lines.room part).lines) l.fn.parts;

@@ -8,7 +8,7 @@ use Rattle.nv_pmem.proofs.RowLaws.{row_tells_more, row_tells_both}
 use Rattle.nv_entry.proofs.Slots.{slots_still}
 use Rattle.nv_entry.specs.Checks.{SaysBounds}
 use Rattle.nv_recover.specs.Finding.{HasFound}
-use Rattle.nv_plain.specs.Layouts.{version_1}
+use Rattle.nv_plain.specs.Images.{layout_in}
 use Rattle.nv_recover.specs.Groups.{AreGroups, IsLeastBad}
 use Rattle.nv_recover.specs.declared.error.RecoverError.TheVariants.{BadEntry}
 use Rattle.nv_recover.proofs.Finding.{found_none, found_all}
@@ -37,9 +37,9 @@ returns-in_err-look_at-clause-bad g c = λ bad is.
     let p = err_from_is_err_and c.from_residual.result c.from_residual.ensures.1 in
     let same : c.in_err-look_at.field-0.0 ≡ BadEntry bad = cc (p.1, p.2, is) in
     let So_far : List Part → Type 0 = λ parts. HasFound (row_words parts) c.args.bounds.now.tail c.loop-number.number c.loop-number.groups.items in
-    let Then : List Part → Type 0 = λ parts. So_far parts → IsLeastBad version_1 (row_words parts) bad in
+    let Then : List Part → Type 0 = λ parts. So_far parts → IsLeastBad (layout_in (row_words parts)) (row_words parts) bad in
     let At : List PartHistory → Type 0 = λ row. RowTells row Then in
-    row_tells_more first (λ parts. So_far parts × Then parts) (λ parts. IsLeastBad version_1 (row_words parts) bad)
+    row_tells_more first (λ parts. So_far parts × Then parts) (λ parts. IsLeastBad (layout_in (row_words parts)) (row_words parts) bad)
     (λ parts both. both.1 both.0)
     (row_tells_both first So_far Then c.loop-number.invariant.found
     (subst At c.loop-number.invariant.read.histories (c.look_at.ensures.bad bad (c.in_err-look_at.was ∙ ap Err same))))

@@ -1,7 +1,6 @@
 use Rattle.std.proofs.Common.{◌≡◌, ◌≢◌, ◌+◌, List, Err, map, sym, ap, ◌∙◌, subst, arith}
 use Rattle.std.proofs.lemmas.Result.{err_from_is_err_and}
-use Rattle.nv_plain.specs.Images.{entry_at}
-use Rattle.nv_plain.specs.Layouts.{version_1}
+use Rattle.nv_plain.specs.Images.{entry_at, layout_in}
 use Rattle.nv_plain.specs.Recovered.{IsGroup}
 use Rattle.nv_pmem.specs.Part.{Part}
 use Rattle.nv_pmem.specs.Rows.{RowTells, row_words}
@@ -40,12 +39,12 @@ returns-in_err-group-clause-bad g c = λ bad is.
     let breaks = c.checked.ensures.bad bad (c.in_err-group.was ∙ ap Err same) in
     let commit : c.in_ok-entry.entry.commit ≡ c.args.number + 1 = omega arith in
     let Has : List Part → Type 0 = λ parts. as_entry c.in_ok-entry.entry ≡ entry_at (row_words parts) c.args.number in
-    let Breaks : List Part → Type 0 = λ parts. IsFirstBad version_1 (row_words parts) c.args.number bad in
+    let Breaks : List Part → Type 0 = λ parts. IsFirstBad (layout_in (row_words parts)) (row_words parts) c.args.number bad in
     let Says : List Part → Type 0 = λ parts. SaysBounds c.args.bounds.now (row_words parts) in
     let Both : List Part → Type 0 = λ parts. Has parts × Breaks parts in
     let At : List PartHistory → Type 0 = λ row. RowTells row Breaks in
     row_tells_more first (λ parts. Says parts × Both parts)
-    (λ parts. HasFound (row_words parts) c.args.bounds.now.tail c.args.number c.args.groups.now.items → IsLeastBad version_1 (row_words parts) bad)
+    (λ parts. HasFound (row_words parts) c.args.bounds.now.tail c.args.number c.args.groups.now.items → IsLeastBad (layout_in (row_words parts)) (row_words parts) bad)
     (λ parts all so_far.
     found_bad (row_words parts) c.args.bounds.now.tail c.args.number bad c.args.groups.now.items c.requires.from
     (omega (arith, c.requires.below, all.0.entries)) (sym (ap (λ entry. entry.commit) all.1.0) ∙ commit) all.1.1 so_far)
@@ -65,7 +64,7 @@ returns-clause-found g c =
     let group = c.in_ok-group.group in
     let Has : List Part → Type 0 = λ parts. as_entry c.in_ok-entry.entry ≡ entry_at (row_words parts) c.args.number in
     let Whole : List Part → Type 0 = λ parts.
-    IsGroup version_1 (row_words parts) c.args.number × (group.count ≡ (entry_at (row_words parts) c.args.number).count) in
+    IsGroup (layout_in (row_words parts)) (row_words parts) c.args.number × (group.count ≡ (entry_at (row_words parts) c.args.number).count) in
     let At : List PartHistory → Type 0 = λ row. RowTells row Whole in
     let items = c.in_ok-push.ensures.items in
     row_tells_more first (λ parts. Has parts × Whole parts)

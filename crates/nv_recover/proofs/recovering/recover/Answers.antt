@@ -1,6 +1,6 @@
 use Rattle.std.proofs.Common.{List, map, sym, ap, subst, arith}
 use Rattle.std.proofs.lemmas.List.{length-map}
-use Rattle.nv_plain.specs.Layouts.{version_1}
+use Rattle.nv_plain.specs.Layouts.{layout_of}
 use Rattle.nv_pmem.specs.Rows.{RowTells, row_words}
 use Rattle.nv_pmem.proofs.OneOfRow.{lent}
 use Rattle.nv_entry.specs.Checks.{SaysBounds}
@@ -18,7 +18,7 @@ recover_parts-requires-clause-header g c =
     let bounds = c.bounds_of-bounds.result in
     let Says : List _ → Type 0 = λ these. RowTells (map g.L.Lines.history these) (λ told. SaysBounds bounds (row_words told)) in
     subst Says (sym c.deref_mut.ensures.value)
-    (row_says_bounds version_1.header_lines head bounds (map g.L.Lines.history parts) c.bounds_of-bounds.ensures
+    (row_says_bounds (layout_of head.version).header_lines head bounds (map g.L.Lines.history parts) c.bounds_of-bounds.ensures
     (omega (arith, parts_count g.L.Lines.room head.geometry.page head.geometry.entries parts c.requires.parts, length-map parts g.L.Lines.history)) c.requires.head)
 
 pub recover_parts-requires-clause-names : goal.recover_parts-requires-clause-names
@@ -28,7 +28,7 @@ recover_parts-requires-clause-names g c =
     let bounds = c.bounds_of-bounds.result in
     let Says : List _ → Type 0 = λ these. RowTells (map g.L.Lines.history these) (λ told. SaysBoundsAndNames bounds head.names (row_words told)) in
     subst Says (sym c.deref_mut.ensures.value)
-    (row_reads_as version_1.header_lines head bounds (map g.L.Lines.history parts) c.bounds_of-bounds.ensures
+    (row_reads_as (layout_of head.version).header_lines head bounds (map g.L.Lines.history parts) c.bounds_of-bounds.ensures
     (omega (arith, parts_count g.L.Lines.room head.geometry.page head.geometry.entries parts c.requires.parts, length-map parts g.L.Lines.history)) c.requires.head)
 
 pub returns-in-Ok-clause-rooms : goal.returns-in-Ok-clause-rooms

@@ -1,6 +1,6 @@
 use Rattle.std.proofs.Common.{◌≡◌, ◌+◌, List, Err, map, drop, refl, sym, ap, ◌∙◌, subst}
 use Rattle.std.proofs.lemmas.Result.{err_from_is_err_and}
-use Rattle.nv_plain.specs.Layouts.{version_1}
+use Rattle.nv_plain.specs.Images.{layout_in}
 use Rattle.nv_pmem.specs.Rows.{RowTells, row_words}
 use Rattle.nv_pmem.specs.Steps as lines
 use Rattle.nv_pmem.proofs.ReadLaws.{only_read_more}
@@ -33,7 +33,7 @@ returns-in_err-groups-clause-kept g c =
     let read = c.read_log.ensures.read in
     record {
       moments =
-          stand_on bounds.page bounds.entries c.args.names.now bounds.tail first first then stores stores refl read.histories c.requires.names c.requires.quiet
+          stand_on bounds.version bounds.page bounds.entries c.args.names.now bounds.tail first first then stores stores refl read.histories c.requires.names c.requires.quiet
           (alike_still first stores c.requires.synced);
       unfit = unfit_read first then stores read.histories;
       further = ap (drop (1 + bounds.entries)) read.histories;
@@ -61,7 +61,7 @@ returns-in_err-replay-clause-bad g c number is =
     let p = err_from_is_err_and c.from_residual-in_err-replay.result c.from_residual-in_err-replay.ensures.1 in
     let same : c.in_err-replay.field-0.0 ≡ BadEntry number = cc (p.1, p.2, is) in
     let Never : List lines.PartHistory → Type 0 = λ row. RowTells row (λ parts. ⊥) in
-    row_tells_more (map g.L.Lines.history c.args.parts.now) (λ parts. ⊥) (λ parts. IsLeastBad version_1 (row_words parts) number) (λ parts never. absurd never)
+    row_tells_more (map g.L.Lines.history c.args.parts.now) (λ parts. ⊥) (λ parts. IsLeastBad (layout_in (row_words parts)) (row_words parts) number) (λ parts never. absurd never)
     (subst Never c.read_log.ensures.read.histories (c.replay.ensures.bad number (c.in_err-replay.was ∙ ap Err same)))
 
 pub returns-in_err-replay-clause-only_read : goal.returns-in_err-replay-clause-only_read
@@ -78,7 +78,7 @@ returns-in_err-replay-clause-kept g c =
     let read = only_read_more c.read_log.ensures.read c.replay.ensures.read in
     record {
       moments =
-          stand_on bounds.page bounds.entries c.args.names.now bounds.tail first (map g.L.Lines.history c.read_log.new.parts) then old new
+          stand_on bounds.version bounds.page bounds.entries c.args.names.now bounds.tail first (map g.L.Lines.history c.read_log.new.parts) then old new
           c.read_log.ensures.read.histories c.replay.ensures.read.histories c.requires.names c.requires.quiet c.replay.ensures.moments;
       unfit = unfit_found first old c.in_ok-groups.groups.items (both_rows then new) c.in_ok-groups.ensures.groups;
       further = ap (drop (1 + bounds.entries)) read.histories;
@@ -116,7 +116,7 @@ kept g c =
     let read = only_read_more c.read_log.ensures.read c.replay.ensures.read in
     record {
       moments =
-          stand_last bounds.page bounds.entries c.args.names.now bounds.tail first (map g.L.Lines.history c.read_log.new.parts)
+          stand_last bounds.version bounds.page bounds.entries c.args.names.now bounds.tail first (map g.L.Lines.history c.read_log.new.parts)
           (map g.L.Lines.history c.replay.new.parts) last old new c.in_ok-groups.found c.read_log.ensures.read.histories c.replay.ensures.read.histories
           c.requires.names c.requires.quiet c.replay.ensures.moments c.in_ok-replay.ensures.done c.in_ok-groups.ensures.found c.empty_log.ensures.moments;
       unfit = unfit_found first old c.in_ok-groups.groups.items (both_rows last new) c.in_ok-groups.ensures.groups;

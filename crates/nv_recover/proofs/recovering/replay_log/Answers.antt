@@ -1,6 +1,6 @@
 use Rattle.std.proofs.Common.{◌≡◌, List, Err, map, sym, ap, ◌∙◌, subst}
 use Rattle.std.proofs.lemmas.Result.{err_from_is_err_and}
-use Rattle.nv_plain.specs.Layouts.{version_1}
+use Rattle.nv_plain.specs.Images.{layout_in}
 use Rattle.nv_pmem.specs.Rows.{RowTells, row_words}
 use Rattle.nv_pmem.specs.Steps as lines
 use Rattle.nv_pmem.proofs.ReadLaws.{only_read_more}
@@ -32,7 +32,7 @@ returns-in_err-replay-clause-bad g c number is =
     let p = err_from_is_err_and c.from_residual-in_err-replay.result c.from_residual-in_err-replay.ensures.1 in
     let same : c.in_err-replay.field-0.0 ≡ BadEntry number = cc (p.1, p.2, is) in
     let Never : List lines.PartHistory → Type 0 = λ row. RowTells row (λ parts. ⊥) in
-    row_tells_more (map g.L.Lines.history c.args.parts.now) (λ parts. ⊥) (λ parts. IsLeastBad version_1 (row_words parts) number) (λ parts never. absurd never)
+    row_tells_more (map g.L.Lines.history c.args.parts.now) (λ parts. ⊥) (λ parts. IsLeastBad (layout_in (row_words parts)) (row_words parts) number) (λ parts never. absurd never)
     (subst Never c.read_log.ensures.read.histories (c.replay.ensures.bad number (c.in_err-replay.was ∙ ap Err same)))
 
 pub returns-in_err-replay-clause-read : goal.returns-in_err-replay-clause-read
