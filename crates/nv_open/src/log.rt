@@ -11,6 +11,7 @@ ghost use Rattle.nv_header.specs.Heads.{IsHeadOf, HeadIsWithinLimits, header_ima
 ghost use Rattle.nv_header.specs.Laws.{HasSpare};
 ghost use Rattle.nv_header.specs.Needs.{header_history, header_lines_in, HasLines};
 ghost use Rattle.nv_recover.specs.Answers.{answer_of, parts_after};
+ghost use Rattle.nv_recover.specs.Changes.{StayParts};
 ghost use Rattle.nv_recover.specs.Standing.{AreQuietStores, files_of};
 ghost use Rattle.nv_recover.specs.Telling.{AllTell};
 ghost use Rattle.nv_open.specs.Causes.{OpenHasCause};
@@ -55,6 +56,7 @@ pub(crate) fn recover_log<L: Lines + Drop, B: Backing>(
         HoldFiles (map B.history stores.new.items) (region_files (row_words told) (files_of was)))) }
     ensures quiet { IfOk result (λ done. All (λ store. Tells (B.history store) IsQuietStore) stores.new.items) }
     ensures lines { HaveSameLines (map L.history parts.items) (map L.history (parts_after result)) }
+    ensures rooms { IfOk result (λ done. StayParts (map L.room parts.items) (map L.room done.0.parts.items)) }
     ensures tell { AllTell (map L.history parts.items) → AllTell (map B.history stores.old.items)
         → IfOk result (λ done. AllTell (map L.history done.0.parts.items)) }
     ensures refused { (why : _) → answer_of result ≡ Err (error.Refused why)

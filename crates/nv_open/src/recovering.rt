@@ -8,6 +8,7 @@ ghost use Rattle.nv_bench.specs.Benches.{with_faults};
 ghost use Rattle.nv_bench.specs.Holding.{IsQuietHolding};
 ghost use Rattle.nv_store.specs.Store.{IsQuietStore};
 ghost use Rattle.nv_recover.specs.Answers.{answer_of, parts_after};
+ghost use Rattle.nv_recover.specs.Changes.{StayParts};
 ghost use Rattle.nv_recover.specs.Telling.{AllTell};
 ghost use Rattle.nv_open.specs.Causes.{ErrorHasCause, OpenHasCause};
 ghost use Rattle.nv_open.specs.Held.{HoldFiles, IsRecovered, files_named, told_after};
@@ -76,7 +77,8 @@ pub fn recover_region<T: Bench>(
 }
 
 /// Recovers a region that is lent, with the stores of its files, which are opened first. Whichever answer came, these are
-/// those that stand there then.
+/// those that stand there then. Parts that have the room of a region of a later version have it still, so that one can be
+/// made of it.
 pub(crate) fn recover_parts<T: Bench>(
     alloc: Global,
     bench: &mut T,
@@ -92,6 +94,7 @@ pub(crate) fn recover_parts<T: Bench>(
     ensures version { IfOk result (λ done. done.0.version ≡ mount_version) }
     ensures recovered { IfOk result (λ done. IsRecoveredOpen T.Part.history T.Store.history (T.state bench.old) (T.state bench.new) parts.items stores.new.items
         done.0.geometry.page done.0.geometry.entries done.0.names done.0.next done.0.parts.items done.1) }
+    ensures rooms { IfOk result (λ done. StayParts (map T.Part.room parts.items) (map T.Part.room done.0.parts.items)) }
     ensures given_up { IfErr result (λ failed. IsNotRecovered T.Part.history T.Store.history (T.state bench.old) (T.state bench.new) parts.items failed.0.items stores.new.items failed.1) }
 {
     let mut parts = parts;

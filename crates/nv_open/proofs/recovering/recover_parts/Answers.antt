@@ -1,12 +1,14 @@
 use Rattle.std.proofs.Common.{◌≡◌, ◌++◌, List, [], Err, length, map, take, drop, refl, sym, ap, ◌∙◌, subst, arith}
 use Rattle.std.specs.Prelude.{All, IfSome}
 use Rattle.std.specs.List.{AllZip}
-use Rattle.nv_pmem.specs.Room.{Keeps}
+use Rattle.nv_pmem.specs.Room.{Keeps, Room}
 use Rattle.nv_pmem.specs.RowStates.{AreNow, row_tells_at, row_tells_from}
 use Rattle.nv_pmem.specs.Rows.{RowTells}
 use Rattle.nv_pmem.specs.Steps as lines
 use Rattle.nv_header.specs.Laws.{HasSpare}
 use Rattle.nv_recover.specs.Answers.{parts_after}
+use Rattle.nv_recover.specs.Changes.{StayParts}
+use Rattle.nv_recover.proofs.RoomLaws.{parts_read, parts_stay}
 use Rattle.nv_recover.specs.Standing.{AreQuietStores}
 use Rattle.nv_open.specs.Held.{header_names}
 use Rattle.nv_open.specs.Lending.{stores_named}
@@ -22,7 +24,7 @@ use Rattle.nv_open.proofs.Tells.{telling_with}
 use Rattle.nv_pmem.specs.Part.{Part}
 use Rattle.nv_open.specs.Unopened.{HaveSameLines, IsGood, StandAsBefore}
 use Rattle.nv_open.proofs.GivenBack.{all_of_header, at_some, first_of_header, none_of_header, read_back, read_untouched, stood_back, untouched_back}
-use Rattle.std.proofs.lemmas.Result.{IfErr-weaker}
+use Rattle.std.proofs.lemmas.Result.{IfErr-weaker, IfOk-weaker}
 use Rattle.nv_plain.specs.Layouts.{version_1}
 use Rattle.nv_header.specs.FileNames.{AreFileNames}
 use Rattle.nv_pmem.specs.Rows.{AreQuiet}
@@ -161,6 +163,20 @@ returns-clause-recovered g c =
     (telling_with (λ done. map history done.0.parts.items) c.recover_log.result state.told (map history items) (map store_history c.open_stores.new.stores.items) (λ (holding : Holding). stores_named names holding.stores)
     c.requires.given.tell lent (λ parts_tell stores_tell. c.recover_log.ensures.tell (subst AllTell (sym same) parts_tell) stores_tell))
     c.recover_log.ensures.lines
+
+pub returns-clause-rooms : goal.returns-clause-rooms
+returns-clause-rooms g c =
+    let room = g.T.Part.Lines.room in
+    let new = c.read_header.new.parts in
+    let items = c.args.parts.items in
+    let back = take c.args.parts.len (new ++ drop (length new) items) in
+    let Stay : List Room → Type 0 = StayParts (map room items) in
+    let read : Stay (map room new) =
+    parts_read room items new (subst (λ these. AllZip (λ before now. Keeps (room before) (room now)) these new) c.deref_mut.ensures.value c.in-Ok.ensures.read.rooms) in
+    let here : Stay (map room back) =
+    subst (λ these. Stay (map room these)) (sym (written_back c.args.parts.len new items (omega (arith, c.read_header.auto.parts, c.deref_mut.ensures.len)))) read in
+    IfOk-weaker c.recover_log.result (λ done. StayParts (map room back) (map room done.0.parts.items)) (λ done. Stay (map room done.0.parts.items))
+    (λ done stay. parts_stay here stay) c.recover_log.ensures.rooms
 
 pub returns-clause-given_up : goal.returns-clause-given_up
 returns-clause-given_up g c =
