@@ -55,7 +55,7 @@ version_numbered number = if number == 1 then Some One else if number == 2 then 
 
 -- the version of each region that a mount opens over, whatever version it came with, and its layout
 abbrev pub mount_version : Version
-mount_version = One
+mount_version = Two
 
 abbrev pub mount_layout : Layout
 mount_layout = layout_of mount_version

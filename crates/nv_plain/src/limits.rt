@@ -98,19 +98,19 @@ impl Version {
 pub const LONGEST_NAME: u64 = 248;
 
 /// The version of each region that a mount opens over. The limits below are those of its layout.
-pub const MOUNT_VERSION: Version = Version::One;
+pub const MOUNT_VERSION: Version = Version::Two;
 
 /// Lines of the header's part.
-pub const HEADER_LINES: u64 = 18;
+pub const HEADER_LINES: u64 = 274;
 
 /// Most bytes of a file's name.
-pub const NAME_LIMIT: u64 = 56;
+pub const NAME_LIMIT: u64 = LONGEST_NAME;
 
 /// Most files of a region.
-pub const FILE_LIMIT: u64 = 16;
+pub const FILE_LIMIT: u64 = 64;
 
 /// Most entries of a group, so most pages that a call touches.
-pub const GROUP_LIMIT: u64 = 16;
+pub const GROUP_LIMIT: u64 = 64;
 
 /// Most pages of a file.
 pub const PAGE_LIMIT: u64 = 1024;
