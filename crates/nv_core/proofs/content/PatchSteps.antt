@@ -4,6 +4,7 @@ use Rattle.std.specs.Prelude.{Option, Some, None}
 use Rattle.std.proofs.lemmas.Bool.{cases_eq, cases_lt, ne_eqb, eqb-false, leb-true, and_parts, true≢false}
 use Rattle.nv_plain.specs.Files.{overwritten}
 use Rattle.nv_plain.specs.Images.{PartImage, Image, entry_of, data_of}
+use Rattle.nv_plain.specs.Layouts.{mount_layout}
 use Rattle.nv_plain.specs.Pieces.{piece_of, piece_bytes}
 use Rattle.nv_plain.specs.declared.call.FileCall.{FileCall}
 use Rattle.nv_plain.specs.declared.call.FileCall.TheVariants.{Read, Write, Readv, Writev, Sync}
@@ -113,13 +114,13 @@ word_page sizes log core groups pieces number within ready_ =
     ap page_of (pieces.says number within ready_)
     ∙ page_is (kind_of (entry_word_at sizes core number)) (if number == (log.group number).first then (log.group number).entries else 0) (page_of_number sizes (log.group number) number) (omega arith)
     (let g = groups.each number within in let m = g.drawn.many in let s = g.allowed.short in
-    let few : (log.group number).entries ≤ 16 = omega (arith, m, s) in
+    let few : (log.group number).entries ≤ mount_layout.group_limit = omega (arith, m, s) in
     if_few (number == (log.group number).first) few)
   where
-    page_is : (kind count page : ℕ) → kind < 8 → count ≤ 16 → page_of (entry_word kind count page) ≡ page
+    page_is : (kind count page : ℕ) → kind < 8 → count ≤ mount_layout.group_limit → page_of (entry_word kind count page) ≡ page
     page_is kind count page small few = omega (arith, small, few)
 
-    if_few : (b : Bool) → (log.group number).entries ≤ 16 → (if b then (log.group number).entries else 0) ≤ 16
+    if_few : (b : Bool) → (log.group number).entries ≤ mount_layout.group_limit → (if b then (log.group number).entries else 0) ≤ mount_layout.group_limit
     if_few true few = few
     if_few false few = omega arith
 

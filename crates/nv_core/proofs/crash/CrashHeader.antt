@@ -1,5 +1,5 @@
 -- The header in images: a region's header tells, each image has one of two tails, and what else it reads stays.
-use Rattle.std.proofs.Common.{◌≡◌, ◌≢◌, ◌⊎◌, ℕ, zero, suc, ◌+◌, ◌*◌, ◌/◌, ◌%◌, ◌^◌, ◌<◌, ◌≤◌, List, Option, Some, None, take, inl, refl, sym, ap, ap₂, subst, ◌∙◌, arith}
+use Rattle.std.proofs.Common.{◌≡◌, ◌≢◌, ◌⊎◌, ℕ, zero, suc, ◌+◌, ◌-◌, ◌*◌, ◌/◌, ◌%◌, ◌^◌, ◌<◌, ◌≤◌, List, Option, Some, None, take, inl, refl, sym, ap, ap₂, subst, ◌∙◌, arith}
 use Rattle.std.specs.Prelude.{map, IsTrue}
 use Rattle.std.specs.Int.{to_le_bytes, w64}
 use Rattle.std.specs.List.{flat_map, range_with_len}
@@ -7,7 +7,7 @@ use Rattle.nv_plain.specs.Images.{Image, PartImage, header_of, name_of}
 use Rattle.nv_plain.specs.Layouts.{mount_layout}
 use Rattle.nv_pmem.specs.Limits.{IsPageSize, IsEntryCount}
 use Rattle.nv_pmem.specs.Part.{Part}
-use Rattle.nv_header.specs.Heads.{first_names, is_record, length_of, room_of_name}
+use Rattle.nv_header.specs.Heads.{first_names, is_record, length_of, record_line, room_of_name}
 use Rattle.nv_header.specs.Regions.{ReadsAs}
 use Rattle.nv_core.specs.state.Words.{Sizes, HEADER, ENTRY}
 use Rattle.nv_core.specs.state.Spares.{Spares}
@@ -69,20 +69,20 @@ module _ (image other : Image) (same : (line word : ℕ) → (line ≢ 1) ⊎ (w
   in_names line word low = same line word (inl (λ e. omega (arith, e, low)))
 
   -- the bytes of name i's record, from words of its line and those behind it
-  room_same : (i : ℕ) → flat_map (λ (k : ℕ). to_le_bytes w64 (image 0 (2 + i * 1 + k / 8) (k % 8))) (range_with_len 1 7) ≡ flat_map (λ (k : ℕ). to_le_bytes w64 (other 0 (2 + i * 1 + k / 8) (k % 8))) (range_with_len 1 7)
+  room_same : (i : ℕ) → flat_map (λ (k : ℕ). to_le_bytes w64 (image 0 (record_line mount_layout i + k / 8) (k % 8))) (range_with_len 1 (mount_layout.lines_per_name * 8 - 1)) ≡ flat_map (λ (k : ℕ). to_le_bytes w64 (other 0 (record_line mount_layout i + k / 8) (k % 8))) (range_with_len 1 (mount_layout.lines_per_name * 8 - 1))
   room_same i =
-      let words : (k : ℕ) → image 0 (2 + i * 1 + k / 8) (k % 8) ≡ other 0 (2 + i * 1 + k / 8) (k % 8) = λ k. in_names (2 + i * 1 + k / 8) (k % 8) (omega arith) in
-      let bytes : ◌≡◌ {A = ℕ → List ℕ} (λ (k : ℕ). to_le_bytes w64 (image 0 (2 + i * 1 + k / 8) (k % 8))) (λ (k : ℕ). to_le_bytes w64 (other 0 (2 + i * 1 + k / 8) (k % 8))) = λ at k. to_le_bytes w64 (words k at) in
-      ap (λ f. flat_map f (range_with_len 1 7)) bytes
+      let words : (k : ℕ) → image 0 (record_line mount_layout i + k / 8) (k % 8) ≡ other 0 (record_line mount_layout i + k / 8) (k % 8) = λ k. in_names (record_line mount_layout i + k / 8) (k % 8) (omega arith) in
+      let bytes : ◌≡◌ {A = ℕ → List ℕ} (λ (k : ℕ). to_le_bytes w64 (image 0 (record_line mount_layout i + k / 8) (k % 8))) (λ (k : ℕ). to_le_bytes w64 (other 0 (record_line mount_layout i + k / 8) (k % 8))) = λ at k. to_le_bytes w64 (words k at) in
+      ap (λ f. flat_map f (range_with_len 1 (mount_layout.lines_per_name * 8 - 1))) bytes
 
   name_same : (i : ℕ) → name_of mount_layout image i ≡ name_of mount_layout other i
-  name_same i = ap₂ take (in_names (2 + i * 1) 0 (omega arith)) (room_same i)
+  name_same i = ap₂ take (in_names (record_line mount_layout i) 0 (omega arith)) (room_same i)
 
   names_same : ◌≡◌ {A = ℕ → List ℕ} (name_of mount_layout image) (name_of mount_layout other)
   names_same = λ at i. name_same i at
 
   record_same : (i : ℕ) → is_record mount_layout.name_limit (length_of mount_layout image i) (room_of_name mount_layout image i) ≡ is_record mount_layout.name_limit (length_of mount_layout other i) (room_of_name mount_layout other i)
-  record_same i = ap₂ (is_record mount_layout.name_limit) (in_names (2 + i * 1) 0 (omega arith)) (room_same i)
+  record_same i = ap₂ (is_record mount_layout.name_limit) (in_names (record_line mount_layout i) 0 (omega arith)) (room_same i)
 
   firsts_same : first_names mount_layout image (header_of image).files ≡ first_names mount_layout other (header_of other).files
   unfolding first_names

@@ -2,6 +2,7 @@
 use Rattle.std.proofs.Common.{◌≡◌, ◌≢◌, ◌⊎◌, ℕ, ◌+◌, ◌-◌, ◌^◌, ◌<◌, ◌≤◌, ◌==◌, nat_lt, nat_le, true, if◌then◌else◌, inl, inr, refl, sym, ap, subst, ◌∙◌, arith, le_trans}
 use Rattle.std.proofs.lemmas.Bool.{cases_lt}
 use Rattle.std.proofs.lemmas.Nat.{mod_below}
+use Rattle.nv_plain.specs.Layouts.{mount_layout}
 use Rattle.nv_plain.specs.declared.call.FileCall.{FileCall}
 use Rattle.nv_core.specs.state.Words.{Sizes, Word, HEAD, TAIL, ENTRY, PAGE, kind_of, page_of, ready, held, free, filling, broken, was_readied, entry_word, is_entry_of, slot_of_entry}
 use Rattle.nv_core.specs.state.Values.{CallEnding, Made, Failed, Refused}
@@ -67,7 +68,7 @@ page_up word low = omega (arith, low)
 page_down : (word : ℕ) → 1 ≤ kind_of word → page_of (word - 1) ≡ page_of word
 page_down word low = omega (arith, low)
 
-page_is : (count page : ℕ) → count ≤ 16 → page_of (entry_word ready count page) ≡ page
+page_is : (count page : ℕ) → count ≤ mount_layout.group_limit → page_of (entry_word ready count page) ≡ page
 page_is count page few = omega (arith, few)
 
 -- the pass that steps makes no entry of a page ready
@@ -89,8 +90,8 @@ module _ (sizes : Sizes) (first : Values) (by : ℕ) (core : Core) (found : ℕ)
 
   readied_page : (next : ℕ) → FoundEnabledByKind sizes by core (Ready next) found → page_of (ready_word sizes (core.passes by) next) ≡ page_at sizes (core.passes by) next
   readied_page next may = page_is (if next == (core.passes by).first then (core.passes by).entries else 0) (page_at sizes (core.passes by) next)
-      (if_both (λ c. c ≤ 16) (next == (core.passes by).first) (core.passes by).entries 0
-      (λ _. let m = at.0.many in let a : page_count sizes (core.passes by).call ≤ 16 = (let b = ((sound.control_facts by).allowed (busy _ _ may.may refl)).short in omega (arith, b)) in omega (arith, m, a)) (λ _. omega arith))
+      (if_both (λ c. c ≤ mount_layout.group_limit) (next == (core.passes by).first) (core.passes by).entries 0
+      (λ _. let m = at.0.many in let a : page_count sizes (core.passes by).call ≤ mount_layout.group_limit = (let b = ((sound.control_facts by).allowed (busy _ _ may.may refl)).short in omega (arith, b)) in omega (arith, m, a)) (λ _. omega arith))
     where
       at : HasDrawn sizes (core.passes by).call (core.passes by).entries × IsAmong (core.passes by).first (core.passes by).entries next
       at = subst (FactsAt sizes (core.passes by)) may.may (sound.control_facts by).at

@@ -1,6 +1,7 @@
 -- Each event keeps the dirty counters.
 use Rattle.std.proofs.Common.{◌≡◌, ◌≢◌, ◌⊎◌, ◌↔◌, ℕ, ◌+◌, ◌<◌, ◌≤◌, ◌==◌, nat_lt, nat_le, ◌&&◌, ◌||◌, Bool, true, false, if◌then◌else◌, List, [], ◌∷◌, length, take, inl, inr, refl, sym, ap, subst, ◌∙◌, arith, ◌-◌}
 use Rattle.std.proofs.lemmas.Bool.{eqb-true, eqb-false, eq-eqb, ne_eqb, le-leb, lt-ltb, leb-true, ltb-true, and_parts, and_from, and_left, or_cases, cases_eq, cases_lt, cases_Bool}
+use Rattle.nv_plain.specs.Layouts.{mount_layout}
 use Rattle.nv_plain.specs.declared.call.FileCall.{FileCall}
 use Rattle.nv_core.specs.state.Words.{Sizes, Word, PAGE, ENTRY, DIRTY, index, kind_of, page_of, ready, held, filling, broken, entry_word, is_entry_of, slot_of_entry}
 use Rattle.nv_core.specs.state.Passes.{Control, TakePage, LoadStop, ReadStore, SeizeEntry, CommitGroup, PledgePage, ReadyEntry, TakePlace, SetStopAfterRead, SetStopAfterCommit, BreakEntry, Pass, without, IsUnseized, IsFilling, IsAmong, IsAllowed, page_count, first_page, end_page, times, ReadPiece, SetStopAfterPiece, Cleaning, Idle, plain_call}
@@ -203,11 +204,11 @@ entries_at sizes words slot value page less =
     omega (arith, e, f)
 
 -- a ready word is of its page
-ready_of_page : (count page other : ℕ) → count ≤ 16 → one_if (is_of_page other (entry_word ready count page)) ≡ one_if (page == other)
+ready_of_page : (count page other : ℕ) → count ≤ mount_layout.group_limit → one_if (is_of_page other (entry_word ready count page)) ≡ one_if (page == other)
 ready_of_page count page other few =
     ap one_if (ap (λ k. (k == ready || k == held) && page_of (entry_word ready count page) == other) (kind_is ready count page (omega arith)) ∙ ap (λ p. p == other) (page_is count page few))
   where
-    page_is : (count page : ℕ) → count ≤ 16 → page_of (entry_word ready count page) ≡ page
+    page_is : (count page : ℕ) → count ≤ mount_layout.group_limit → page_of (entry_word ready count page) ≡ page
     page_is count page few = omega arith
 
 -- ---- steps that pledge nothing
@@ -420,8 +421,8 @@ readies_step sizes first by core found next sound dirty may = record {
     count : ℕ
     count = if next == (core.passes by).first then (core.passes by).entries else 0
 
-    few : (if next == (core.passes by).first then (core.passes by).entries else 0) ≤ 16
-    few = if_both (λ c. c ≤ 16) (next == (core.passes by).first) (core.passes by).entries 0 (λ _. let m = at.0.many in let a : page_count sizes (core.passes by).call ≤ 16 = (let b = allowed.short in omega (arith, b)) in omega (arith, m, a)) (λ _. omega arith)
+    few : (if next == (core.passes by).first then (core.passes by).entries else 0) ≤ mount_layout.group_limit
+    few = if_both (λ c. c ≤ mount_layout.group_limit) (next == (core.passes by).first) (core.passes by).entries 0 (λ _. let m = at.0.many in let a : page_count sizes (core.passes by).call ≤ mount_layout.group_limit = (let b = allowed.short in omega (arith, b)) in omega (arith, m, a)) (λ _. omega arith)
 
     entries_now : (p : ℕ) → entries_of_page sizes (after_step sizes by (Ready next) found core).words p ≡ entries_of_page sizes core.words p + one_if (page_at sizes (core.passes by) next == p)
     entries_now p =

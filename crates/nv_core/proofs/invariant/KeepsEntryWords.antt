@@ -2,6 +2,7 @@
 use Rattle.std.proofs.Common.{◌≡◌, ℕ, ◌+◌, ◌-◌, ◌*◌, ◌/◌, ◌<◌, ◌≤◌, ◌==◌, true, if◌then◌else◌, zero, suc, refl, sym, subst, arith, mul_comm, ap, ◌∙◌}
 use Rattle.std.proofs.lemmas.Bool.{ltb-true, eqb-true, true≢false}
 use Rattle.std.proofs.lemmas.Nat.{div_below}
+use Rattle.nv_plain.specs.Layouts.{mount_layout}
 use Rattle.nv_plain.specs.declared.call.FileCall.{FileCall}
 use Rattle.nv_plain.specs.declared.call.FileCall.TheVariants.{Read, Write, Readv, Writev, Sync}
 use Rattle.nv_core.specs.state.Words.{Sizes, ENTRY, same, page_total, free, filling, broken, ready, held, cleaned, kind_of, is_entry_of, slot_of_entry}
@@ -82,7 +83,7 @@ words_step sizes first by core (Ready next) found sound words may =
     record {
       each = λ slot. changed_word sizes core (slot_of_entry sizes next) (ready_word sizes (core.passes by) next) words
           (SaysReadied ready (if next == (core.passes by).first then (core.passes by).entries else 0) (page_at sizes (core.passes by) next) (omega arith) (omega arith) refl
-          (if_both (λ c. c ≤ 16) (next == (core.passes by).first) (core.passes by).entries 0 (λ _. let m = at.0.many in let a : page_count sizes (core.passes by).call ≤ 16 = (let b = allowed.short in omega (arith, b)) in omega (arith, m, a)) (λ _. omega arith))
+          (if_both (λ c. c ≤ mount_layout.group_limit) (next == (core.passes by).first) (core.passes by).entries 0 (λ _. let m = at.0.many in let a : page_count sizes (core.passes by).call ≤ mount_layout.group_limit = (let b = allowed.short in omega (arith, b)) in omega (arith, m, a)) (λ _. omega arith))
           (let x = at.1.0 in let y = at.1.1 in let m = at.0.many in omega (arith, x, y, m, most))) slot;
     }
 words_step sizes first by core (Hold next) found sound words may =

@@ -1,5 +1,6 @@
 -- The batch walks are runs.
 use Rattle.std.proofs.Common.{◌≡◌, Some, replicate, option_map, refl, arith}
+use Rattle.nv_plain.specs.Layouts.{mount_layout}
 use Rattle.nv_pmem.specs.Part.{newest, stored, flushed, fenced, word_at}
 use Rattle.nv_pmem.specs.Steps.{Fence, Flush, StoreWord, line_stores, durable_store}
 use Rattle.nv_store.specs.Store.{quiet_store, marked}
@@ -8,7 +9,7 @@ use Rattle.nv_entry.specs.Group.{group_steps, pieces_steps, piece_steps, data_st
 use Rattle.nv_core.specs.state.Words.{HEADER, ENTRY}
 use Rattle.nv_core.specs.state.Values.{APart}
 use Rattle.nv_core.specs.steps.Order.{SaysPieceOf}
-use Rattle.nv_core.specs.walks.Walks.{walk_sizes, walk_bytes, walk_spares}
+use Rattle.nv_core.specs.walks.Walks.{walk_sizes, walk_bytes, header_spares}
 use Rattle.nv_core.specs.walks.DirtyWalks.{dirty_core}
 use Rattle.nv_core.specs.walks.BatchWalks.{walk_batch, once_written_back, twice_written_back, moved_header, batch_core, BatchIsWalked}
 use Rattle.nv_core.proofs.walks.WalkRooms.{any_stays}
@@ -33,14 +34,14 @@ unfolding marked
 second_leaves = refl
 
 -- the header's part with the new tail
-header_moves : batch_core.values HEADER ≡ APart record { told = Some moved_header; faults = 0; identity = 0 } (walk_spares 18)
+header_moves : batch_core.values HEADER ≡ APart record { told = Some moved_header; faults = 0; identity = 0 } header_spares
 unfolding newest stored flushed fenced
 header_moves = refl
 
 pub batch_is_walked : BatchIsWalked
 unfolding group_steps pieces_steps piece_steps data_steps entry_field_steps line_stores durable_store
 batch_is_walked = record {
-  is_run = tabled walk_sizes dirty_core walk_batch refl (come walk_sizes 0 _ _ refl (λ none. none) record { due = record { at = 0; bytes = walk_bytes; cell = refl; job = refl; says = first_says }; ends = tt; leaves = tt; here = refl }, (come walk_sizes 0 _ _ refl (λ none. none) record { due = record { at = 0; bytes = walk_bytes; left = Some once_written_back; cell = refl; job = refl; says = first_says }; ends = tt; leaves = first_leaves; here = refl }, (come walk_sizes 0 _ _ refl (λ none. none) record { due = record { at = 64; bytes = walk_bytes; cell = refl; job = refl; says = second_says }; ends = tt; leaves = tt; here = refl }, (come walk_sizes 0 _ _ refl (λ none. none) record { due = record { at = 64; bytes = walk_bytes; left = Some twice_written_back; cell = refl; job = refl; says = second_says }; ends = tt; leaves = second_leaves; here = refl }, (come walk_sizes 0 _ _ refl (λ none. none) record { due = (refl, refl); ends = tt; leaves = tt; here = refl }, (come walk_sizes 0 _ _ refl (λ none. none) record { due = record { step = StoreWord 1 0 2; there = omega arith; at = refl; cell = refl; spares = walk_spares 18; job = refl }; ends = tt; leaves = any_stays 18 (StoreWord 1 0 2) refl; here = refl }, (come walk_sizes 0 _ _ refl (λ none. none) record { due = record { step = Flush 1; there = omega arith; at = refl; cell = refl; spares = walk_spares 18; job = refl }; ends = tt; leaves = any_stays 18 (Flush 1) refl; here = refl }, (come walk_sizes 0 _ _ refl (λ none. none) record { due = record { step = Fence; there = omega arith; at = refl; cell = refl; spares = walk_spares 18; job = refl }; ends = tt; leaves = any_stays 18 Fence refl; here = refl }, tt))))))));
+  is_run = tabled walk_sizes dirty_core walk_batch refl (come walk_sizes 0 _ _ refl (λ none. none) record { due = record { at = 0; bytes = walk_bytes; cell = refl; job = refl; says = first_says }; ends = tt; leaves = tt; here = refl }, (come walk_sizes 0 _ _ refl (λ none. none) record { due = record { at = 0; bytes = walk_bytes; left = Some once_written_back; cell = refl; job = refl; says = first_says }; ends = tt; leaves = first_leaves; here = refl }, (come walk_sizes 0 _ _ refl (λ none. none) record { due = record { at = 64; bytes = walk_bytes; cell = refl; job = refl; says = second_says }; ends = tt; leaves = tt; here = refl }, (come walk_sizes 0 _ _ refl (λ none. none) record { due = record { at = 64; bytes = walk_bytes; left = Some twice_written_back; cell = refl; job = refl; says = second_says }; ends = tt; leaves = second_leaves; here = refl }, (come walk_sizes 0 _ _ refl (λ none. none) record { due = (refl, refl); ends = tt; leaves = tt; here = refl }, (come walk_sizes 0 _ _ refl (λ none. none) record { due = record { step = StoreWord 1 0 2; there = omega arith; at = refl; cell = refl; spares = header_spares; job = refl }; ends = tt; leaves = any_stays mount_layout.header_lines (StoreWord 1 0 2) refl; here = refl }, (come walk_sizes 0 _ _ refl (λ none. none) record { due = record { step = Flush 1; there = omega arith; at = refl; cell = refl; spares = header_spares; job = refl }; ends = tt; leaves = any_stays mount_layout.header_lines (Flush 1) refl; here = refl }, (come walk_sizes 0 _ _ refl (λ none. none) record { due = record { step = Fence; there = omega arith; at = refl; cell = refl; spares = header_spares; job = refl }; ends = tt; leaves = any_stays mount_layout.header_lines Fence refl; here = refl }, tt))))))));
   words = refl;
   rests = (refl, refl);
   store = refl;

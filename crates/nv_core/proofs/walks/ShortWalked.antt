@@ -1,5 +1,6 @@
 -- The short walks are runs.
 use Rattle.std.proofs.Common.{◌≡◌, ℕ, zero, suc, ◌-◌, ◌^◌, ◌<◌, ◌≤◌, [], ◌∷◌, ◌++◌, None, replicate, inl, inr, refl, arith}
+use Rattle.nv_plain.specs.Layouts.{mount_layout}
 use Rattle.nv_plain.specs.declared.call.FileCall.TheVariants.{Write}
 use Rattle.nv_pmem.specs.Steps.{StoreWord, Flush, Fence, line_stores, durable_store}
 use Rattle.nv_entry.specs.Group.{group_steps, pieces_steps, piece_steps, data_steps, entry_field_steps}
@@ -8,7 +9,7 @@ use Rattle.nv_core.specs.state.Words.{STOP, ORDER, HEAD, CLEANER, LENGTH, SIZE, 
 use Rattle.nv_core.specs.state.Passes.{AreBytes, IsOneOf}
 use Rattle.nv_core.specs.steps.Opening.{IsMount, opening}
 use Rattle.nv_core.specs.steps.Events.{after_run}
-use Rattle.nv_core.specs.walks.Walks.{walk_spares, commit_call}
+use Rattle.nv_core.specs.walks.Walks.{walk_spares, header_spares, commit_call}
 use Rattle.nv_core.specs.walks.ShortWalks.{short_sizes, short_mount, walk_grows, grown_core, walk_again, walk_spent, walk_raced, walk_joins, cleaned_events, retires, walk_refuses, walk_read_piece_fails, walk_write_back_fails, walk_sync_fails, walk_move_fails, walk_stores_held, walk_read_fails, walk_piece_fails, of_cleaner, IsShort, ShortWalks}
 use Rattle.nv_core.proofs.walks.WalkRooms.{any_stays, fault_stays, takes_15}
 use Rattle.nv_core.proofs.steps.Tabled.{come, tabled}
@@ -45,7 +46,7 @@ joins_walked = record { is_run = tabled short_sizes grown_core walk_joins refl (
 
 retires_walked : IsShort grown_core (cleaned_events ++ retires) of_cleaner (0 ∷ 0 ∷ 0 ∷ 0 ∷ 3 ∷ 0 ∷ 0 ∷ 0 ∷ 0 ∷ 0 ∷ 0 ∷ [])
 unfolding group_steps pieces_steps piece_steps data_steps entry_field_steps line_stores durable_store
-retires_walked = record { is_run = tabled short_sizes grown_core (cleaned_events ++ retires) refl (come short_sizes 1 _ _ refl (λ none. none) record { due = record { at = 252; bytes = replicate 4 7; cell = refl; job = refl; says = omega arith }; ends = tt; leaves = tt; here = refl }, (come short_sizes 1 _ _ refl (λ none. none) record { due = record { at = 252; bytes = replicate 4 7; left = None; cell = refl; job = refl; says = omega arith }; ends = tt; leaves = refl; here = refl }, (come short_sizes 1 _ _ refl (λ none. none) record { due = record { at = 256; bytes = replicate 64 7; cell = refl; job = refl; says = omega arith }; ends = tt; leaves = tt; here = refl }, (come short_sizes 1 _ _ refl (λ none. none) record { due = record { at = 256; bytes = replicate 64 7; left = None; cell = refl; job = refl; says = omega arith }; ends = tt; leaves = refl; here = refl }, (come short_sizes 1 _ _ refl (λ none. none) record { due = record { at = 320; bytes = replicate 2 7; cell = refl; job = refl; says = omega arith }; ends = tt; leaves = tt; here = refl }, (come short_sizes 1 _ _ refl (λ none. none) record { due = record { at = 320; bytes = replicate 2 7; left = None; cell = refl; job = refl; says = omega arith }; ends = tt; leaves = refl; here = refl }, (come short_sizes 1 _ _ refl (λ none. none) record { due = (refl, refl); ends = tt; leaves = tt; here = refl }, (come short_sizes 1 _ _ refl (λ none. none) record { due = record { step = (StoreWord 1 0 3); there = omega arith; at = refl; cell = refl; spares = walk_spares 18; job = refl }; ends = tt; leaves = any_stays 18 (StoreWord 1 0 3) refl; here = refl }, (come short_sizes 1 _ _ refl (λ none. none) record { due = record { step = (Flush 1); there = omega arith; at = refl; cell = refl; spares = walk_spares 18; job = refl }; ends = tt; leaves = any_stays 18 (Flush 1) refl; here = refl }, (come short_sizes 1 _ _ refl (λ none. none) record { due = record { step = Fence; there = omega arith; at = refl; cell = refl; spares = walk_spares 18; job = refl }; ends = tt; leaves = any_stays 18 Fence refl; here = refl }, tt)))))))))); says = refl }
+retires_walked = record { is_run = tabled short_sizes grown_core (cleaned_events ++ retires) refl (come short_sizes 1 _ _ refl (λ none. none) record { due = record { at = 252; bytes = replicate 4 7; cell = refl; job = refl; says = omega arith }; ends = tt; leaves = tt; here = refl }, (come short_sizes 1 _ _ refl (λ none. none) record { due = record { at = 252; bytes = replicate 4 7; left = None; cell = refl; job = refl; says = omega arith }; ends = tt; leaves = refl; here = refl }, (come short_sizes 1 _ _ refl (λ none. none) record { due = record { at = 256; bytes = replicate 64 7; cell = refl; job = refl; says = omega arith }; ends = tt; leaves = tt; here = refl }, (come short_sizes 1 _ _ refl (λ none. none) record { due = record { at = 256; bytes = replicate 64 7; left = None; cell = refl; job = refl; says = omega arith }; ends = tt; leaves = refl; here = refl }, (come short_sizes 1 _ _ refl (λ none. none) record { due = record { at = 320; bytes = replicate 2 7; cell = refl; job = refl; says = omega arith }; ends = tt; leaves = tt; here = refl }, (come short_sizes 1 _ _ refl (λ none. none) record { due = record { at = 320; bytes = replicate 2 7; left = None; cell = refl; job = refl; says = omega arith }; ends = tt; leaves = refl; here = refl }, (come short_sizes 1 _ _ refl (λ none. none) record { due = (refl, refl); ends = tt; leaves = tt; here = refl }, (come short_sizes 1 _ _ refl (λ none. none) record { due = record { step = (StoreWord 1 0 3); there = omega arith; at = refl; cell = refl; spares = header_spares; job = refl }; ends = tt; leaves = any_stays mount_layout.header_lines (StoreWord 1 0 3) refl; here = refl }, (come short_sizes 1 _ _ refl (λ none. none) record { due = record { step = (Flush 1); there = omega arith; at = refl; cell = refl; spares = header_spares; job = refl }; ends = tt; leaves = any_stays mount_layout.header_lines (Flush 1) refl; here = refl }, (come short_sizes 1 _ _ refl (λ none. none) record { due = record { step = Fence; there = omega arith; at = refl; cell = refl; spares = header_spares; job = refl }; ends = tt; leaves = any_stays mount_layout.header_lines Fence refl; here = refl }, tt)))))))))); says = refl }
 
 refuses_walked : IsShort grown_core walk_refuses of_cleaner (0 ∷ 3098 ∷ 4098 ∷ 5122 ∷ 0 ∷ 0 ∷ 0 ∷ 0 ∷ 0 ∷ 0 ∷ 0 ∷ [])
 unfolding group_steps pieces_steps piece_steps data_steps entry_field_steps line_stores durable_store
@@ -65,7 +66,7 @@ sync_fails_walked = record { is_run = tabled short_sizes grown_core walk_sync_fa
 
 move_fails_walked : IsShort grown_core walk_move_fails of_cleaner (1 ∷ 3100 ∷ 4100 ∷ 5124 ∷ 0 ∷ 0 ∷ 0 ∷ 0 ∷ 0 ∷ 0 ∷ 0 ∷ [])
 unfolding group_steps pieces_steps piece_steps data_steps entry_field_steps line_stores durable_store
-move_fails_walked = record { is_run = tabled short_sizes grown_core walk_move_fails refl (come short_sizes 1 _ _ refl (λ none. none) record { due = record { at = 252; bytes = replicate 4 7; cell = refl; job = refl; says = omega arith }; ends = tt; leaves = tt; here = refl }, (come short_sizes 1 _ _ refl (λ none. none) record { due = record { at = 252; bytes = replicate 4 7; left = None; cell = refl; job = refl; says = omega arith }; ends = tt; leaves = refl; here = refl }, (come short_sizes 1 _ _ refl (λ none. none) record { due = record { at = 256; bytes = replicate 64 7; cell = refl; job = refl; says = omega arith }; ends = tt; leaves = tt; here = refl }, (come short_sizes 1 _ _ refl (λ none. none) record { due = record { at = 256; bytes = replicate 64 7; left = None; cell = refl; job = refl; says = omega arith }; ends = tt; leaves = refl; here = refl }, (come short_sizes 1 _ _ refl (λ none. none) record { due = record { at = 320; bytes = replicate 2 7; cell = refl; job = refl; says = omega arith }; ends = tt; leaves = tt; here = refl }, (come short_sizes 1 _ _ refl (λ none. none) record { due = record { at = 320; bytes = replicate 2 7; left = None; cell = refl; job = refl; says = omega arith }; ends = tt; leaves = refl; here = refl }, (come short_sizes 1 _ _ refl (λ none. none) record { due = (refl, refl); ends = tt; leaves = tt; here = refl }, (come short_sizes 1 _ _ refl (λ none. none) record { due = record { step = (StoreWord 1 0 3); there = omega arith; at = refl; cell = refl; spares = walk_spares 18; job = refl }; ends = record { never_falls = omega arith; more = omega arith }; leaves = fault_stays 18 (StoreWord 1 0 3); here = refl }, tt)))))))); says = refl }
+move_fails_walked = record { is_run = tabled short_sizes grown_core walk_move_fails refl (come short_sizes 1 _ _ refl (λ none. none) record { due = record { at = 252; bytes = replicate 4 7; cell = refl; job = refl; says = omega arith }; ends = tt; leaves = tt; here = refl }, (come short_sizes 1 _ _ refl (λ none. none) record { due = record { at = 252; bytes = replicate 4 7; left = None; cell = refl; job = refl; says = omega arith }; ends = tt; leaves = refl; here = refl }, (come short_sizes 1 _ _ refl (λ none. none) record { due = record { at = 256; bytes = replicate 64 7; cell = refl; job = refl; says = omega arith }; ends = tt; leaves = tt; here = refl }, (come short_sizes 1 _ _ refl (λ none. none) record { due = record { at = 256; bytes = replicate 64 7; left = None; cell = refl; job = refl; says = omega arith }; ends = tt; leaves = refl; here = refl }, (come short_sizes 1 _ _ refl (λ none. none) record { due = record { at = 320; bytes = replicate 2 7; cell = refl; job = refl; says = omega arith }; ends = tt; leaves = tt; here = refl }, (come short_sizes 1 _ _ refl (λ none. none) record { due = record { at = 320; bytes = replicate 2 7; left = None; cell = refl; job = refl; says = omega arith }; ends = tt; leaves = refl; here = refl }, (come short_sizes 1 _ _ refl (λ none. none) record { due = (refl, refl); ends = tt; leaves = tt; here = refl }, (come short_sizes 1 _ _ refl (λ none. none) record { due = record { step = (StoreWord 1 0 3); there = omega arith; at = refl; cell = refl; spares = header_spares; job = refl }; ends = record { never_falls = omega arith; more = omega arith }; leaves = fault_stays mount_layout.header_lines (StoreWord 1 0 3); here = refl }, tt)))))))); says = refl }
 
 stores_held_walked : IsShort grown_core walk_stores_held of_cleaner (0 ∷ 3098 ∷ 4098 ∷ 5122 ∷ 0 ∷ 0 ∷ 0 ∷ 0 ∷ 0 ∷ 0 ∷ 0 ∷ [])
 unfolding group_steps pieces_steps piece_steps data_steps entry_field_steps line_stores durable_store
@@ -89,7 +90,7 @@ short_begins next small = record {
   small = small;
   buffers = record { many = refl };
   ready = λ slot less. record { lines = omega arith; spare = λ line below. (takes_15 2 line below).0 };
-  header = record { there = omega arith; spare = λ line below. (takes_15 18 line below).0 };
+  header = record { there = omega arith; spare = λ line below. (takes_15 mount_layout.header_lines line below).0 };
 }
 
 pub short_walks : ShortWalks

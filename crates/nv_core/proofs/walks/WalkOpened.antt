@@ -1,5 +1,5 @@
 -- The walks' mount opens a file and an empty log.
-use Rattle.std.proofs.Common.{◌≡◌, ℕ, zero, suc, ◌+◌, ◌<◌, nat_lt, false, List, [], ◌∷◌, length, replicate, slice_index_or, Option, Some, None, refl, sym, ap, subst, ◌∙◌, arith}
+use Rattle.std.proofs.Common.{◌≡◌, ℕ, zero, suc, ◌+◌, ◌<◌, nat_lt, false, List, [], ◌∷◌, ◌++◌, length, replicate, slice_index_or, Option, Some, None, refl, sym, ap, subst, ◌∙◌, arith}
 use Rattle.nv_plain.specs.Files.{contents_of}
 use Rattle.nv_plain.specs.Layouts.{mount_layout}
 use Rattle.nv_header.specs.Heads.{IsGoodName, first_names, header_image}
@@ -13,7 +13,7 @@ use Rattle.nv_core.specs.state.Words.{PAGE, STORE}
 use Rattle.nv_core.specs.state.Values.{ABuffer, is_valid}
 use Rattle.nv_core.specs.log.Written.{CommitsNone}
 use Rattle.nv_core.specs.content.StorePages.{store_of_value}
-use Rattle.nv_core.specs.walks.Walks.{walk_sizes, walk_header, walk_values}
+use Rattle.nv_core.specs.walks.Walks.{walk_sizes, durable_line, walk_header, walk_values}
 use Rattle.nv_core.specs.walks.WalkOpens.{walk_files, WalkOpensFiles, WalkOpensLog, WalkOpensRegion}
 use Rattle.nv_core.proofs.state.Choices.{if_both}
 
@@ -56,6 +56,11 @@ module _ (blank : BlankIsQuiet) where
   quiet_line : (count line : ℕ) → IsQuietLine (line_of (replicate count blank_line) line)
   quiet_line count line = subst IsQuietLine (sym (blank_each count line)) blank
 
+  quiet_behind : (count : ℕ) (behind : Part) → ((line : ℕ) → IsQuietLine (line_of behind line)) → (line : ℕ) → IsQuietLine (line_of (replicate count blank_line ++ behind) line)
+  quiet_behind zero behind each line = each line
+  quiet_behind (suc count) behind each zero = blank
+  quiet_behind (suc count) behind each (suc line) = quiet_behind count behind each line
+
   quiet : (count : ℕ) → IsQuietPart (replicate count blank_line)
   quiet count = record { lines = quiet_line count }
 
@@ -63,11 +68,14 @@ module _ (blank : BlankIsQuiet) where
   unfolding IsQuietLine
   header_quiet = record { lines = lines }
     where
+      named : (line : ℕ) → IsQuietLine (line_of (durable_line (1 ∷ 97 ∷ 0 ∷ 0 ∷ 0 ∷ 0 ∷ 0 ∷ 0 ∷ []) ∷ replicate 255 blank_line) line)
+      named zero = refl
+      named (suc line) = quiet_line 255 line
+
       lines : (line : ℕ) → IsQuietLine (line_of walk_header line)
       lines zero = refl
       lines (suc zero) = refl
-      lines (suc (suc zero)) = refl
-      lines (suc (suc (suc line))) = quiet_line 15 line
+      lines (suc (suc line)) = quiet_behind 16 (durable_line (1 ∷ 97 ∷ 0 ∷ 0 ∷ 0 ∷ 0 ∷ 0 ∷ 0 ∷ []) ∷ replicate 255 blank_line) named line
 
   commits_none : BlankIsZeros → QuietPartHasOneImage → (slot : ℕ) → InEachPartImage (CommitsNone walk_sizes 0 slot) (replicate 2 blank_line)
   commits_none zeros one_image slot image left number at low e =

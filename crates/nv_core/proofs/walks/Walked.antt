@@ -1,5 +1,6 @@
 -- The walks are runs.
 use Rattle.std.proofs.Common.{replicate, refl, arith}
+use Rattle.nv_plain.specs.Layouts.{mount_layout}
 use Rattle.nv_plain.specs.declared.call.FileCall.TheVariants.{Read, Write}
 use Rattle.nv_pmem.specs.Steps.{line_stores, durable_store}
 use Rattle.nv_entry.specs.Group.{group_steps, pieces_steps, piece_steps, data_steps, entry_field_steps}
@@ -61,7 +62,7 @@ search_is_walked = record {
     small = omega arith;
     buffers = record { many = refl };
     ready = λ slot less. record { lines = omega arith; spare = λ line below. (takes_15 2 line below).0 };
-    header = record { there = omega arith; spare = λ line below. (takes_15 18 line below).0 };
+    header = record { there = omega arith; spare = λ line below. (takes_15 mount_layout.header_lines line below).0 };
   };
   is_run = tabled walk_sizes (opening long_mount) walk_search refl (
     record { known = omega arith; near = omega arith; short = omega arith; plain = refl; bytes = tt },
@@ -89,5 +90,5 @@ walk_begins = record {
   small = omega arith;
   buffers = record { many = refl };
   ready = λ slot less. record { lines = omega arith; spare = λ line below. (takes_15 2 line below).0 };
-  header = record { there = omega arith; spare = λ line below. (takes_15 18 line below).0 };
+  header = record { there = omega arith; spare = λ line below. (takes_15 mount_layout.header_lines line below).0 };
 }

@@ -11,7 +11,7 @@ use Rattle.nv_core.specs.state.Cleaner as cleaner
 use Rattle.nv_core.specs.steps.Ops.{ByCleaner}
 use Rattle.nv_core.specs.state.Core.{Core}
 use Rattle.nv_core.specs.steps.Events.{TakesStep, CallsDevice, Event, after_run, IsRun}
-use Rattle.nv_core.specs.walks.Walks.{walk_sizes, walk_spares, walk_header, durable_line, walk_bytes, rows_after, acts}
+use Rattle.nv_core.specs.walks.Walks.{walk_sizes, header_spares, walk_header, durable_line, walk_bytes, rows_after, acts}
 use Rattle.nv_core.specs.walks.DirtyWalks.{dirty_core}
 
 -- the file's bytes with both writes
@@ -63,9 +63,9 @@ walk_batch =
     ∷ by_cleaner (Subtract 1) 1
     ∷ by_cleaner (cleaner.Give (CLEANUP 1)) 1
     ∷ works (STORE 0) StoreSync
-    ∷ works HEADER (PartStep (StoreWord 1 0 2) (walk_spares 18))
-    ∷ works HEADER (PartStep (Flush 1) (walk_spares 18))
-    ∷ works HEADER (PartStep Fence (walk_spares 18))
+    ∷ works HEADER (PartStep (StoreWord 1 0 2) header_spares)
+    ∷ works HEADER (PartStep (Flush 1) header_spares)
+    ∷ works HEADER (PartStep Fence header_spares)
     ∷ by_cleaner (Free 0) 12
     ∷ by_cleaner (Free 1) 1036
     ∷ by_cleaner (MoveTail 2) 0
@@ -109,4 +109,4 @@ pub record BatchIsWalked : Type 0 where
       ∷ []
   pub rests : ((batch_core.passes 0).control ≡ Idle) × ((batch_core.passes 0).owned ≡ [])
   pub store : batch_core.values (STORE 0) ≡ AStore record { told = Some (quiet_store both_bytes); faults = 0; identity = 17 }
-  pub header : batch_core.values HEADER ≡ APart record { told = Some moved_header; faults = 0; identity = 0 } (walk_spares 18)
+  pub header : batch_core.values HEADER ≡ APart record { told = Some moved_header; faults = 0; identity = 0 } header_spares

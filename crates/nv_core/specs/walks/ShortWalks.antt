@@ -15,7 +15,7 @@ use Rattle.nv_core.specs.steps.Order.{Values}
 use Rattle.nv_core.specs.state.Core.{Core}
 use Rattle.nv_core.specs.steps.Events.{BeginsCall, TakesStep, CallsDevice, Event, after_run, IsRun}
 use Rattle.nv_core.specs.steps.Opening.{Mount, IsMount, opening}
-use Rattle.nv_core.specs.walks.Walks.{walk_sizes, walk_spares, walk_values, acts, commits}
+use Rattle.nv_core.specs.walks.Walks.{walk_sizes, walk_spares, header_spares, walk_values, acts, commits}
 
 -- the walks' mount with a log of four entries, a file of five pages, and devices that tell nothing
 abbrev pub short_sizes : Sizes
@@ -23,7 +23,7 @@ short_sizes = record walk_sizes { entries = 4 }
 
 abbrev pub short_values : Values
 short_values (ENTRY slot) = APart record { told = None; faults = 0; identity = slot + 1 } (walk_spares 2)
-short_values HEADER = APart record { told = None; faults = 0; identity = 0 } (walk_spares 18)
+short_values HEADER = APart record { told = None; faults = 0; identity = 0 } header_spares
 short_values (STORE zero) = AStore record { told = None; faults = 0; identity = 5 }
 short_values word = walk_values word
 
@@ -256,9 +256,9 @@ withdraws = cleaners (cleaner.Give HEADER) 1 ∷ cleaners (cleaner.Give CLEANER)
 abbrev pub retires : List Event
 retires =
     calls 1 (STORE 0) StoreSync Made
-    ∷ calls 1 HEADER (PartStep (StoreWord 1 0 3) (walk_spares 18)) Made
-    ∷ calls 1 HEADER (PartStep (Flush 1) (walk_spares 18)) Made
-    ∷ calls 1 HEADER (PartStep Fence (walk_spares 18)) Made
+    ∷ calls 1 HEADER (PartStep (StoreWord 1 0 3) header_spares) Made
+    ∷ calls 1 HEADER (PartStep (Flush 1) header_spares) Made
+    ∷ calls 1 HEADER (PartStep Fence header_spares) Made
     ∷ cleaners (Free 0) 3100
     ∷ cleaners (Free 1) 4100
     ∷ cleaners (Free 2) 5124
@@ -320,7 +320,7 @@ abbrev pub walk_move_fails : List Event
 walk_move_fails =
     cleaned_events
     ++ (calls 1 (STORE 0) StoreSync Made
-    ∷ calls 1 HEADER (PartStep (StoreWord 1 0 3) (walk_spares 18)) (Failed true 1)
+    ∷ calls 1 HEADER (PartStep (StoreWord 1 0 3) header_spares) (Failed true 1)
     ∷ cleaners cleaner.Stop 0
     ∷ cleaners (cleaner.Give (STORE 0)) 1
     ∷ withdraws)

@@ -3,6 +3,7 @@ use Rattle.std.specs.Prelude.{◌≡◌, ℕ, zero, ◌+◌, true, false, List, 
 use Rattle.nv_plain.specs.declared.call.FileCall.TheVariants.{Read, Write}
 use Rattle.nv_plain.specs.declared.call.Reply.TheVariants.{Bytes, Count}
 use Rattle.nv_plain.specs.Images.{header_magic}
+use Rattle.nv_plain.specs.Layouts.{mount_layout}
 use Rattle.nv_pmem.specs.Part.{Line, Part, blank_line}
 use Rattle.nv_pmem.specs.Picked.{settled}
 use Rattle.nv_pmem.specs.Rows.{RowStep}
@@ -31,16 +32,20 @@ walk_spares lines = replicate lines (15, 15)
 abbrev pub durable_line : List ℕ → Line
 durable_line words = settled words
 
--- the header's part of 18 lines: version 1, pages of 64 bytes, 16 entries and one file; tail 0; the file's name, which is "a"
+-- what the header's part can take
+abbrev pub header_spares : Spares
+header_spares = walk_spares mount_layout.header_lines
+
+-- the header's part of 274 lines: version 2, pages of 64 bytes, 16 entries and one file; tail 0; and in line 18 the file's name, which is "a"
 abbrev pub walk_header : Part
 walk_header =
-    durable_line (header_magic ∷ 1 ∷ 64 ∷ 16 ∷ 1 ∷ 0 ∷ 0 ∷ 0 ∷ []) ∷ blank_line ∷ durable_line (1 ∷ 97 ∷ 0 ∷ 0 ∷ 0 ∷ 0 ∷ 0 ∷ 0 ∷ [])
-    ∷ replicate 15 blank_line
+    durable_line (header_magic ∷ 2 ∷ 64 ∷ 16 ∷ 1 ∷ 0 ∷ 0 ∷ 0 ∷ []) ∷ blank_line
+    ∷ (replicate 16 blank_line ++ (durable_line (1 ∷ 97 ∷ 0 ∷ 0 ∷ 0 ∷ 0 ∷ 0 ∷ 0 ∷ []) ∷ replicate 255 blank_line))
 
 -- what the cells keep: that header's part and entry parts of two blank lines, a store of 128 bytes, and buffers in the first four pages
 abbrev pub walk_values : Values
 walk_values (ENTRY slot) = APart record { told = Some (replicate 2 blank_line); faults = 0; identity = slot + 1 } (walk_spares 2)
-walk_values HEADER = APart record { told = Some walk_header; faults = 0; identity = 0 } (walk_spares 18)
+walk_values HEADER = APart record { told = Some walk_header; faults = 0; identity = 0 } header_spares
 walk_values (STORE zero) = AStore record { told = Some (quiet_store (replicate 128 97)); faults = 0; identity = 17 }
 walk_values (PAGE page) = ABuffer (if nat_lt page 4 then Some record { bytes = []; valid = false } else None)
 walk_values word = Bare
