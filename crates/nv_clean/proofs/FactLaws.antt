@@ -1,6 +1,7 @@
 -- Facts: what the invariant says of a batch by where it stands.
 use Rattle.std.proofs.Common.{◌≡◌, ◌≢◌, ℕ, zero, suc, ◌+◌, ◌-◌, ◌<◌, ◌≤◌, Bool, true, false, if◌then◌else◌, List, [], ◌∷◌, length, refl, ap, subst, ◌∙◌, arith}
 use Rattle.std.specs.Prelude.{Some}
+use Rattle.nv_plain.specs.Layouts.{mount_layout}
 use Rattle.nv_core.specs.state.Words.{Sizes, Word, ENTRY, IsWord}
 use Rattle.nv_core.specs.state.Cleaner.{Batch, CleanerControl, CleanerOp as CoreCleanerOp}
 use Rattle.nv_core.specs.state.Cleaner as cleaner
@@ -17,11 +18,12 @@ use Rattle.nv_core.proofs.invariant.LockLaws.{times_here}
 use Rattle.nv_clean.specs.declared.batch.CleanControl.{CleanControl}
 use Rattle.nv_clean.specs.declared.batch.CleanControl.TheVariants as cleans
 use Rattle.nv_clean.specs.Cleaning.{ComesBehind, IsLow, IsPlace, FitsAt, OwnsAt, IsLockFirst, control_at, inner_at}
+use Rattle.nv_clean.specs.OwnedCells.{most_cells}
 use Rattle.nv_clean.proofs.RoomLaws.{count_taken, owns_few}
 
 -- ENTRY of a leader that is passed says how many entries its group has, and it is known at its followers'
 abbrev pub IsCounted : Batch → CleanControl → (found : ℕ) → Type 0
-IsCounted batch (cleans.LoadEntry i) found = (i ≡ 0 → may_pass batch found ≡ true → (1 ≤ count_of found) × (count_of found ≤ 16)) × (i ≢ 0 → i < batch.count)
+IsCounted batch (cleans.LoadEntry i) found = (i ≡ 0 → may_pass batch found ≡ true → (1 ≤ count_of found) × (count_of found ≤ mount_layout.group_limit)) × (i ≢ 0 → i < batch.count)
 IsCounted batch control found = Unit {0}
 
 -- what comes behind device calls loads no ENTRY
@@ -57,7 +59,7 @@ module _ (sizes : Sizes) (first : Values) (core : Core) (by : ℕ) (sound : Soun
   }
 
   -- its group has an entry, and is no larger than one may be
-  pub counts : (inner : CleanerControl) → Is inner → HasLoadedTail inner → 0 < length batch.pages → (1 ≤ batch.count) × (batch.count ≤ 16)
+  pub counts : (inner : CleanerControl) → Is inner → HasLoadedTail inner → 0 < length batch.pages → (1 ≤ batch.count) × (batch.count ≤ mount_layout.group_limit)
   counts inner at loaded some =
       let w = way inner at loaded in
       let there : InWindow core (batch.reached + 0) = (w.looked 0 some).within in
@@ -69,10 +71,10 @@ module _ (sizes : Sizes) (first : Values) (core : Core) (by : ℕ) (sound : Soun
       let short = group.allowed.short in
       (omega (arith, count, least), omega (arith, count, many, short))
 
-  few : (inner : CleanerControl) → Is inner → HasLoadedTail inner → 0 < length batch.pages → batch.count ≤ 16
+  few : (inner : CleanerControl) → Is inner → HasLoadedTail inner → 0 < length batch.pages → batch.count ≤ mount_layout.group_limit
   few inner at loaded some = (counts inner at loaded some).1
 
-  whole_few : (inner : CleanerControl) → Is inner → HasLoadedTail inner → HasWholeGroup inner → 0 < length batch.pages → length batch.pages ≤ 16
+  whole_few : (inner : CleanerControl) → Is inner → HasLoadedTail inner → HasWholeGroup inner → 0 < length batch.pages → length batch.pages ≤ mount_layout.group_limit
   whole_few inner at loaded whole some = let w = (way inner at loaded).whole whole in let f = few inner at loaded some in omega (arith, w, f)
 
   -- ---- its numbers
@@ -132,7 +134,7 @@ module _ (sizes : Sizes) (first : Values) (core : Core) (by : ℕ) (sound : Soun
       go true is = absurd (far ((way inner at loaded).files file is))
       go false is = refl
 
-  pub owns_at : sizes.files ≤ 16 → (control : CleanControl) → (core.passes by).control ≡ control_at sizes batch control → OwnsAt (core.passes by).owned control
+  pub owns_at : sizes.files ≤ mount_layout.file_limit → (control : CleanControl) → (core.passes by).control ≡ control_at sizes batch control → OwnsAt (core.passes by).owned control
   owns_at limit cleans.TakeHeader at =
       let fresh = sound.grouped.progress.fresh by batch cleaner.TakeHeader at tt in
       let none = facts cleaner.TakeHeader at in
@@ -196,7 +198,7 @@ module _ (sizes : Sizes) (first : Values) (core : Core) (by : ℕ) (sound : Soun
   pub written_places : (i : ℕ) → Is (cleaner.ReadPiece i) → (j : ℕ) → j < length batch.pages → IsPlace batch j
   written_places i at = place (cleaner.ReadPiece i) at tt
 
-  pub written_room : sizes.files ≤ 16 → (i : ℕ) → Is (cleaner.ReadPiece i) → i + 1 < length batch.pages → length (core.passes by).owned < 50
+  pub written_room : sizes.files ≤ mount_layout.file_limit → (i : ℕ) → Is (cleaner.ReadPiece i) → i + 1 < length batch.pages → length (core.passes by).owned < most_cells
   written_room limit i at more =
       let short = whole_few (cleaner.ReadPiece i) at tt tt (omega (arith, more)) in
       let most = owns_few sizes first core by sound batch (cleaner.ReadPiece i) at (i + 1) (locks_at (cleaner.ReadPiece i) at) (omega arith) (λ file. at_most_one (holds_store batch file))

@@ -4,6 +4,7 @@ use Rattle.std.proofs.lemmas.Bool.{cases_eq, cases_lt, lt-ltb, le-ltb, leb-true,
 use Rattle.std.proofs.lemmas.List.FromFn.{length-range_with_len}
 use Rattle.std.specs.Prelude.{Option, Some, None, nat_lt, nat_le, not, ◌&&◌, ◌||◌, ◌⊎◌, filter}
 use Rattle.std.specs.List.{range_with_len}
+use Rattle.nv_plain.specs.Layouts.{mount_layout}
 use Rattle.nv_core.specs.state.Words.{Sizes, Word, CLEANER, HEADER, STORE, CLEANUP, ENTRY, is_lock, kind_of, page_of, ready, same, slot_of_entry}
 use Rattle.nv_core.specs.state.Cleaner.{Batch, CleanerControl, CleanerOp as CoreCleanerOp}
 use Rattle.nv_core.specs.state.Cleaner as cleaner
@@ -13,10 +14,14 @@ use Rattle.nv_core.specs.steps.Ops.{Comes, Stays, cleaner_move, moved}
 use Rattle.nv_clean.specs.declared.batch.CleanControl.{CleanControl}
 use Rattle.nv_clean.specs.declared.batch.CleanControl.TheVariants as cleans
 use Rattle.nv_clean.specs.Cleaning.{CleanState, FitsAt, IsBegun, IsPlain, control_at, control_of, files_from, inner_at}
-use Rattle.nv_clean.specs.Measures.{clean_measure, control_measure, first_measure, group_measure, inner_measure, later_measure, load_measure, measure_at, most_measure, retiring_measure}
+use Rattle.nv_clean.specs.Measures.{clean_measure, control_measure, entry_steps, first_measure, group_measure, inner_measure, later_measure, load_measure, measure_at, most_measure, retiring_measure}
 use Rattle.nv_core.proofs.state.Changes.{same_self}
 use Rattle.nv_clean.proofs.FactLaws.{IsCounted}
 use Rattle.nv_clean.proofs.StepLaws.{plain_at}
+
+-- what the entries of a largest group count at most
+abbrev group_most : ℕ
+group_most = entry_steps * mount_layout.group_limit
 
 -- ---- choices
 
@@ -133,12 +138,12 @@ module _ (sizes : Sizes) where
       of_kind false first room first_is room_is so = absurd (true≢false (sym so))
 
   -- so behind its leader it counts less than before
-  passes : (batch : Batch) (count steps : ℕ) → 1 ≤ count → count ≤ 16 → (batch.reached ≡ batch.tail) ⊎ (batch.reached + count ≤ batch.tail + batch.most) → steps ≤ 9 * count + 5
+  passes : (batch : Batch) (count steps : ℕ) → 1 ≤ count → count ≤ mount_layout.group_limit → (batch.reached ≡ batch.tail) ⊎ (batch.reached + count ≤ batch.tail + batch.most) → steps ≤ 9 * count + 5
       → steps + later_measure sizes batch count < 1 + first_measure batch + later_measure sizes batch 0
   passes batch count steps some few (inl first) less =
-      let f : first_measure batch ≡ 256 = ap (λ b. if b then 256 else 0) (eq-eqb batch.reached batch.tail first) in omega (arith, some, few, less, f)
+      let f : first_measure batch ≡ group_most = ap (λ b. if b then group_most else 0) (eq-eqb batch.reached batch.tail first) in omega (arith, some, few, less, f)
   passes batch count steps some few (inr room) less =
-      by_eq (λ b. steps + later_measure sizes batch count < 1 + (if b then 256 else 0) + later_measure sizes batch 0) batch.reached batch.tail (λ is. omega (arith, some, few, less)) (λ other. omega (arith, some, room, less))
+      by_eq (λ b. steps + later_measure sizes batch count < 1 + (if b then group_most else 0) + later_measure sizes batch 0) batch.reached batch.tail (λ is. omega (arith, some, few, less)) (λ other. omega (arith, some, room, less))
 
   load_falls : (owned : List Word) (batch : Batch) (i found : ℕ) → length batch.pages ≡ i → IsCounted batch (cleans.LoadEntry i) found
       → control_measure sizes (if i == 0 && not (may_pass batch found) then finishing sizes owned batch else surveyed (batch_with_page batch i found) i) < load_measure sizes batch i
@@ -188,7 +193,7 @@ module _ (sizes : Sizes) where
       let less : control_measure sizes (if found == 0 then Cleaning batch cleaner.LoadTail else withdrawing owned batch) < inner_measure sizes batch cleaner.LoadStop =
       both (λ b. control_measure sizes (if b then Cleaning batch cleaner.LoadTail else withdrawing owned batch) < inner_measure sizes batch cleaner.LoadStop) (found == 0) (omega arith) (omega (arith, w)) in omega (arith, less)
   falls_at owned batch cleans.LoadTail found plain fits near =
-      let less : first_measure (record batch { tail = found; reached = found }) ≤ 256 = both (λ b. (if b then 256 else 0) ≤ 256) (found == found) (omega arith) (omega arith) in omega (arith, less)
+      let less : first_measure (record batch { tail = found; reached = found }) ≤ group_most = both (λ b. (if b then group_most else 0) ≤ group_most) (found == found) (omega arith) (omega arith) in omega (arith, less)
   falls_at owned batch cleans.LoadHead found plain fits near =
       let less = surveys owned (record batch { head = found }) (inner_measure sizes batch cleaner.LoadHead) (omega arith) in omega (arith, less)
   falls_at owned batch (cleans.LoadEntry i) found plain fits near = let less = load_falls owned batch i found fits.1 near in omega (arith, less)
@@ -220,7 +225,7 @@ module _ (sizes : Sizes) where
       gives owned (CLEANUP (group_page batch i)) (each_next batch i (cleaner.GiveCleanup (i + 1)) (surveying sizes left (next_group batch))) most
       (each_falls batch i (cleaner.GiveCleanup (i + 1)) (surveying sizes left (next_group batch)) most
       (λ last.
-      let beyond : first_measure (next_group batch) ≡ 0 = ap (λ b. if b then 256 else 0) (ne_eqb (batch.reached + length batch.pages) batch.tail (let low = fits.low.low in omega (arith, low, own))) in
+      let beyond : first_measure (next_group batch) ≡ 0 = ap (λ b. if b then group_most else 0) (ne_eqb (batch.reached + length batch.pages) batch.tail (let low = fits.low.low in omega (arith, low, own))) in
       surveys left (next_group batch) most (omega (arith, last, beyond))) (λ more. omega (arith, own)))
   falls_at owned batch (cleans.ReturnEntry i end) found plain fits near =
       let own = fits.1 in

@@ -5,6 +5,7 @@ use Rattle.std.proofs.lemmas.Nat.{mod_below}
 use Rattle.std.proofs.Math.Nat.{mod-le}
 use Rattle.nv_plain.specs.Faults.{Rose}
 use Rattle.nv_plain.specs.Images.{entry_of, data_of}
+use Rattle.nv_plain.specs.Layouts.{mount_layout}
 use Rattle.nv_pmem.specs.Part.{Part, part_word}
 use Rattle.nv_store.specs.declared.backing.StoreError.{StoreError}
 use Rattle.nv_store.specs.declared.backing.StoreError.TheVariants.{Fault, NoMemory}
@@ -41,6 +42,7 @@ use Rattle.nv_pages.proofs.AlterLaws.{altered_as}
 use Rattle.nv_clean.specs.declared.batch.CleanControl.TheVariants as cleans
 use Rattle.nv_clean.specs.declared.batch.CleanRefusal.TheVariants.{RegionFault}
 use Rattle.nv_clean.specs.Cleaning.{CleanState, HasReadPiece, IsBehind, IsGroupHeld, IsUnderWay, control_at, control_of, write_refusal, written_at}
+use Rattle.nv_clean.specs.OwnedCells.{most_cells}
 use Rattle.nv_clean.proofs.BehindLaws.{behind_call, behind_more}
 use Rattle.nv_clean.proofs.FactLaws.{written_places, written_room}
 
@@ -165,11 +167,11 @@ module _ (sound : RunsAreSound) (was : PassState) (mount : IsMount (mount_of was
       sym (ap (times (STORE file)) way.called.owned_is) ∙ locks (STORE file) (λ slot e. cc) ∙ ap (λ b. if b then 1 else 0) (goes.stored tt)
 
   -- the group at hand, of which this entry is held
-  pub group_held : sizes.files ≤ 16 → IsGroupHeld m (at + 1)
+  pub group_held : sizes.files ≤ mount_layout.file_limit → IsGroupHeld m (at + 1)
   group_held limit = record {
     within = let w = reads_within in omega (arith, w);
     places = written_places sizes (mount_of was.view.opened).values core was.view.number core_sound m.batch at here;
-    room = λ more. subst (λ owned. length owned < 50) way.called.owned_is (written_room sizes (mount_of was.view.opened).values core was.view.number core_sound m.batch limit at here more);
+    room = λ more. subst (λ owned. length owned < most_cells) way.called.owned_is (written_room sizes (mount_of was.view.opened).values core was.view.number core_sound m.batch limit at here more);
   }
 
   pub store_file : file < sizes.files

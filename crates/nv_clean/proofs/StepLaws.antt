@@ -2,6 +2,7 @@
 use Rattle.std.proofs.Common.{◌≡◌, ◌≢◌, ℕ, zero, suc, ◌+◌, ◌<◌, ◌≤◌, ◌==◌, Bool, true, false, if◌then◌else◌, List, [], ◌∷◌, ◌++◌, length, refl, sym, ap, subst, ◌∙◌, arith, eqb-true, eq-eqb, ne_eqb, length-append}
 use Rattle.std.specs.Prelude.{Some, None, nat_lt, not, ◌||◌}
 use Rattle.std.specs.List.{list_any}
+use Rattle.nv_plain.specs.Layouts.{mount_layout}
 use Rattle.nv_core.specs.state.Words.{Sizes, Word, CLEANER, STORE, is_lock, page_of}
 use Rattle.nv_core.specs.state.Cleaner.{Batch, CleanerControl, CleanerOp as CoreCleanerOp, TakeCleaner}
 use Rattle.nv_core.specs.state.Cleaner as cleaner
@@ -27,7 +28,7 @@ use Rattle.nv_mirror.proofs.StepLaws.{between_self, opened_same}
 use Rattle.nv_clean.specs.declared.batch.CleanControl.{CleanControl}
 use Rattle.nv_clean.specs.declared.batch.CleanControl.TheVariants as cleans
 use Rattle.nv_clean.specs.Cleaning.{AreApart, CleanState, Fits, FitsAt, InBatch, IsBegun, IsEnd, IsPlain, IsUnderWay, OwnsAt, calls_refusal, control_at, control_of, files_then, inner_at}
-use Rattle.nv_clean.specs.OwnedCells.{TakesCell}
+use Rattle.nv_clean.specs.OwnedCells.{TakesCell, most_cells}
 use Rattle.nv_clean.proofs.BatchLaws.{begins_on, no_works, idle_free, step_due, made_one, own_next, goes_on}
 use Rattle.nv_clean.specs.CleanSteps.{HasMadeOne, clean_kind, first_refusal, kind_at, refusal_at}
 use Rattle.nv_op.specs.declared.kinds.Kind.TheVariants.{Take}
@@ -125,7 +126,7 @@ apart_then sizes batch cleans.Over found apart free = apart
 
 -- ---- there is room for a cell that is taken
 
-taken_last : (owned : List Word) (op : CoreCleanerOp) (found : ℕ) → last_taken owned ≡ Some op → TakesCell op found → length owned < 50
+taken_last : (owned : List Word) (op : CoreCleanerOp) (found : ℕ) → last_taken owned ≡ Some op → TakesCell op found → length owned < most_cells
 taken_last [] op found next takes = absurd (not_some next)
   where
     not_some : None ≡ Some op → ⊥
@@ -135,12 +136,12 @@ taken_last (cell ∷ rest) op found next takes = go (is_lock cell) next
     not_some : None ≡ Some op → ⊥
     not_some e = cc
 
-    go : (b : Bool) → (if b then Some (cleaner.Give cell) else None) ≡ Some op → length (cell ∷ rest) < 50
+    go : (b : Bool) → (if b then Some (cleaner.Give cell) else None) ≡ Some op → length (cell ∷ rest) < most_cells
     go true e = absurd (subst (λ o. TakesCell o found) (cleaner_op_is (cleaner.Give cell) op e) takes)
     go false e = absurd (not_some e)
 
 pub takes_room : (sizes : Sizes) (owned : List Word) (batch : Batch) (control : CleanControl) (op : CoreCleanerOp) (found : ℕ) → IsPlain control → next_cleaner_op sizes owned batch (inner_at sizes batch control) ≡ Some op → TakesCell op found
-    → OwnsAt owned control → length owned < 50
+    → OwnsAt owned control → length owned < most_cells
 takes_room sizes owned batch cleans.TakeHeader op found plain next takes room = room
 takes_room sizes owned batch (cleans.TakeCleanup i) op found plain next takes room = room
 takes_room sizes owned batch cleans.TakeStore op found plain next takes room = room
@@ -190,7 +191,7 @@ module _ (sound : RunsAreSound) (now : PassState) (mount : IsMount (mount_of now
         fits_at sizes (mount_of now.view.opened).values core now.view.number core_sound m.batch m.control way.called.control_is
         (λ op next. (stand None (CleanerStep op) (plain_due plain op (ap (λ owned. next_cleaner_op sizes owned m.batch inner) (sym way.called.owned_is) ∙ next))).on)
 
-    pub owns_fits : sizes.files ≤ 16 → OwnsAt m.owned m.control
+    pub owns_fits : sizes.files ≤ mount_layout.file_limit → OwnsAt m.owned m.control
     owns_fits limit =
         subst (λ owned. OwnsAt owned m.control) way.called.owned_is (owns_at sizes (mount_of now.view.opened).values core now.view.number core_sound m.batch limit m.control way.called.control_is)
 
@@ -267,7 +268,7 @@ module _ (sound : RunsAreSound) (now : PassState) (mount : IsMount (mount_of now
               absurd (omega (arith, before, one, same_before, after, most, same_after, here))
 
       -- there is room for its file among those that the batch holds
-      pub store_room : sizes.files ≤ 16 → m.control ≡ cleans.TakeStore → found ≡ 0 → length m.batch.files < 16
+      pub store_room : sizes.files ≤ mount_layout.file_limit → m.control ≡ cleans.TakeStore → found ≡ 0 → length m.batch.files < mount_layout.file_limit
       store_room limit at none =
           let few = apart_few (group_file sizes m.batch ∷ m.batch.files) sizes.files (store_free at none (taken_store at), way.apart) (λ file is. there file (group_file sizes m.batch == file) refl is) in
           omega (arith, few, limit)
@@ -286,7 +287,7 @@ module _ (sound : RunsAreSound) (now : PassState) (mount : IsMount (mount_of now
       is_counted = go m.control refl
         where
           -- it has passed its leader
-          counts : (i : ℕ) → m.control ≡ cleans.LoadEntry i → i ≡ 0 → may_pass m.batch found ≡ true → (1 ≤ count_of found) × (count_of found ≤ 16)
+          counts : (i : ℕ) → m.control ≡ cleans.LoadEntry i → i ≡ 0 → may_pass m.batch found ≡ true → (1 ≤ count_of found) × (count_of found ≤ mount_layout.group_limit)
           counts i at none passes = by_next (nat_lt (0 + 1) (count_of found)) refl
             where
               after : Batch
@@ -299,7 +300,7 @@ module _ (sound : RunsAreSound) (now : PassState) (mount : IsMount (mount_of now
               control_is = plain_on.control_is ∙ ap (λ c. after_cleaner_op sizes owned_then m.batch (inner_at sizes m.batch c) found) (at ∙ ap (λ i. cleans.LoadEntry i) none)
                   ∙ ap (λ b. if not b then finishing sizes owned_then m.batch else surveyed after 0) passes
 
-              by_next : (b : Bool) → nat_lt (0 + 1) (count_of found) ≡ b → (1 ≤ count_of found) × (count_of found ≤ 16)
+              by_next : (b : Bool) → nat_lt (0 + 1) (count_of found) ≡ b → (1 ≤ count_of found) × (count_of found ≤ mount_layout.group_limit)
               by_next true is =
                   fact_counts new.view.opened.sizes (mount_of new.view.opened).values (state_of new.view.opened new.view.run) new.view.number new_sound after (cleaner.LoadEntry (0 + 1))
                   (control_is ∙ ap (λ b. if b then Cleaning after (cleaner.LoadEntry (0 + 1)) else Cleaning after (cleaner.TakeCleanup 0)) is) tt some

@@ -1,5 +1,6 @@
 //! What a batch is after a step: the core's own functions, run.
 ghost use Rattle.std.specs.Prelude.{◌≡◌, ℕ, ◌+◌, ◌<◌, ◌≤◌, ◌^◌, true, length, nat_lt, if◌then◌else◌, ◌==◌};
+ghost use Rattle.nv_plain.specs.Layouts.{mount_layout};
 ghost use Rattle.nv_core.specs.state.Cleaner as cleaner;
 ghost use Rattle.nv_core.specs.state.Passes.{Cleaning};
 ghost use Rattle.nv_core.specs.state.Words.{Sizes};
@@ -110,7 +111,7 @@ impl CleanMachine {
     fn look(&mut self, at: u64, found: u64)
         requires low { self.old.batch.tail ≤ self.old.batch.reached }
         requires small { self.old.batch.reached ≤ 2 ^ 60 }
-        requires few { at < 16 }
+        requires few { at < mount_layout.group_limit }
         requires pages { length self.old.batch.pages ≡ at }
         ensures control { (sizes : Sizes) → control_of sizes self.new ≡ after_cleaner_op sizes self.old.owned self.old.batch (cleaner.LoadEntry at) found }
         ensures begun { IsBegun self.new.control }
@@ -242,7 +243,7 @@ impl CleanMachine {
     fn follow_claims(&mut self, layout: Layout, found: u64)
         requires claims { IsClaim self.old.control }
         requires fits { Fits (sizes_of layout) self.old }
-        requires room { self.old.control ≡ cleans.TakeStore → found ≡ 0 → length self.old.batch.files < 16 }
+        requires room { self.old.control ≡ cleans.TakeStore → found ≡ 0 → length self.old.batch.files < mount_layout.file_limit }
         ensures control { control_of (sizes_of layout) self.new ≡ after_cleaner_op (sizes_of layout) self.old.owned self.old.batch (inner_at (sizes_of layout) self.old.batch self.old.control) found }
         ensures begun { IsBegun self.new.control }
         ensures owned { self.new.owned ≡ self.old.owned }
@@ -355,7 +356,7 @@ impl CleanMachine {
     pub(crate) fn follow(&mut self, layout: Layout, found: u64)
         requires plain { IsPlain self.old.control }
         requires fits { Fits (sizes_of layout) self.old }
-        requires room { self.old.control ≡ cleans.TakeStore → found ≡ 0 → length self.old.batch.files < 16 }
+        requires room { self.old.control ≡ cleans.TakeStore → found ≡ 0 → length self.old.batch.files < mount_layout.file_limit }
         ensures control { control_of (sizes_of layout) self.new ≡ after_cleaner_op (sizes_of layout) self.old.owned self.old.batch (inner_at (sizes_of layout) self.old.batch self.old.control) found }
         ensures begun { IsBegun self.new.control }
         ensures owned { self.new.owned ≡ self.old.owned }

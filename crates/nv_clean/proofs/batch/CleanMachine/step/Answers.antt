@@ -1,6 +1,7 @@
 -- The step is the core's.
 use Rattle.std.proofs.Common.{◌≡◌, ◌<◌, ◌≤◌, length, ◌∙◌, sym, ap, subst}
 use Rattle.std.specs.Prelude.{Some}
+use Rattle.nv_plain.specs.Layouts.{mount_layout}
 use Rattle.nv_core.specs.state.Words.{Sizes}
 use Rattle.nv_core.specs.steps.CleanerSteps.{next_cleaner_op}
 use Rattle.nv_op.specs.CleanerOps.{core_cleaner_op}
@@ -9,6 +10,7 @@ use Rattle.nv_table.specs.state.Opened.{Opened}
 use Rattle.nv_clean.specs.declared.batch.CleanControl.TheVariants as cleans
 use Rattle.nv_clean.specs.Cleaning.{CleanState, Fits, IsEnd, IsPlain, IsUnderWay, inner_at}
 use Rattle.nv_clean.specs.CleanSteps.{HasMadeOne, refusal_at}
+use Rattle.nv_clean.specs.OwnedCells.{most_cells}
 use Rattle.nv_core.specs.steps.CleanerSteps.{after_cleaner_op}
 use Rattle.nv_core.specs.steps.Ops.{cleaner_move, moved}
 use Rattle.nv_clean.specs.Measures.{clean_measure}
@@ -26,14 +28,14 @@ pub next-op-requires-clause-owns : goal.next-op-requires-clause-owns
 next-op-requires-clause-owns g c =
     let same = c.layout-layout.ensures ∙ sym (ap (λ (o : Opened). o.sizes) c.requires.board.same_mount) in
     owns_fits c.runs_are_sound.ensures.runs c.args.pass.now c.sees_a_run.ensures.mount c.sees_a_run.ensures.run c.due_steps_stand.ensures c.args.self.now c.requires.way.0 c.requires.way.1
-    (subst (λ (s : Sizes). s.files ≤ 16) same c.layout-layout.result.limits.most_files)
+    (subst (λ (s : Sizes). s.files ≤ mount_layout.file_limit) same c.layout-layout.result.limits.most_files)
 
 pub follow-requires-clause-room : goal.follow-requires-clause-room
 follow-requires-clause-room g c takes =
     let same = c.layout-layout.ensures ∙ sym (ap (λ (o : Opened). o.sizes) c.requires.board.same_mount) in
     let owns = owns_fits c.runs_are_sound.ensures.runs c.args.pass.now c.sees_a_run.ensures.mount c.sees_a_run.ensures.run c.due_steps_stand.ensures c.args.self.now c.requires.way.0 c.requires.way.1
-    (subst (λ (s : Sizes). s.files ≤ 16) same c.layout-layout.result.limits.most_files) in
-    subst (λ (m : CleanState). length m.owned < 50) (sym c.self.view_is)
+    (subst (λ (s : Sizes). s.files ≤ mount_layout.file_limit) same c.layout-layout.result.limits.most_files) in
+    subst (λ (m : CleanState). length m.owned < most_cells) (sym c.self.view_is)
     (takes_room (sizes_of c.layout-layout.result) c.args.self.now.owned c.args.self.now.batch c.args.self.now.control (core_cleaner_op c.next-op.result) c.perform-found.result c.requires.plain c.next-op.ensures.next takes owns)
 
 pub follow-requires-2-clause-fits : goal.follow-requires-2-clause-fits
@@ -46,11 +48,11 @@ follow-requires-2-clause-fits g c =
 pub follow-requires-2-clause-room : goal.follow-requires-2-clause-room
 follow-requires-2-clause-room g c at none =
     let same = c.layout-layout.ensures ∙ sym (ap (λ (o : Opened). o.sizes) c.requires.board.same_mount) in
-    subst (λ (m : CleanState). length m.batch.files < 16) (sym c.self.view_is)
+    subst (λ (m : CleanState). length m.batch.files < mount_layout.file_limit) (sym c.self.view_is)
     (store_room c.runs_are_sound.ensures.runs c.args.pass.now c.sees_a_run.ensures.mount c.sees_a_run.ensures.run c.due_steps_stand.ensures c.args.self.now c.requires.way.0 c.requires.way.1 c.requires.plain
     (core_cleaner_op c.next-op.result) c.perform-found.result c.perform-found.new.pass c.perform-found.ensures.stepped
     (subst (λ (s : Sizes). next_cleaner_op s c.args.self.now.owned c.args.self.now.batch (inner_at s c.args.self.now.batch c.args.self.now.control) ≡ Some (core_cleaner_op c.next-op.result)) same c.next-op.ensures.next)
-    (subst (λ (s : Sizes). s.files ≤ 16) same c.layout-layout.result.limits.most_files)
+    (subst (λ (s : Sizes). s.files ≤ mount_layout.file_limit) same c.layout-layout.result.limits.most_files)
     (subst (λ (m : CleanState). m.control ≡ cleans.TakeStore) c.self.view_is at) none)
 
 pub returns-clause-one : goal.returns-clause-one

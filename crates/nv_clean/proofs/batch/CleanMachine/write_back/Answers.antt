@@ -1,5 +1,6 @@
 -- The piece is read and written, and what follows goes on behind that.
 use Rattle.std.proofs.Common.{◌≤◌, ◌∙◌, sym, ap, subst, arith}
+use Rattle.nv_plain.specs.Layouts.{mount_layout}
 use Rattle.nv_core.specs.state.Words.{Sizes}
 use Rattle.nv_table.specs.state.Opened.{Opened}
 use Rattle.nv_store.specs.declared.backing.StoreError.TheVariants.{Fault, NoMemory}
@@ -12,28 +13,28 @@ fail-requires-clause-group g c =
     let m = c.args.self.now in
     let same = c.layout-layout.ensures ∙ sym (ap (λ (o : Opened). o.sizes) c.requires.board.same_mount) in
     group_held c.runs_are_sound.ensures.runs c.args.pass.now c.sees_a_run.ensures.mount c.sees_a_run.ensures.run m c.args.at c.requires.at c.requires.way.0 c.requires.way.1
-    (subst (λ (s : Sizes). s.files ≤ 16) same c.layout-layout.result.limits.most_files)
+    (subst (λ (s : Sizes). s.files ≤ mount_layout.file_limit) same c.layout-layout.result.limits.most_files)
 
 pub hold_next-requires-clause-group : goal.hold_next-requires-clause-group
 hold_next-requires-clause-group g c =
     let m = c.args.self.now in
     let same = c.layout-layout.ensures ∙ sym (ap (λ (o : Opened). o.sizes) c.requires.board.same_mount) in
     group_held c.runs_are_sound.ensures.runs c.args.pass.now c.sees_a_run.ensures.mount c.sees_a_run.ensures.run m c.args.at c.requires.at c.requires.way.0 c.requires.way.1
-    (subst (λ (s : Sizes). s.files ≤ 16) same c.layout-layout.result.limits.most_files)
+    (subst (λ (s : Sizes). s.files ≤ mount_layout.file_limit) same c.layout-layout.result.limits.most_files)
 
 pub fail-requires-in-Err-Fault-clause-group : goal.fail-requires-in-Err-Fault-clause-group
 fail-requires-in-Err-Fault-clause-group g c =
     let m = c.args.self.now in
     let same = c.layout-layout.ensures ∙ sym (ap (λ (o : Opened). o.sizes) c.requires.board.same_mount) in
     group_held c.runs_are_sound.ensures.runs c.args.pass.now c.sees_a_run.ensures.mount c.sees_a_run.ensures.run m c.args.at c.requires.at c.requires.way.0 c.requires.way.1
-    (subst (λ (s : Sizes). s.files ≤ 16) same c.layout-layout.result.limits.most_files)
+    (subst (λ (s : Sizes). s.files ≤ mount_layout.file_limit) same c.layout-layout.result.limits.most_files)
 
 pub return_first-requires-clause-group : goal.return_first-requires-clause-group
 return_first-requires-clause-group g c =
     let m = c.args.self.now in
     let same = c.layout-layout.ensures ∙ sym (ap (λ (o : Opened). o.sizes) c.requires.board.same_mount) in
     group_held c.runs_are_sound.ensures.runs c.args.pass.now c.sees_a_run.ensures.mount c.sees_a_run.ensures.run m c.args.at c.requires.at c.requires.way.0 c.requires.way.1
-    (subst (λ (s : Sizes). s.files ≤ 16) same c.layout-layout.result.limits.most_files)
+    (subst (λ (s : Sizes). s.files ≤ mount_layout.file_limit) same c.layout-layout.result.limits.most_files)
 
 pub fail-requires-clause-way : goal.fail-requires-clause-way
 fail-requires-clause-way g c = (c.requires.way.0, c.args.pass.now, c.in-Err.ensures.failed c.requires.way.0 c.requires.way.1)
