@@ -1,5 +1,6 @@
 //! The append of a write to the log, once it has its numbers: its entries, its pledges, its place in the history, and its new length.
 ghost use Rattle.std.specs.Prelude.{◌≡◌, ◌+◌, ◌<◌, ◌≤◌, ◌^◌, false};
+ghost use Rattle.nv_plain.specs.Layouts.{mount_layout};
 ghost use Rattle.nv_table.specs.state.Keys.{sizes_of};
 ghost use Rattle.nv_table.specs.state.States.{IsOf, PassState};
 ghost use Rattle.nv_ring.specs.Appends.{Fits, HasStepped, IsPlain, IsUnderWay, append_after, append_measure, append_op, control_then, noted, pledged_then, ready_number, ready_word_of};
@@ -68,7 +69,7 @@ impl<'a> AppendMachine<'a> {
 
     fn ready_word(self, ready: u64) -> u64
         requires own { ready < self.pages }
-        requires few { self.pages ≤ 16 }
+        requires few { self.pages ≤ mount_layout.group_limit }
         requires low { self.page + self.pages ≤ 2 ^ 50 }
         ensures { result ≡ ready_word_of self.entry ready }
     {
