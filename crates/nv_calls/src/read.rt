@@ -30,7 +30,7 @@ use std::thread::yield_now;
 /// Reads from the file of a descriptor (POSIX.1-2017, pread): the bytes from the offset `at` on, as many as `buf` has, or fewer where the file ends
 /// before, come to the front of `buf`, and the answer tells how many they are, and the call's place in the history, which is how many calls stand
 /// before it. It reads what plain files have after these. Refused by what it asks for before any step: a descriptor that isn't there or may not be
-/// read, an end past the last page of a file, more pages than 16 or than the log has entries; then where a lock was found held, where STOP was found
+/// read, an end past the last page of a file, more pages than 64 or than the log has entries; then where a lock was found held, where STOP was found
 /// set, where ORDER was found used up, and after a device fault. While no other pass is out no lock is found held. A refused call has no place, and its pass holds
 /// nothing; what `buf` has then isn't said. Takes no memory, and waits for nobody.
 pub fn try_pread<L: Lines + Drop, B: Backing + Drop>(

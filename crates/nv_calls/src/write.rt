@@ -32,7 +32,7 @@ use std::thread::yield_now;
 
 /// Writes to the file of a descriptor (POSIX.1-2017, pwrite): all of `bytes` stand in the file from the offset `at` on, and the file ends at their end
 /// where it ended before. The answer tells how many they are, and the call's place in the history, which is how many calls stand before it. Refused by
-/// what it asks for before any step: a descriptor that isn't there or may not be written, an end past the last page of a file, more pages than 16 or than
+/// what it asks for before any step: a descriptor that isn't there or may not be written, an end past the last page of a file, more pages than 64 or than
 /// the log has entries; then where a lock was found held, where STOP was found set, where ORDER was found used up or HEAD leaves too few numbers, where the
 /// log has no room for its entries until some are cleaned, where another write drew its numbers, and after a device fault. A refused call has no place, and
 /// its pass holds nothing; but for a device fault it has changed no word of the mount but locks, which it gave back. One that finds its locks free, STOP at 0,

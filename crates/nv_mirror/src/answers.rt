@@ -20,7 +20,7 @@ pub enum Refusal {
     /// It ends past the last page that a file may have.
     #[error("too far")]
     TooFar,
-    /// It touches more pages than a group of the log has entries: 16, or as many as the log has, if those are fewer.
+    /// It touches more pages than a group of the log has entries: 64, or as many as the log has, if those are fewer.
     #[error("too long")]
     TooLong,
     /// A lock of the call was found held; `cell` is the place of its word.

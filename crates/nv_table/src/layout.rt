@@ -24,7 +24,7 @@ const FILES: u64 = 7;
 pub struct Layout {
     /// Bytes of a page: 64 to 4,096, a multiple of 64.
     pub page: u64,
-    /// Files: up to 16.
+    /// Files: up to 64.
     pub files: u64,
     /// Pages of a file: 1 to 1,024.
     pub pages: u64,

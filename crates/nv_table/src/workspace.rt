@@ -31,7 +31,7 @@ impl<L, B> Model for Workspace<L, B> {
 
 impl<L: Drop, B: Drop> Workspace<L, B> {
     /// An empty one with all the room that a mount of these sizes needs: twice the bytes of a page, which are 0, a place for the part of
-    /// each entry that a write may have, which are 16 at most, and one for each file's store.
+    /// each entry that a write may have, which are 64 at most, and one for each file's store.
     pub fn new(alloc: Global, layout: Layout) -> Result<Workspace<L, B>, NoMemory>
         ensures sizes { IfOk result (IsWorkspace (sizes_of layout)) }
         ensures parts { IfOk result (λ workspace. workspace.parts.items ≡ []) }
@@ -71,7 +71,7 @@ impl<L, B> Workspace<L, B> {
         self.piece.as_mut_slice()
     }
 
-    /// The parts that lie here: there are places for those of up to 16 entries, or of all where the log has fewer.
+    /// The parts that lie here: there are places for those of up to 64 entries, or of all where the log has fewer.
     pub fn parts(&mut self) -> &mut Vec<L>
         ensures value { result.now ≡ self.old.parts }
         ensures* writes_back { sem 𝓛 (LendsParts L.row B.row self.entry result) }

@@ -24,7 +24,7 @@ use Rattle.nv_trace.specs.declared.trace_call.TraceCall.TheVariants.{Pread, Pwri
 abbrev pub said_place : List ℕ → List (List ℕ) → ℕ
 said_place name names = position_or_len (λ known. pointwise nat_eq known name) names
 
--- the name of a file that is declared: no call, no round and no token may stand before it, nor 16 files, nor the same name
+-- the name of a file that is declared: no call, no round and no token may stand before it, nor 64 files, nor the same name
 unfoldable pub new_name : Traced → List ℕ → Result (List ℕ) Why
 new_name trace name =
     if has_begun trace then Err Late

@@ -38,7 +38,7 @@ MayFollow trace (Opened descriptor) =
 MayFollow trace (Call thread call) = (thread ≤ last_thread) × IsCallWithin (length trace.descriptors) call × (has_tokens trace ≡ false)
 MayFollow trace Round = has_rounds trace.form ≡ true
 
--- At most 16 files, whose names are allowed and differ; at most 64 descriptors of them; calls on these, by eight threads;
+-- At most 64 files, whose names are allowed and differ; at most 64 descriptors of them; calls on these, by eight threads;
 -- and rounds, which don't fall along the calls, or tokens, where the form has them.
 pub record IsWellFormed (trace : Traced) : Type 0 where
   pub names : length trace.names ≤ most_files

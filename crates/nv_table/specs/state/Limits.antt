@@ -3,7 +3,7 @@ use Rattle.std.specs.Prelude.{◌≡◌, ◌≤◌, ◌%◌}
 use Rattle.nv_plain.specs.Layouts.{mount_layout}
 use Rattle.nv_core.specs.state.Words.{Sizes, page_total}
 
--- A page has 64 to 4,096 bytes, in whole lines of 64. There are up to 16 files, each of 1 to 1,024 pages, 2 to 1,024 entries, and no more
+-- A page has 64 to 4,096 bytes, in whole lines of 64. There are up to 64 files, each of 1 to 1,024 pages, 2 to 1,024 entries, and no more
 -- buffers than pages.
 pub record MountIsWithinLimits (sizes : Sizes) : Type 0 where
   pub least_page : 64 ≤ sizes.page
