@@ -710,7 +710,7 @@ fn played<R: Wait + Abort>(rt: &R, alloc: Global, play: &Play) -> Result<(), Fai
     let name = play.name;
     let stores = stores(alloc, play.file)?;
     let cache = if play.one_buffer { 1 } else { 4 };
-    let (mount, mut pass) = opened_with(alloc, region_of(alloc, play.entries)?, stores, cache)?;
+    let (mount, mut pass) = opened_with(alloc, region_of(alloc, play.entries)?, stores, 64, cache)?;
     let mut workspace = room(rt, alloc, &mount);
     for row in play.calls {
         let (how, call, answer) = *row;

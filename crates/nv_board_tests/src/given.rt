@@ -72,13 +72,16 @@ fn fds(alloc: Global) -> Result<Fds, Fail>
     Ok(fds)
 }
 
-// A mount over them, where the file may have 64 pages, with so many buffers; and pass 0.
+// A mount over them, where the file may have so many pages, with so many buffers; and pass 0.
 pub(crate) fn opened_with(
     alloc: Global,
     region: Region<MemPart>,
     stores: Vec<MemStore>,
+    pages: u64,
     cache: u64,
 ) -> Result<(Mount<MemPart, MemStore>, Pass<MemPart, MemStore>), Fail>
+    requires some_pages { 1 ≤ pages }
+    requires few_pages { pages ≤ 1024 }
     requires some { 1 ≤ cache }
     requires few { cache ≤ 64 }
     requires version { region.version ≡ mount_version }
@@ -92,7 +95,7 @@ pub(crate) fn opened_with(
     ensures view { IfOk result (λ made. made.1.view ≡ first_view made.0.board.opened) }
     ensures bare { IfOk result (λ made. made.1.now ≡ []) }
 {
-    match Mount::open(alloc, region, stores, fds(alloc)?, 64, cache) {
+    match Mount::open(alloc, region, stores, fds(alloc)?, pages, cache) {
         Ok(made) => Ok(made),
         Err(unopened) => Err(unopened.error.into()),
     }

@@ -11,6 +11,8 @@ mod descriptors;
 #[cfg(test)]
 mod given;
 #[cfg(test)]
+mod groups;
+#[cfg(test)]
 mod machines;
 #[cfg(test)]
 mod mounts;
