@@ -63,6 +63,41 @@ fn a_trace_by_lines(rt: HostRuntime) -> Result<(), Fail> {
     Ok(())
 }
 
+// Each file has a name of its own.
+#[test]
+fn a_trace_has_64_files_at_most(rt: HostRuntime) -> Result<(), Fail> {
+    let mut trace = Trace::new(rt.alloc(), Form::Run);
+    for i in 0..64u64 {
+        let line = format!(in rt.alloc(); "file f{i}")?;
+        read_line(&mut trace, i + 1, line.as_bytes())?;
+    }
+    let bad = LineError::Bad(BadLine {
+        number: 65,
+        why: Why::Many,
+    });
+    assert_eq!(rt; read_line(&mut trace, 65, b"file f64"), Err(bad));
+    assert_eq!(rt; trace.names().len(), 64);
+    Ok(())
+}
+
+#[test]
+fn a_name_has_248_bytes_at_most(rt: HostRuntime) -> Result<(), Fail> {
+    let mut trace = Trace::new(rt.alloc(), Form::Run);
+    let mut line = Vec::from_slice(rt.alloc(), b"file ")?;
+    for _ in 0..248u64 {
+        line.push(b'a')?;
+    }
+    read_line(&mut trace, 1, &line)?;
+    line.push(b'a')?;
+    let bad = LineError::Bad(BadLine {
+        number: 2,
+        why: Why::Name,
+    });
+    assert_eq!(rt; read_line(&mut trace, 2, &line), Err(bad));
+    assert_eq!(rt; trace.names().len(), 1);
+    Ok(())
+}
+
 const SCHEDULED: &[u8] = b"file a\nfd 0 a rw\n0 pwrite 0 0 aa\nsteps 0:seize cut:12 w\n";
 
 const TOKENS: [Token; 4] = [
