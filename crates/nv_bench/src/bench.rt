@@ -1,7 +1,7 @@
 //! Benches: the devices that a program runs over, lent and given back.
 ghost use Rattle.std.specs.Prelude.{◌≡◌, ℕ, ◌+◌, ◌-◌, ◌^◌, ◌<◌, ◌≤◌, Bool, [], List, length, map, sum_by, true, false, Some, None, All, Contains, IsTrue, Err, IfOk, IfSome, OnOk, OnErr};
 ghost use Rattle.nv_plain.specs.Faults.{Rose, saturated};
-ghost use Rattle.nv_plain.specs.Layouts.{version_1};
+ghost use Rattle.nv_plain.specs.Layouts.{mount_layout};
 ghost use Rattle.nv_plain.specs.Names.{is_name};
 ghost use Rattle.nv_pmem.specs.Part.{Part as PartState};
 ghost use Rattle.nv_pmem.specs.RowStates.{IsNow, AreNow};
@@ -48,7 +48,8 @@ pub trait Bench {
         ensures { result ≡ can_lose_power };
 
     /// Opens the region: the parts that stand there, in their order. A blank one, that is one with no part 0, no line in it,
-    /// or 0 in word 0 of its line 0, gets the parts of the geometry that is wanted, of which new lines are zeros.
+    /// or 0 in word 0 of its line 0, gets the parts of the geometry that is wanted, of which new lines are zeros. One that has
+    /// the magic, version 1 and the lines of such a header gets lines of zeros behind them, up to those of a mount's header.
     fn open_region(&mut self, want: Option<Geometry>) -> Result<Vec<Self::Part>, BenchError>
         requires { (state self.old).is_open ≡ false }
         ensures lent { OnOk result (state self.new ≡ with_faults (state self.new).faults (region_lent (state self.old))) }
@@ -65,7 +66,7 @@ pub trait Bench {
     /// Opens the store of a name; an empty one, where there is none of that name.
     fn open_store(&mut self, name: &str) -> Result<Self::Store, BenchError>
         requires open { (state self.old).is_open ≡ true }
-        requires name { IsTrue (is_name version_1.name_limit name.now) }
+        requires name { IsTrue (is_name mount_layout.name_limit name.now) }
         requires other { ¬ (Contains (state self.old).lent name.now) }
         ensures lent { OnOk result (state self.new ≡ with_faults (state self.new).faults (store_lent name.now (state self.old))) }
         ensures told { IfOk result (λ store. IfSome (state self.old).told (λ holding.

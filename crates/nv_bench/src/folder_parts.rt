@@ -1,12 +1,13 @@
 //! Trusted edge: the parts of a region that stand in a folder.
-ghost use Rattle.std.specs.Prelude.{◌≡◌, sum_by, IfOk};
+ghost use Rattle.std.specs.Prelude.{◌≡◌, ◌<◌, true, length, sum_by, IfOk};
 ghost use Rattle.nv_plain.specs.Faults.{saturated};
 ghost use Rattle.nv_pmem.specs.FilePart.{part_faults};
 ghost use Rattle.nv_store.specs.FileStore.{store_faults};
 
 use crate::BenchError;
 use crate::file_ids::FileIds;
-use nv_plain::limits::{ENTRY_LIMIT, HEADER_LINES};
+use crate::parts::MAGIC;
+use nv_plain::limits::{ENTRY_LIMIT, HEADER_LINES, Version};
 use nv_pmem::{FilePart, Geometry, Lines, PartError, sync_folder_of};
 use nv_store::{Backing, FileStore, StoreFault};
 use std::alloc::{AllocError, AllocFailed, Global};
@@ -45,7 +46,8 @@ pub(crate) fn share_folder<R: Files<File = File>>(rt: &R, path: &str) -> io::Res
 }
 
 /// The parts of the region that stand in a folder, and which files they are; where they are blank and a geometry is wanted, the
-/// parts of that. Refused where two are one file, or where what would be made anew may be the rest of a region.
+/// parts of that, and where a header of version 1 is shorter than a mount's, with that made longer. Refused where two are one
+/// file, or where what would be made anew may be the rest of a region.
 pub(crate) fn open_parts<R: Files + Copy>(
     rt: R,
     alloc: Global,
@@ -55,13 +57,18 @@ pub(crate) fn open_parts<R: Files + Copy>(
     ensures { IfOk result (λ opened. sum_by part_faults opened.0.items ≡ 0) }
 {
     let mut ids = FileIds::new(alloc);
-    let there = parts_there(rt, alloc, folder, false, &mut ids)?;
+    let mut there = parts_there(rt, alloc, folder, false, &mut ids)?;
     match want {
         Some(geometry) if are_blank(&there) => {
             refuse_remains(&rt, alloc, folder, &there)?;
             let mut ids = FileIds::new(alloc);
             let parts = sized_parts(rt, alloc, folder, geometry, &mut ids)?;
             Ok((parts, ids))
+        }
+        Some(_) if are_of_version_1(&there) => {
+            // What it holds is read anew: the file is the one that was noted.
+            there[0] = FilePart::open(rt, alloc, &part_path(alloc, folder, 0)?, HEADER_LINES)?;
+            Ok((there, ids))
         }
         _ => Ok((there, ids)),
     }
@@ -100,6 +107,18 @@ pub(crate) fn are_blank<R: Files + Copy>(parts: &[FilePart<R>]) -> bool {
         None => true,
         Some(header) if header.lines() == 0 => true,
         Some(header) => header.peek(0, 0) == 0,
+    }
+}
+
+// Whether the parts are those of a region of version 1, as far as its magic, its version and the header's lines tell.
+fn are_of_version_1<R: Files + Copy>(parts: &[FilePart<R>]) -> bool
+    ensures { result ≡ true → 0 < length parts.now }
+{
+    match parts.first() {
+        Some(header) if header.lines() >= Version::One.header_lines() => {
+            header.peek(0, 0) == MAGIC && header.peek(0, 1) == Version::One.number()
+        }
+        _ => false,
     }
 }
 

@@ -1,16 +1,19 @@
 //! The parts of a region in memory.
-ghost use Rattle.std.specs.Prelude.{◌≡◌, ◌+◌, ◌%◌, [], length, map, slice_index_or, sum_by, All, IfOk, OnOk, OnErr};
+ghost use Rattle.std.specs.Prelude.{◌≡◌, ◌+◌, ◌%◌, [], length, map, max, slice_index_or, sum_by, All, IfOk, OnOk, OnErr};
 ghost use Rattle.nv_plain.specs.Faults.{saturated};
-ghost use Rattle.nv_plain.specs.Layouts.{version_1};
+ghost use Rattle.nv_plain.specs.Layouts.{mount_layout};
 ghost use Rattle.nv_pmem.specs.Made.{part_in, resized};
 ghost use Rattle.nv_pmem.specs.MemPart.{IsNewPart, part_now, part_faults};
-ghost use Rattle.nv_bench.specs.Opening.{is_blank, opened, sized};
+ghost use Rattle.nv_bench.specs.Opening.{is_blank, is_of_version_1, lengthened, opened, sized};
 ghost use Rattle.nv_bench.specs.Powered.{powered_parts};
 
 use nv_plain::NoMemory;
-use nv_plain::limits::HEADER_LINES;
+use nv_plain::limits::{HEADER_LINES, Version};
 use nv_pmem::{Fuse, Geometry, Lines, MemPart, Picker};
 use std::alloc::Global;
+
+/// What the header of a region begins with: `NVCACHE1`, as a little-endian word.
+pub(crate) const MAGIC: u64 = 0x3145_4843_4143_564e;
 
 /// Whether the parts of a region are blank.
 pub(crate) fn are_blank(parts: &[MemPart]) -> bool
@@ -20,6 +23,18 @@ pub(crate) fn are_blank(parts: &[MemPart]) -> bool
         None => true,
         Some(header) if header.lines() == 0 => true,
         Some(header) => header.peek(0, 0) == 0,
+    }
+}
+
+/// Whether the parts are those of a region of version 1, as far as its magic, its version and the header's lines tell.
+pub(crate) fn are_of_version_1(parts: &[MemPart]) -> bool
+    ensures { result ≡ is_of_version_1 (map part_now parts.now) }
+{
+    match parts.first() {
+        Some(header) if header.lines() >= Version::One.header_lines() => {
+            header.peek(0, 0) == MAGIC && header.peek(0, 1) == Version::One.number()
+        }
+        _ => false,
     }
 }
 
@@ -40,8 +55,8 @@ pub(crate) fn parts_of(
     Ok(made)
 }
 
-/// Makes the parts of a region those of the geometry that is wanted, where they are blank. What the former ones failed is
-/// counted as gone.
+/// Makes the parts of a region those of the geometry that is wanted, where they are blank, and the header of version 1 as long
+/// as a mount's. What the former ones failed is counted as gone.
 pub(crate) fn make_wanted(
     alloc: Global,
     fuse: &Fuse,
@@ -62,8 +77,19 @@ pub(crate) fn make_wanted(
         let made = sized_parts(alloc, fuse, geometry, parts)?;
         *gone = gone.saturating_add(faults_of_parts(parts));
         *parts = made;
+    } else if are_of_version_1(parts) {
+        let header = longer(alloc, fuse, &parts[0])?;
+        *gone = gone.saturating_add(parts[0].faults());
+        parts[0] = header;
     }
     Ok(())
+}
+
+// A copy of a header, with lines of zeros behind its own where it has fewer than that of a mount.
+fn longer(alloc: Global, fuse: &Fuse, header: &MemPart) -> Result<MemPart, NoMemory>
+    ensures { IfOk result (IsNewPart (resized (max mount_layout.header_lines (length (part_now header.now))) (part_now header.now))) }
+{
+    header.resized(alloc, header.lines().max(HEADER_LINES), Some(fuse.copy()?))
 }
 
 /// Copies of the parts, with the sizes of a geometry: lines and parts that are missing are zeros.
@@ -73,7 +99,7 @@ pub(crate) fn sized_parts(
     geometry: Geometry,
     parts: &[MemPart],
 ) -> Result<Vec<MemPart>, NoMemory>
-    ensures made { IfOk result (λ made. map part_now made.items ≡ sized version_1 geometry (map part_now parts.now)) }
+    ensures made { IfOk result (λ made. map part_now made.items ≡ sized mount_layout geometry (map part_now parts.now)) }
     ensures faults { IfOk result (λ made. sum_by part_faults made.items ≡ 0) }
 {
     let mut made = Vec::new(alloc);
