@@ -1,7 +1,7 @@
 -- How an opening begins: with a blank region, or with one that is recovered.
 use Rattle.std.proofs.Common.{◌≡◌, ℕ, Bool, true, false, cond, List, [], map, sym, ap, ◌∙◌, subst, arith}
-use Rattle.std.specs.Prelude.{Option, Some, None, IfSome, Result, Ok, Err, IfErr}
-use Rattle.nv_plain.specs.Layouts.{version_1}
+use Rattle.std.specs.Prelude.{Option, Some, None, IfSome, Result, Ok, Err, IfErr, IfOk}
+use Rattle.nv_plain.specs.Layouts.{mount_layout}
 use Rattle.nv_plain.specs.Recovered.{recovered}
 use Rattle.nv_pmem.specs.Laws.{QuietPartHasOneImage}
 use Rattle.nv_pmem.specs.Part.{Part}
@@ -19,6 +19,7 @@ use Rattle.nv_recover.specs.Standing.{files_of}
 use Rattle.nv_recover.specs.declared.recovering.Recovered.{Recovered}
 use Rattle.nv_open.specs.Begun.{IsFormatted, IsOpeningBegun}
 use Rattle.nv_open.specs.Held.{HoldFiles, IsRecovered, files_named, names_opened, AreUnwritten}
+use Rattle.nv_open.specs.Layers.{HasMountLines}
 use Rattle.nv_open.specs.Lending.{stores_named, stores_lent}
 use Rattle.nv_open.specs.Refusals.{rooms_of, IsRefusedFor, IsBadHeader}
 use Rattle.nv_open.specs.declared.error.Refusal.{Refusal}
@@ -36,6 +37,15 @@ if_some_any (Some holding) has = has
 pub if_err_map : {T E : Type 0} (P Q : E → Type 0) (result : Result T E) → ((error : E) → P error → Q error) → IfErr result P → IfErr result Q
 if_err_map P Q (Ok value) step has = tt
 if_err_map P Q (Err error) step has = step error has
+
+-- what holds whatever something is
+pub if_ok_all : {A T E : Type 0} (result : Result T E) (P : A → T → Type 0) → ((x : A) → IfOk result (P x)) → IfOk result (λ value. (x : A) → P x value)
+if_ok_all (Ok value) P each = each
+if_ok_all (Err error) P each = tt
+
+pub if_err_all : {A T E : Type 0} (result : Result T E) (P : A → E → Type 0) → ((x : A) → IfErr result (P x)) → IfErr result (λ error. (x : A) → P x error)
+if_err_all (Ok value) P each = tt
+if_err_all (Err error) P each = each
 
 pub if_err_both : {T E : Type 0} (P Q R : E → Type 0) (result : Result T E) → ((error : E) → P error → Q error → R error) → IfErr result P → IfErr result Q → IfErr result R
 if_err_both P Q R (Ok value) step one other = tt
@@ -89,13 +99,12 @@ files_blank row stores (Some holding) names no_name no_store blank =
 
 -- A blank region isn't refused, where a bench tells what it gave.
 pub not_short : (row : List lines.PartHistory) (geometry : Geometry) (P : List Part → Type 0) → RowTells row (λ told. is_blank told ≡ true)
-    → RowTells row (λ told. is_blank told ≡ true → HasLines version_1 geometry.page geometry.entries (rooms_of told))
-    → RowTells row (λ told. ¬ (HasLines version_1 geometry.page geometry.entries (rooms_of told))) → RowTells row P
+    → RowTells row (HasMountLines geometry)
+    → RowTells row (λ told. ¬ (HasLines mount_layout geometry.page geometry.entries (rooms_of told))) → RowTells row P
 not_short row geometry P blank long short =
     row_tells_from row P (λ told are.
-    absurd (row_tells_at row (λ these. ¬ (HasLines version_1 geometry.page geometry.entries (rooms_of these))) told are short
-    (row_tells_at row (λ these. is_blank these ≡ true → HasLines version_1 geometry.page geometry.entries (rooms_of these)) told are long
-    (row_tells_at row (λ these. is_blank these ≡ true) told are blank))))
+    absurd (row_tells_at row (λ these. ¬ (HasLines mount_layout geometry.page geometry.entries (rooms_of these))) told are short
+    ((row_tells_at row (HasMountLines geometry) told are long).blank (row_tells_at row (λ these. is_blank these ≡ true) told are blank))))
 
 pub opened_short : (row : List lines.PartHistory) (why : Refusal) → IsBadHeader why → HasOpened why [] row
 opened_short row why bad = has_opened why [] row (row_tells_from row (λ told. names_opened why told ≡ []) (λ told are. names_of_header why told bad))

@@ -18,7 +18,7 @@ use Rattle.nv_header.specs.Regions.{IsBlankRow}
 zero_is_blank : (n : ℕ) → n ≡ 0 → true ≡ (n == 0)
 zero_is_blank n is = ap (λ (k : ℕ). k == 0) (sym is)
 
-blank_is_zero : (n : ℕ) → (n == 0) ≡ true → n ≡ 0
+pub blank_is_zero : (n : ℕ) → (n == 0) ≡ true → n ≡ 0
 blank_is_zero n is = grind (arith, nat_tests)
 
 module _ {X : Type 0} (zeros : BlankIsZeros) (history : X → PartHistory) (room : X → Room) (lines : (p : X) (now : Part) (past : PartHistory) → history p ≡ now ∷ past → length now ≡ (room p).lines) where

@@ -3,7 +3,7 @@ use Rattle.std.proofs.Common.{◌≡◌, ℕ, suc, zero, List, [], ◌∷◌, �
 use Rattle.std.specs.Prelude.{All, Contains, Option, Some, None, IfSome, option_map, Result, Ok, Err, IfErr}
 use Rattle.std.proofs.lemmas.List.{append-nil, length-map}
 use Rattle.nv_plain.specs.Files.{Files}
-use Rattle.nv_plain.specs.Layouts.{version_1}
+use Rattle.nv_plain.specs.Layouts.{Layout, mount_layout, mount_version}
 use Rattle.nv_pmem.specs.Part.{Part}
 use Rattle.nv_pmem.specs.RowStates.{AreNow, TellingRowsHaveStates, row_tells_from, row_tells_at}
 use Rattle.nv_pmem.specs.Rows.{AreQuiet, RowTells}
@@ -128,11 +128,11 @@ module _ {X Y : Type 0} (part_history : X → lines.PartHistory) (store_history 
   none_of_header = row_tells_from (map part_history before) (AreOfHeader []) (λ told told_are name there. absurd (none_in name there))
 
   -- devices of a recovery that failed
-  pub stood_back : (names : List (List ℕ)) → RowTells (map part_history before) (λ told. header_names told ≡ names) → AreFileNames version_1 names → length stores ≡ length names → HaveSameLines (map part_history before) (map part_history now)
+  pub stood_back : (layout : Layout) (names : List (List ℕ)) → RowTells (map part_history before) (λ told. header_names told ≡ names) → AreFileNames layout names → length stores ≡ length names → HaveSameLines (map part_history before) (map part_history now)
       → new ≡ with_faults new.faults (stores_lent names old)
       → ((holding : Holding) → old.told ≡ Some holding → (told : List Part) → AreNow (map part_history before) told → StandAsBefore told (stores_named names holding.stores) (map part_history now) (map store_history stores))
       → IfSome old.told (λ holding. RowTells (map part_history before) (λ told. HasHeader told → GivesBack part_history store_history (StandsAsBefore (record { parts = told; stores = holding.stores })) new now stores))
-  stood_back names named_so are_names one_each alike is stands =
+  stood_back layout names named_so are_names one_each alike is stands =
       if_some old.told (λ holding. RowTells (map part_history before) (λ told. HasHeader told → GivesBack part_history store_history (StandsAsBefore (record { parts = told; stores = holding.stores })) new now stores)) (λ holding told_is.
       row_tells_from (map part_history before) (λ told. HasHeader told → GivesBack part_history store_history (StandsAsBefore (record { parts = told; stores = holding.stores })) new now stores) (λ told told_are readable.
       let left = stands holding told_is told told_are in
@@ -175,11 +175,11 @@ first_of_header row count names says =
 
 -- parts at rest, with the stores of their names that were lent
 pub rest_back : {X Y : Type 0} (part_history : X → lines.PartHistory) (store_history : Y → StoreHistory) (bench : BenchState) (parts : List X) (stores : List Y) (page entries : ℕ) (names : List (List ℕ)) (next : ℕ) (files : Files)
-    → TellingRowsHaveStates → bench.lent ≡ names → HoldFiles (map store_history stores) files → RowTells (map part_history parts) (IsAtRest version_1 page entries names next)
-    → IfSome bench.told (λ holding. AllTell (map part_history parts) → GivesBack part_history store_history (IsAtRestWith page entries names next files holding.stores) bench parts stores)
+    → TellingRowsHaveStates → bench.lent ≡ names → HoldFiles (map store_history stores) files → RowTells (map part_history parts) (IsAtRest mount_layout page entries names next)
+    → IfSome bench.told (λ holding. AllTell (map part_history parts) → GivesBack part_history store_history (IsAtRestWith mount_version page entries names next files holding.stores) bench parts stores)
 rest_back part_history store_history bench parts stores page entries names next files states lent holds rest =
     let row = map part_history parts in
-    if_some bench.told (λ holding. AllTell row → GivesBack part_history store_history (IsAtRestWith page entries names next files holding.stores) bench parts stores) (λ holding told_is tell.
+    if_some bench.told (λ holding. AllTell row → GivesBack part_history store_history (IsAtRestWith mount_version page entries names next files holding.stores) bench parts stores) (λ holding told_is tell.
     let now = states row tell in
     let back : List (List ℕ) → Holding → Holding = λ lent holding. record { parts = now.states; stores = holding.stores ++ named_stores lent holds.held } in
     record {
@@ -191,7 +191,7 @@ rest_back part_history store_history bench parts stores page entries names next 
         now = back names holding;
         told_is = ap (λ (told : Option Holding). option_map (back bench.lent) told) told_is ∙ ap (λ lent. Some (back lent holding)) lent;
         is_so = record {
-          rest = row_tells_at row (IsAtRest version_1 page entries names next) now.states now.are rest;
+          rest = row_tells_at row (IsAtRest mount_layout page entries names next) now.states now.are rest;
           held = holds.held;
           stores_are = refl;
           files_are = holds.files_are;

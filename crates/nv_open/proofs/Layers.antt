@@ -1,21 +1,27 @@
 -- What each step of an opening leaves, put together of what its calls did.
-use Rattle.std.proofs.Common.{◌≡◌, ◌+◌, ℕ, List, [], ◌++◌, length, map, true, false, sym, ap, ◌∙◌, subst, arith, length-append}
+use Rattle.std.proofs.Common.{◌≡◌, ◌+◌, ℕ, List, [], ◌++◌, ◌⊎◌, inl, inr, length, map, take, zero, suc, refl, true, false, sym, ap, ◌∙◌, subst, arith, length-append}
 use Rattle.std.specs.Prelude.{All, IfSome, Option, None, Some, option_map, Vec, Result, Ok, Err, IfOk, IfErr}
 use Rattle.nv_plain.specs.Files.{Files}
+use Rattle.nv_plain.specs.Images.{Image, version_in}
+use Rattle.nv_plain.specs.Layouts.{layout_of, mount_layout, mount_version}
+use Rattle.nv_plain.specs.declared.limits.Version.{Version}
 use Rattle.nv_pmem.specs.Moments.{Tells}
 use Rattle.nv_pmem.specs.Part.{Part}
 use Rattle.nv_pmem.specs.RowStates.{AreNow, TellingRowsHaveStates, row_tells_at, row_tells_from}
-use Rattle.nv_pmem.specs.Rows.{RowTells}
+use Rattle.nv_pmem.specs.Rows.{InEachRowImage, RowTells}
 use Rattle.nv_pmem.specs.Steps as lines
 use Rattle.nv_pmem.specs.declared.geometry.Geometry.{Geometry}
 use Rattle.nv_store.specs.Steps.{StoreHistory}
 use Rattle.nv_store.specs.Store.{IsQuietStore}
 use Rattle.nv_bench.specs.Benches.{BenchState, with_faults}
-use Rattle.nv_bench.specs.Holding.{Holding}
+use Rattle.nv_bench.specs.Holding.{Holding, NamedStore}
+use Rattle.nv_bench.specs.Naming.{HasDistinctStores}
 use Rattle.nv_bench.specs.Opening.{is_blank}
 use Rattle.nv_bench.specs.declared.bench.BenchError.{BenchError}
 use Rattle.nv_bench.specs.declared.bench.BenchError.TheVariants.{Failed, NoMemory}
 use Rattle.nv_header.specs.Changes.{parts_after_format}
+use Rattle.nv_header.specs.FileNames.{AreFileNames}
+use Rattle.nv_header.specs.Regions.{HasEmptyLog}
 use Rattle.nv_header.specs.declared.region.Region.{Region}
 use Rattle.nv_recover.specs.Answers.{answer_of, parts_after}
 use Rattle.nv_recover.specs.Telling.{AllTell}
@@ -25,8 +31,8 @@ use Rattle.nv_open.specs.Adding.{all_names, new_names}
 use Rattle.nv_open.specs.Begun.{IsFormatted, IsOpeningBegun, files_behind}
 use Rattle.nv_open.specs.Layers.{HasAdded, HasNotAdded, IsBegunOpen, IsNotBegun, IsNotRecovered, IsOpenedOpen, IsRecoveredOpen, IsUnopened}
 use Rattle.nv_open.specs.Lending.{stores_lent, without_named}
-use Rattle.nv_open.specs.Refusals.{IsRefusedFor, of_bench}
-use Rattle.nv_open.specs.Unopened.{GivesBack, HasHeader, HasRest, HasSome, HaveSameLines, InEachImage, IsGood, IsUntouched, RestsUnopened, StandForFiles, StandsAsBefore, StandsOpening, line_counts}
+use Rattle.nv_open.specs.Refusals.{IsRefusedFor, head_image, of_bench}
+use Rattle.nv_open.specs.Unopened.{GivesBack, HasFirstNames, HasHeader, HasRest, HasSome, HaveSameLines, InEachImage, IsGood, IsUntouched, RestsUnopened, StandForFiles, StandsAsBefore, StandsOpening, TellRow, line_counts, version_known}
 use Rattle.nv_open.specs.declared.error.OpenError.{OpenError}
 use Rattle.nv_open.specs.declared.error.OpenError.TheVariants as error
 use Rattle.nv_open.specs.declared.error.Refusal.{Refusal}
@@ -34,8 +40,10 @@ use Rattle.nv_open.specs.declared.error.Refusal.TheVariants.{TooManyFiles}
 use Rattle.nv_open.proofs.Beginnings.{begun_formatted, begun_kept, files_blank, if_some_any, if_some_map, refused_kept, unwritten_since}
 use Rattle.nv_open.proofs.GivenBack.{at_some, if_some}
 use Rattle.nv_open.proofs.LineCounts.{lines_behind}
-use Rattle.nv_open.proofs.PartlyBack.{kept_back, never_too_many, too_many_rest, with_wanted}
-use Rattle.nv_open.proofs.WithWanted.{lent_both, not_opened, opened_passed, too_many}
+use Rattle.nv_open.proofs.Openings.{opened_none}
+use Rattle.nv_open.proofs.Partly.{kept_version, row_more}
+use Rattle.nv_open.proofs.PartlyBack.{added_back, alone_are, kept_back, never_too_many, too_many_rest, with_wanted}
+use Rattle.nv_open.proofs.WithWanted.{lent_both, not_opened, opened_passed, still_quiet, too_many}
 use Rattle.std.proofs.lemmas.List.Elements.{All-nil}
 
 -- a bench refuses nothing
@@ -78,6 +86,10 @@ pub lines_after : {X A E : Type 0} {g : _} (part_history : X → lines.PartHisto
     → IfErr result (λ failed. HaveSameLines row (map part_history failed.0.items))
 lines_after part_history row (Ok done) alike = tt
 lines_after part_history row (Err failed) alike = alike
+
+-- a version that is that of a mount is known of any region
+pub mounted : (row : List lines.PartHistory) → RowTells row (λ told. (mount_version ≡ version_known told) ⊎ (mount_version ≡ mount_version))
+mounted row = row_tells_from row (λ told. (mount_version ≡ version_known told) ⊎ (mount_version ≡ mount_version)) (λ told are. inr refl)
 
 module _ {X Y : Type 0} (part_history : X → lines.PartHistory) (store_history : Y → StoreHistory) (old new : BenchState) (before : List X) (stores : List Y) where
   -- ---- a recovery
@@ -184,6 +196,28 @@ module _ {X Y : Type 0} (part_history : X → lines.PartHistory) (store_history 
         → GivesBack part_history store_history (IsUntouched (record { parts = told; stores = holding.stores })) new left stores))) same is.untouched);
   }
 
+  -- the same of parts that tell the same
+  pub begun_since : (back parts : List X) (geometry : Geometry) (page entries : ℕ) (names : List (List ℕ)) (next : ℕ) → map part_history back ≡ map part_history before
+      → IsBegunOpen part_history store_history old new back stores geometry page entries names next parts → IsBegunOpen part_history store_history old new before stores geometry page entries names next parts
+  begun_since back parts geometry page entries names next same is = record {
+    devices = record { lent = is.devices.lent; one_each = is.devices.one_each; quiet = is.devices.quiet; tell = is.devices.tell; lines_kept = subst (λ (row : List lines.PartHistory). IfSome old.told (λ holding. HaveSameLines row (map part_history parts))) same is.devices.lines_kept };
+    begun = subst (λ (row : List lines.PartHistory). RowTells row (λ told. IsOpeningBegun told geometry page entries names next)) same is.begun;
+    files = subst (λ (row : List lines.PartHistory). IfSome old.told (λ holding. RowTells row (λ told. HoldFiles (map store_history stores) (files_named told names holding.stores)))) same is.files;
+  }
+
+  pub not_begun_since : (back left : List X) (geometry : Geometry) (error : OpenError) → map part_history back ≡ map part_history before
+      → IsNotBegun part_history store_history old new back left stores geometry error → IsNotBegun part_history store_history old new before left stores geometry error
+  not_begun_since back left geometry error same is = record {
+    refused = λ why refused. subst (λ (row : List lines.PartHistory). IfSome old.told (λ holding. RowTells row (λ told. (is_blank told ≡ false) × IsRefusedFor told why))) same (is.refused why refused);
+    unwritten = λ why refused. unwritten_since part_history store_history why old new before back left stores same (is.unwritten why refused);
+    standing = λ wanted.
+        subst (λ (row : List lines.PartHistory). IfSome old.told (λ holding. RowTells row (λ told. StandForFiles told
+        → GivesBack part_history store_history (StandsOpening (line_counts told) geometry (record { parts = told; stores = holding.stores }) wanted) new left stores))) same (is.standing wanted);
+    untouched =
+        subst (λ (row : List lines.PartHistory). IfSome old.told (λ holding. RowTells row (λ told. is_blank told ≡ false → ¬ (IsGood told)
+        → GivesBack part_history store_history (IsUntouched (record { parts = told; stores = holding.stores })) new left stores))) same is.untouched;
+  }
+
   -- ---- names that are added
 
   pub is_added : {A : Type 0} {g : _} (result : Result (Region X g) (Vec X A × OpenError)) (region_geometry : Geometry) (known wanted missing : List (List ℕ)) (region_next : ℕ) (stores_before : List Y)
@@ -212,7 +246,7 @@ module _ {X Y : Type 0} (part_history : X → lines.PartHistory) (store_history 
   pub not_added : {A : Type 0} {g : _} (result : Result (Region X g) (Vec X A × OpenError)) (page entries : ℕ) (known wanted : List (List ℕ)) (next : ℕ) (stores_before : List Y)
       → ((why : Refusal) → IfErr result (λ failed. ¬ (failed.1 ≡ error.Refused why)))
       → ((files : Files) → HoldFiles (map store_history stores_before) files → IfErr result (λ failed. IfSome old.told (λ holding. (told : List Part) → AreNow (map part_history before) told
-      → GivesBack part_history store_history (λ now. InEachImage (HasSome page entries (length known) (all_names known wanted) (files_behind files (new_names known wanted) holding.stores)) now × HasRest (line_counts told) known holding.stores now) new failed.0.items stores)))
+      → GivesBack part_history store_history (λ now. InEachImage (HasSome mount_version page entries (length known) (all_names known wanted) (files_behind files (new_names known wanted) holding.stores)) now × HasRest (line_counts told) known holding.stores now) new failed.0.items stores)))
       → IfErr result (λ failed. HasNotAdded part_history store_history old new page entries known wanted next before failed.0.items stores_before stores failed.1)
   not_added (Ok added) page entries known wanted next stores_before never standing = tt
   not_added (Err failed) page entries known wanted next stores_before never standing = record {
@@ -220,6 +254,105 @@ module _ {X Y : Type 0} (part_history : X → lines.PartHistory) (store_history 
     rests = λ files holds is. absurd (never TooManyFiles is);
     standing = standing;
   }
+
+-- ---- a region that is carried over
+
+-- none of the names that are to come is there
+none_yet : (version : Version) (page entries : ℕ) (known more : List (List ℕ)) (next : ℕ) (image : Image) → HasFirstNames version page entries known [] next image → HasFirstNames version page entries known more next image
+none_yet version page entries known more next image has =
+    let no_name : take has.count [] ≡ take 0 more = take_none has.count in
+    record { now = has.now; now_is = has.now_is; count = 0; empty = subst (λ (names : List (List ℕ)). HasEmptyLog (layout_of has.now) page entries (known ++ names) next image) no_name has.empty }
+  where
+    no_names : List (List ℕ)
+    no_names = []
+
+    take_none : (count : ℕ) → take count no_names ≡ no_names
+    take_none zero = refl
+    take_none (suc count) = refl
+
+module _ {X Y A : Type 0} {g : _} (part_history : X → lines.PartHistory) (store_history : Y → StoreHistory) (old new : BenchState) (before region_parts : List X) (stores : List Y) (geometry : Geometry)
+    (region_geometry : Geometry) (known : List (List ℕ)) (next : ℕ) (begun : IsBegunOpen part_history store_history old new before stores geometry region_geometry.page region_geometry.entries known next region_parts)
+    (states : TellingRowsHaveStates) (result : Result (Region X g) (Vec X A × OpenError)) where
+  pub carried_begins : IfOk result (λ carried. carried.geometry ≡ region_geometry) → IfOk result (λ carried. carried.names ≡ known) → IfOk result (λ carried. carried.next ≡ next)
+      → HaveSameLines (map part_history region_parts) (map part_history (parts_after_format result))
+      → (AllTell (map part_history region_parts) → IfOk result (λ carried. AllTell (map part_history carried.parts.items)))
+      → IfOk result (λ carried. IsBegunOpen part_history store_history old new before stores geometry carried.geometry.page carried.geometry.entries carried.names carried.next carried.parts.items)
+  carried_begins = by result
+    where
+      by : (result : Result (Region X g) (Vec X A × OpenError)) → IfOk result (λ carried. carried.geometry ≡ region_geometry) → IfOk result (λ carried. carried.names ≡ known) → IfOk result (λ carried. carried.next ≡ next)
+          → HaveSameLines (map part_history region_parts) (map part_history (parts_after_format result))
+          → (AllTell (map part_history region_parts) → IfOk result (λ carried. AllTell (map part_history carried.parts.items)))
+          → IfOk result (λ carried. IsBegunOpen part_history store_history old new before stores geometry carried.geometry.page carried.geometry.entries carried.names carried.next carried.parts.items)
+      by (Err failed) geometry_is names_are next_is alike tells = tt
+      by (Ok carried) geometry_is names_are next_is alike tells =
+          let Begun : Geometry → List (List ℕ) → ℕ → Type 0 = λ sizes names next. IsBegunOpen part_history store_history old new before stores geometry sizes.page sizes.entries names next carried.parts.items in
+          let here : Begun region_geometry known next = record {
+            devices = record {
+              lent = begun.devices.lent;
+              one_each = begun.devices.one_each;
+              quiet = begun.devices.quiet;
+              tell = if_some_map old.told begun.devices.tell tells;
+              lines_kept =
+                  if_some old.told (λ holding. HaveSameLines (map part_history before) (map part_history carried.parts.items)) (λ holding told_is.
+                  lines_behind states (map part_history before) (map part_history region_parts) (map part_history carried.parts.items) (at_some old.told (λ holding. AllTell (map part_history region_parts)) holding told_is begun.devices.tell)
+                  (at_some old.told (λ holding. HaveSameLines (map part_history before) (map part_history region_parts)) holding told_is begun.devices.lines_kept) alike);
+            };
+            begun = begun.begun;
+            files = begun.files;
+          } in
+          subst (λ (sizes : Geometry). Begun sizes carried.names carried.next) (sym geometry_is)
+          (subst (λ (names : List (List ℕ)). Begun region_geometry names carried.next) (sym names_are) (subst (λ (n : ℕ). Begun region_geometry known n) (sym next_is) here))
+
+  -- Where that failed it stands as after a recovery, in one of the two versions.
+  pub not_carried : (version : Version) → RowTells (map part_history before) (λ told. is_blank told ≡ false) → RowTells (map part_history before) (λ told. version ≡ version_in (head_image told))
+      → HasDistinctStores new → old.lent ≡ [] → AreFileNames mount_layout known → IfSome old.told (λ holding. All (λ (named : NamedStore). IsQuietStore named.store) holding.stores)
+      → ((why : Refusal) → IfErr result (λ failed. ¬ (failed.1 ≡ error.Refused why)))
+      → (AllTell (map part_history region_parts) → IfErr result (λ failed.
+      TellRow (InEachRowImage (HasFirstNames version region_geometry.page region_geometry.entries known [] next)) (map part_history failed.0.items)))
+      → HaveSameLines (map part_history region_parts) (map part_history (parts_after_format result))
+      → IfErr result (λ failed. IsNotBegun part_history store_history old new before failed.0.items stores geometry failed.1)
+  not_carried version kept of named home are_names synced = by result
+    where
+      row : List lines.PartHistory
+      row = map part_history before
+
+      mid_told : new.told ≡ option_map (without_named known) old.told
+      mid_told = ap (λ (state : BenchState). state.told) begun.devices.lent
+
+      known_version : RowTells row (λ told. (version ≡ version_known told) ⊎ (version ≡ mount_version))
+      known_version =
+          row_tells_from row (λ told. (version ≡ version_known told) ⊎ (version ≡ mount_version)) (λ told are.
+          inl (row_tells_at row (λ told. version ≡ version_in (head_image told)) told are of ∙ sym (kept_version told (row_tells_at row (λ told. is_blank told ≡ false) told are kept))))
+
+      by : (result : Result (Region X g) (Vec X A × OpenError)) → ((why : Refusal) → IfErr result (λ failed. ¬ (failed.1 ≡ error.Refused why)))
+          → (AllTell (map part_history region_parts) → IfErr result (λ failed.
+          TellRow (InEachRowImage (HasFirstNames version region_geometry.page region_geometry.entries known [] next)) (map part_history failed.0.items)))
+          → HaveSameLines (map part_history region_parts) (map part_history (parts_after_format result))
+          → IfErr result (λ failed. IsNotBegun part_history store_history old new before failed.0.items stores geometry failed.1)
+      by (Ok carried) never left alike = tt
+      by (Err failed) never left alike = record {
+        refused = λ why is. absurd (never why is);
+        unwritten = λ why is. absurd (never why is);
+        standing = λ wanted.
+            let none = opened_none {Y = Y} store_history (λ store. 0) new stores stores refl in
+            if_some old.told (λ holding. RowTells row (λ told. StandForFiles told
+            → GivesBack part_history store_history (StandsOpening (line_counts told) geometry (record { parts = told; stores = holding.stores }) wanted) new failed.0.items stores)) (λ holding told_is.
+            at_some old.told (λ holding. RowTells row (λ told. StandForFiles told
+            → GivesBack part_history store_history (StandsOpening (line_counts told) geometry (record { parts = told; stores = holding.stores }) wanted) new failed.0.items stores)) holding told_is
+            (with_wanted {T = ℕ} part_history store_history (Err failed) (λ (failed : Vec X A × OpenError). failed.0.items) old.told new.told new row (map part_history region_parts) (map store_history stores) stores geometry
+            version region_geometry.page region_geometry.entries known wanted next known_version states (at_some old.told (λ holding. HaveSameLines row (map part_history region_parts)) holding told_is begun.devices.lines_kept) mid_told begun.begun begun.files begun.devices.tell
+            (λ files holds.
+            added_back part_history store_history new new (map part_history region_parts) failed.0.items stores stores none.stores version known wanted [] region_geometry.page region_geometry.entries next files named
+            (ap (λ (state : BenchState). state.lent) begun.devices.lent ∙ ap (λ (front : List (List ℕ)). front ++ known) home) (alone_are known are_names) begun.devices.one_each holds
+            (still_quiet (length stores) old new (record { names = known; lent = begun.devices.lent; one_each = begun.devices.one_each }) synced) none.behind none.lent none.told
+            (λ tell. row_more (HasFirstNames version region_geometry.page region_geometry.entries known [] next) (HasFirstNames version region_geometry.page region_geometry.entries known (new_names known wanted) next)
+            (map part_history failed.0.items) (λ image has. none_yet version region_geometry.page region_geometry.entries known (new_names known wanted) next image has) (left tell)) alike)));
+        untouched =
+            never_bad old.told row (λ holding told. GivesBack part_history store_history (IsUntouched (record { parts = told; stores = holding.stores })) new failed.0.items stores)
+            (row_tells_from row (λ told. is_blank told ≡ false → ¬ (IsGood told) → ⊥) (λ told are kept not_good.
+            not_good (good_begun told geometry region_geometry.page region_geometry.entries known next
+            (row_tells_at row (λ told. IsOpeningBegun told geometry region_geometry.page region_geometry.entries known next) told are begun.begun) kept)));
+      }
 
 module _ {X Y A : Type 0} {g : _} (part_history : X → lines.PartHistory) (store_history : Y → StoreHistory) (old mid new : BenchState) (before region_parts : List X) (stores_mid stores : List Y) (geometry : Geometry) (wanted : List (List ℕ))
     (region_geometry : Geometry) (known : List (List ℕ)) (next : ℕ) (begun : IsBegunOpen part_history store_history old mid before stores_mid geometry region_geometry.page region_geometry.entries known next region_parts) (states : TellingRowsHaveStates) (result : Result (Region X g) (Vec X A × OpenError)) where
@@ -274,7 +407,7 @@ module _ {X Y A : Type 0} {g : _} (part_history : X → lines.PartHistory) (stor
             at_some old.told (λ holding. RowTells (map part_history before) (λ told. StandForFiles told
             → GivesBack part_history store_history (StandsOpening (line_counts told) geometry (record { parts = told; stores = holding.stores }) wanted) new failed.0.items stores)) holding told_is
             (with_wanted {T = ℕ} part_history store_history (Err failed) (λ (failed : Vec X A × OpenError). failed.0.items) old.told mid.told new (map part_history before) (map part_history region_parts) (map store_history stores_mid) stores geometry
-            region_geometry.page region_geometry.entries known wanted next states (at_some old.told (λ holding. HaveSameLines (map part_history before) (map part_history region_parts)) holding told_is begun.devices.lines_kept) mid_told begun.begun begun.files begun.devices.tell is.standing));
+            mount_version region_geometry.page region_geometry.entries known wanted next (mounted (map part_history before)) states (at_some old.told (λ holding. HaveSameLines (map part_history before) (map part_history region_parts)) holding told_is begun.devices.lines_kept) mid_told begun.begun begun.files begun.devices.tell is.standing));
         untouched =
             never_bad old.told (map part_history before) (λ holding told. GivesBack part_history store_history (IsUntouched (record { parts = told; stores = holding.stores })) new failed.0.items stores)
             (row_tells_from (map part_history before) (λ told. is_blank told ≡ false → ¬ (IsGood told) → ⊥) (λ told are kept not_good.

@@ -1,4 +1,6 @@
 pub mod Texts
+pub mod Versions
+pub mod Lengthened
 pub mod Openings
 pub mod LineCounts
 pub mod HeadLaws

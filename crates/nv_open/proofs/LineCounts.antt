@@ -1,11 +1,11 @@
 -- The lines of parts, which are all that the rules on lines look at.
 use Rattle.std.proofs.Common.{◌≡◌, ℕ, ◌+◌, ◌≤◌, min, List, [], ◌∷◌, length, map, take, drop, zero, suc, refl, sym, ap, ◌∙◌, subst, arith}
-use Rattle.std.specs.Prelude.{All, sum_by}
+use Rattle.std.specs.Prelude.{All, slice_index_or, sum_by}
 use Rattle.std.proofs.lemmas.List.{length-map, take-map, drop-map, get_or-map}
 use Rattle.std.proofs.lemmas.List.Elements.{All-map}
 use Rattle.std.proofs.lemmas.List.Sums.{sum_by-cons}
 use Rattle.std.specs.List.{AllZip}
-use Rattle.nv_plain.specs.Layouts.{Layout}
+use Rattle.nv_plain.specs.Layouts.{Layout, mount_layout}
 use Rattle.nv_pmem.specs.Limits.{entry_lines}
 use Rattle.nv_pmem.specs.Part.{Part}
 use Rattle.nv_pmem.specs.Room.{Room, Keeps}
@@ -14,6 +14,8 @@ use Rattle.nv_pmem.specs.Rows.{RowTells}
 use Rattle.nv_pmem.specs.Steps.{PartHistory}
 use Rattle.nv_header.specs.Laws.{HasSpare}
 use Rattle.nv_header.specs.Needs.{HasLines, header_lines_in, lines_found}
+use Rattle.nv_header.specs.Regions.{HasParts, IsRoomy, part_lines}
+use Rattle.nv_recover.specs.Changes.{StayParts}
 use Rattle.nv_recover.specs.Telling.{AllTell}
 use Rattle.nv_open.specs.Refusals.{rooms_of}
 use Rattle.nv_open.specs.Unopened.{HaveSameLines, line_counts}
@@ -93,6 +95,20 @@ kept_spare room (x ∷ old) [] keeps spare k d inside = absurd keeps
 kept_spare room (x ∷ old) (y ∷ new) keeps spare zero d inside = λ line below. omega (arith, keeps.0.spare line, keeps.0.lines, spare 0 d (omega arith) line (omega (arith, keeps.0.lines)))
 kept_spare room (x ∷ old) (y ∷ new) keeps spare (suc k) d inside =
     kept_spare room old new keeps.1 (λ i none within. spare (suc i) none (omega arith)) k d (omega arith)
+
+-- where the header's part has the lines of a mount's header, it has room for that, also after calls that let parts stay those of a region
+header_room : (rooms : List Room) → All HasSpare rooms → mount_layout.header_lines ≤ header_lines_in rooms → HasParts mount_layout 0 0 rooms
+header_room [] spare long = absurd (omega (arith, long))
+header_room (room ∷ rooms) spare long = record { count = omega arith; each = λ i none within. at i none within }
+  where
+    at : (i : ℕ) (none : Room) → i ≤ 0 → IsRoomy (part_lines mount_layout 0 i) (slice_index_or (room ∷ rooms) i none)
+    at zero none within = record { there = long; spare = λ line below. spare 0 room (omega arith) line (omega (arith, below, long)) }
+    at (suc i) none within = absurd (omega (arith, within))
+
+pub roomy_header : (back after : List Room) {read : List Room} → back ≡ read → All HasSpare read → mount_layout.header_lines ≤ header_lines_in read → StayParts back after
+    → (none : Room) → IsRoomy mount_layout.header_lines (slice_index_or after 0 none)
+roomy_header back after same spare long stay none =
+    (stay mount_layout 0 0 (subst (HasParts mount_layout 0 0) (sym same) (header_room _ spare long))).each 0 none (omega arith)
 
 -- Parts have the lines that they tell of.
 pub told_counts : {X : Type 0} (history : X → PartHistory) (room : X → Room) → ((p : X) (now : Part) (past : PartHistory) → history p ≡ now ∷ past → length now ≡ (room p).lines)

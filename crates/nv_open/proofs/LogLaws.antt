@@ -2,7 +2,7 @@
 use Rattle.std.proofs.Common.{◌≡◌, ℕ, suc, ◌≤◌, List, [], ◌∷◌, length, map, refl, sym, ap, ◌∙◌, subst, arith}
 use Rattle.std.proofs.lemmas.List.{length-map}
 use Rattle.nv_plain.specs.Images.{layout_in}
-use Rattle.nv_plain.specs.Layouts.{version_1}
+use Rattle.nv_plain.specs.Layouts.{layout_of}
 use Rattle.nv_plain.specs.Recovered.{region_files}
 use Rattle.nv_pmem.specs.Moments.{Tells}
 use Rattle.nv_pmem.specs.Part.{Part}
@@ -27,14 +27,15 @@ use Rattle.nv_recover.specs.declared.recovering.Recovered.{Recovered}
 use Rattle.nv_open.specs.Held.{HoldFiles, IsRecovered}
 use Rattle.nv_open.specs.Unopened.{IsGood}
 use Rattle.nv_plain.specs.Recovered.{Fits}
-use Rattle.nv_open.specs.Refusals.{of_recovery, header_part, CanBeRead, IsRefusedFor, IsBadLog}
+use Rattle.nv_open.specs.Refusals.{of_recovery, header_part, head_layout, CanBeRead, IsRefusedFor, IsBadLog}
 use Rattle.nv_open.specs.declared.error.OpenError.TheVariants as error
 use Rattle.nv_open.specs.declared.error.Refusal.{Refusal}
 use Rattle.nv_open.specs.declared.error.Refusal.TheVariants.{BadEntry}
-use Rattle.nv_open.proofs.HeadLaws.{refused_is, head_told, long_told, some_part}
+use Rattle.nv_open.proofs.HeadLaws.{can_told, head_told, long_told, names_told, refused_is, some_part}
+use Rattle.nv_open.proofs.Versions.{least_lines}
 
 -- an image of all parts has the header of the first
-pub whole_image : (told : List Part) → CanBeRead told → IsHead version_1 (length (header_part told)) (row_words told)
+pub whole_image : (told : List Part) → CanBeRead told → IsHead (head_layout told) (length (header_part told)) (row_words told)
 whole_image told can = record {
   long_enough = can.long_enough;
   fields = can.fields;
@@ -54,19 +55,19 @@ files_held old new was readable states keep was_are tell stand across can =
     record {
       held = held;
       are = are;
-      files_are = holds.files ∙ sym (readable version_1 (length (header_part told)) (row_words told) (files_of was) (whole_image told (can told told_are)));
+      files_are = holds.files ∙ sym (readable (head_layout told) (length (header_part told)) (row_words told) (files_of was) (whole_image told (can told told_are)));
       quiet = holds.synced;
     })
 
 module _ {X : Type 0} (history : X → lines.PartHistory) (room : X → Room) (told_lines : (p : X) (now : Part) (past : lines.PartHistory) → history p ≡ now ∷ past → length now ≡ (room p).lines)
-    (parts : List X) (one : Head) (has : HasLines version_1 one.geometry.page one.geometry.entries (map room parts))
-    (is : Tells (header_history (map history parts)) (λ now. IsHeadOf version_1 (header_lines_in (map room parts)) (header_image now) one)) where
+    (parts : List X) (one : Head) (has : HasLines (layout_of one.version) one.geometry.page one.geometry.entries (map room parts))
+    (is : Tells (header_history (map history parts)) (λ now. IsHeadOf (layout_of one.version) (header_lines_in (map room parts)) (header_image now) one)) where
   some : 1 ≤ length parts
-  some = some_part room parts (λ short. omega (arith, has.header))
+  some = some_part room parts (λ short. omega (arith, has.header, least_lines one.version))
 
   -- the header can be read
   pub can_be_read : (told : List Part) → AreNow (map history parts) told → CanBeRead told
-  can_be_read told are = (head_told history room told_lines parts told one some are is).readable
+  can_be_read told are = can_told history room told_lines parts told one some are is
 
   -- and says what is recovered
   pub recovered_told : (page entries : ℕ) (names : List (List ℕ)) (next : ℕ) (found : Recovered)
@@ -77,11 +78,11 @@ module _ {X : Type 0} (history : X → lines.PartHistory) (room : X → Room) (t
       row_tells_from (map history parts) (λ told. IsRecovered told page entries names next found) (λ told are.
       let says = head_told history room told_lines parts told one some are is in
       record {
-        readable = says.readable;
+        readable = can_be_read told are;
         long = long_told history room told_lines parts told one some are is has;
         page_is = page_is ∙ says.page;
         entries_is = entries_is ∙ says.entries;
-        names_are = names_are ∙ says.names;
+        names_are = names_are ∙ sym (names_told history room told_lines parts told one some are is);
         log = row_tells_at (map history parts) (λ these. HasFoundAll (row_words these) found) told are all;
         next_is = next_is;
       })

@@ -1,10 +1,10 @@
 -- A region that is looked at: what is shown of it, and what a bench tells to which it came back.
 use Rattle.std.proofs.Common.{◌≡◌, ℕ, ◌≤◌, List, [], ◌∷◌, ◌++◌, length, map, sym, ap, ◌∙◌, subst, arith}
 use Rattle.std.proofs.lemmas.List.{append-nil, length-map}
-use Rattle.std.specs.Prelude.{false, Option, Some, None, IfSome, option_map, Result, Ok, Err, OnOk}
+use Rattle.std.specs.Prelude.{false, Option, Some, None, IfSome, option_map, Result, Ok, Err, IfOk, OnOk}
 use Rattle.nv_plain.specs.Files.{Files}
 use Rattle.nv_plain.specs.Images.{layout_in}
-use Rattle.nv_plain.specs.Layouts.{layout_of, mount_version, version_1}
+use Rattle.nv_plain.specs.Layouts.{layout_of}
 use Rattle.nv_plain.specs.Recovered.{Fits, recovered, region_files}
 use Rattle.nv_pmem.specs.Moments.{Tells}
 use Rattle.nv_pmem.specs.Part.{Part}
@@ -16,28 +16,29 @@ use Rattle.nv_store.specs.Steps as stores
 use Rattle.nv_store.specs.Store.{Store}
 use Rattle.nv_bench.specs.Benches.{BenchState, with_faults, region_lent, taken_back, told_back}
 use Rattle.nv_bench.specs.Holding.{Holding, named_stores}
-use Rattle.nv_header.specs.Heads.{HeadIsWithinLimits, IsHeadOf, header_image}
+use Rattle.nv_header.specs.Heads.{IsHeadOf, header_image}
 use Rattle.nv_header.specs.Needs.{HasLines, header_history, header_lines_in}
-use Rattle.nv_header.specs.Regions.{HasParts}
 use Rattle.nv_header.specs.declared.head.Head.{Head}
 use Rattle.nv_look.specs.Texts.{IsLookText}
 use Rattle.nv_recover.specs.Standing.{ReadableStandsForRecovered}
+use Rattle.nv_open.specs.Held.{files_named, header_names}
+use Rattle.nv_recover.specs.Standing.{files_of}
 use Rattle.nv_open.specs.Lending.{AreOpened, HasLent, stores_named, without_stores, without_named, stores_lent}
 use Rattle.nv_look.specs.declared.error.LookError.{LookError}
 use Rattle.nv_look.specs.declared.error.LookError.TheVariants as looks
 use Rattle.nv_open.specs.Looking.{HasLentBy, ShowsFiles, ShowsRegion, of_looking, told_by}
-use Rattle.nv_open.specs.Refusals.{header_part}
+use Rattle.nv_open.specs.Refusals.{head_layout, header_part}
 use Rattle.nv_open.specs.declared.error.OpenError.TheVariants as error
 use Rattle.nv_open.specs.declared.error.Refusal.{Refusal}
-use Rattle.nv_open.proofs.HeadLaws.{head_told, long_told}
+use Rattle.nv_open.proofs.HeadLaws.{can_told, head_told, long_told}
 use Rattle.nv_open.proofs.LogLaws.{whole_image}
 use Rattle.nv_open.proofs.Regions.{lent_told}
 
 -- ---- what is read
 
--- a header that can be read is one of lines enough
-pub head_needs : (row : List PartHistory) (lines : ℕ) (one : Head) → Tells (header_history row) (λ now. IsHeadOf version_1 lines (header_image now) one)
-    → Tells (header_history row) (λ now. IsHeadOf version_1 version_1.header_lines (header_image now) one)
+-- a header that can be read is one of lines enough, as a look or a recovery asks of it
+pub head_needs : (row : List PartHistory) (lines : ℕ) (one : Head) → Tells (header_history row) (λ now. IsHeadOf (layout_of one.version) lines (header_image now) one)
+    → Tells (header_history row) (λ now. IsHeadOf (layout_of one.version) (layout_of one.version).header_lines (header_image now) one)
 head_needs [] lines one is = tt
 head_needs ([] ∷ row) lines one is = tt
 head_needs ((now ∷ past) ∷ row) lines one is = record {
@@ -48,20 +49,6 @@ head_needs ((now ∷ past) ∷ row) lines one is = record {
   tail = is.tail;
 }
 
--- so is what a look or a recovery asks of a head, by its own version
-pub limits_known : (one : Head) → one.version ≡ mount_version → HeadIsWithinLimits version_1 one → HeadIsWithinLimits (layout_of one.version) one
-limits_known one known has = subst (λ version. HeadIsWithinLimits (layout_of version) one) (sym known) has
-
-pub head_known : (row : List PartHistory) (lines : ℕ) (one : Head) → one.version ≡ mount_version → Tells (header_history row) (λ now. IsHeadOf version_1 lines (header_image now) one)
-    → Tells (header_history row) (λ now. IsHeadOf (layout_of one.version) (layout_of one.version).header_lines (header_image now) one)
-head_known row lines one known is =
-    subst (λ version. Tells (header_history row) (λ now. IsHeadOf (layout_of version) (layout_of version).header_lines (header_image now) one)) (sym known)
-    (head_needs row lines one is)
-
-pub parts_known : (one : Head) (rooms : List Room) → one.version ≡ mount_version → HasParts version_1 one.geometry.page one.geometry.entries rooms
-    → HasParts (layout_of one.version) one.geometry.page one.geometry.entries rooms
-parts_known one rooms known has = subst (λ version. HasParts (layout_of version) one.geometry.page one.geometry.entries rooms) (sym known) has
-
 -- a look refuses no region
 pub no_refusal : (one : LookError) (why : Refusal) → of_looking one ≡ error.Refused why → ⊥
 no_refusal looks.RegionFault why is = cc
@@ -70,12 +57,11 @@ no_refusal looks.NoMemory why is = cc
 -- ---- what is shown
 
 module _ {X : Type 0} (history : X → PartHistory) (room : X → Room) (told_lines : (p : X) (now : Part) (past : PartHistory) → history p ≡ now ∷ past → length now ≡ (room p).lines)
-    (parts : List X) (one : Head) (known : one.version ≡ mount_version) (some : 1 ≤ length parts) (has : HasLines version_1 one.geometry.page one.geometry.entries (map room parts))
-    (is : Tells (header_history (map history parts)) (λ now. IsHeadOf version_1 (header_lines_in (map room parts)) (header_image now) one)) where
+    (parts : List X) (one : Head) (some : 1 ≤ length parts) (has : HasLines (layout_of one.version) one.geometry.page one.geometry.entries (map room parts))
+    (is : Tells (header_history (map history parts)) (λ now. IsHeadOf (layout_of one.version) (header_lines_in (map room parts)) (header_image now) one)) where
   shown_one : (files : List (List ℕ)) (text : List ℕ) (told : List Part) → AreNow (map history parts) told → IsLookText one (row_words told) files text → ShowsRegion told files text
   shown_one files text told are shows = record {
     head = one;
-    version_is = known;
     says = head_told history room told_lines parts told one some are is;
     long = long_told history room told_lines parts told one some are is has;
     text_is = shows;
@@ -91,10 +77,23 @@ module _ {X : Type 0} (history : X → PartHistory) (room : X → Room) (told_li
       → RowTells (map history parts) (λ told. ShowsFiles told (region_files (row_words told) base) text)
   files_shown readable base text fits shows =
       row_tells_from (map history parts) (λ told. ShowsFiles told (region_files (row_words told) base) text) (λ told are.
-      let can = (head_told history room told_lines parts told one some are is).readable in
-      let same : region_files (row_words told) base ≡ (recovered (row_words told) base).files = readable version_1 (length (header_part told)) (row_words told) base (whole_image told can) in
+      let can = can_told history room told_lines parts told one some are is in
+      let same : region_files (row_words told) base ≡ (recovered (row_words told) base).files = readable (head_layout told) (length (header_part told)) (row_words told) base (whole_image told can) in
       let Shows : Files → Type 0 = λ files. ShowsFiles told files text in
       subst Shows (sym same) (record { fits = row_tells_at (map history parts) _ told are fits; shown = shown_one _ text told are (row_tells_at (map history parts) _ told are shows) }))
+
+-- the files of the stores that were opened of those names
+pub text_passed : {E : Type 0} (result : Result (List ℕ) E) (told : Option Holding) (row new_row : List PartHistory) (store_row : List stores.StoreHistory) (names : List (List ℕ))
+    → new_row ≡ row → RowTells row (λ parts. header_names parts ≡ names) → IfSome told (λ holding. AreNow store_row (stores_named names holding.stores))
+    → ((was : List Store) → AreNow store_row was → IfOk result (λ text. RowTells new_row (λ parts. ShowsFiles parts (region_files (row_words parts) (files_of was)) text)))
+    → IfOk result (λ text. IfSome told (λ holding. RowTells row (λ parts. ShowsFiles parts (files_named parts (header_names parts) holding.stores) text)))
+text_passed (Err e) told row new_row store_row names same says are shows = tt
+text_passed (Ok text) None row new_row store_row names same says are shows = tt
+text_passed (Ok text) (Some holding) row new_row store_row names same says are shows =
+    row_tells_from row (λ parts. ShowsFiles parts (files_named parts (header_names parts) holding.stores) text) (λ parts now.
+    subst (λ (these : List (List ℕ)). ShowsFiles parts (files_named parts these holding.stores) text) (sym (row_tells_at row (λ parts. header_names parts ≡ names) parts now says))
+    (row_tells_at row (λ parts. ShowsFiles parts (files_named parts names holding.stores) text) parts now
+    (subst (λ (these : List PartHistory). RowTells these (λ parts. ShowsFiles parts (files_named parts names holding.stores) text)) same (shows (stores_named names holding.stores) are))))
 
 -- ---- all comes back
 

@@ -7,10 +7,13 @@ use Rattle.std.proofs.lemmas.List.{append-nil, get_or_default, get_or_append_lef
 use Rattle.std.proofs.lemmas.List.Folds.{list_any_at}
 use Rattle.std.proofs.lemmas.List.Elements.{filter_more}
 use lib.Pointwise.{pointwise}
-use Rattle.nv_plain.specs.Layouts.{Layout, version_1}
+use Rattle.nv_plain.specs.Layouts.{Layout, layout_of, mount_layout}
+use Rattle.nv_plain.specs.declared.limits.Version.{Version}
+use Rattle.nv_plain.specs.declared.limits.Version.TheVariants.{One, Two}
 use Rattle.nv_plain.specs.Names.{is_name}
 use Rattle.nv_header.specs.Additions.{IsNotAdded}
 use Rattle.nv_header.specs.FileNames.{AreFileNames, IsNewName}
+use Rattle.nv_header.proofs.MigrateLaws.{names_of_2}
 use Rattle.nv_header.specs.declared.adding.AddError.{AddError}
 use Rattle.nv_header.specs.declared.adding.AddError.TheVariants as adding
 use Rattle.nv_open.specs.Adding.{AreWanted, is_known, new_names, all_names, of_adding}
@@ -18,18 +21,23 @@ use Rattle.nv_open.specs.declared.error.OpenError.TheVariants as error
 use Rattle.nv_open.specs.declared.error.Refusal.{Refusal}
 use Rattle.nv_open.proofs.Openings.{not_lent, is_allowed}
 
+-- names of any version are those of a mount's
+pub for_mount : (version : Version) (names : List (List ℕ)) → AreFileNames (layout_of version) names → AreFileNames mount_layout names
+for_mount One names are = names_of_2 names are
+for_mount Two names are = are
+
 -- a name that may come next isn't refused
-pub not_refused : (known missing names : List (List ℕ)) (name : List ℕ) (i : ℕ) (failure : AddError) (why : Refusal) → AreFileNames version_1 (known ++ missing) → i < length missing
-    → name ≡ get_or missing i [] → names ≡ known ++ take i missing → IsNotAdded version_1 names name failure → of_adding failure ≡ error.Refused why → ⊥
+pub not_refused : (known missing names : List (List ℕ)) (name : List ℕ) (i : ℕ) (failure : AddError) (why : Refusal) → AreFileNames mount_layout (known ++ missing) → i < length missing
+    → name ≡ get_or missing i [] → names ≡ known ++ take i missing → IsNotAdded mount_layout names name failure → of_adding failure ≡ error.Refused why → ⊥
 not_refused known missing names name i adding.TooManyFiles why are below is names_are full same =
     omega (arith, are.few, length-append known missing, length-append known (take i missing), length-take-le i missing (omega arith), ap length names_are)
 not_refused known missing names name i (adding.BadName at) why are below is names_are bad same =
     bad.1 (record {
-      allowed = subst (λ (one : List ℕ). IsTrue (is_name version_1.name_limit one)) (sym is) (is_allowed version_1 known missing i below are);
+      allowed = subst (λ (one : List ℕ). IsTrue (is_name mount_layout.name_limit one)) (sym is) (is_allowed mount_layout known missing i below are);
       new = λ j inside at_j.
           let front : get_or (known ++ take i missing) j [] ≡ get_or missing i [] = ap (λ (these : List (List ℕ)). get_or these j []) (sym names_are) ∙ at_j ∙ is in
           let within : j < length (known ++ take i missing) = omega (arith, ap length names_are) in
-          not_lent version_1 known missing i below are (j, within, get_or_default (known ++ take i missing) j (get_or missing i []) [] within ∙ front);
+          not_lent mount_layout known missing i below are (j, within, get_or_default (known ++ take i missing) j (get_or missing i []) [] within ∙ front);
     })
 not_refused known missing names name i adding.NoMemory why are below is names_are can same = cc
 not_refused known missing names name i adding.RegionFault why are below is names_are can same = cc
@@ -120,8 +128,8 @@ all_from layout known front (name ∷ wanted) are asked repeats =
     }) more)
 
 -- Where they are few enough, all the names are those of a region.
-pub all_are_names : (known wanted : List (List ℕ)) → AreFileNames version_1 known → AreWanted version_1 wanted → length (all_names known wanted) ≤ 16 → AreFileNames version_1 (all_names known wanted)
+pub all_are_names : (known wanted : List (List ℕ)) → AreFileNames mount_layout known → AreWanted mount_layout wanted → length (all_names known wanted) ≤ 64 → AreFileNames mount_layout (all_names known wanted)
 all_are_names known wanted are asked few =
-    let all = all_from version_1 known known wanted (record { allowed = are.allowed; distinct = are.distinct }) asked
+    let all = all_from mount_layout known known wanted (record { allowed = are.allowed; distinct = are.distinct }) asked
     (record { only = λ j k inside below same. known_at known j (get_or wanted k []) inside same }) in
     record { few = few; allowed = all.allowed; distinct = all.distinct }

@@ -3,11 +3,14 @@ use Rattle.std.proofs.Common.{◌≡◌, ◌≢◌, ℕ, ◌+◌, ◌<◌, suc, 
 use Rattle.std.specs.Prelude.{Contains, Option, Some, fold, if◌then◌else◌, option_map}
 use Rattle.std.specs.List.{flat_map}
 use Rattle.std.proofs.Math.Seq.{take-append_seam, take-append-add}
-use Rattle.std.proofs.lemmas.List.{get_or_append_left, get_or-append-add, get_or_default, length-map, length-set, map-append, take-map, take_all}
+use Rattle.std.proofs.lemmas.List.{append-nil, get_or_append_left, get_or-append-add, get_or_default, length-map, length-set, map-append, take-map, take_all}
 use Rattle.std.proofs.lemmas.List.Elements.{All-nil, All-cons, All-append, Contains-append_right}
 use Rattle.nv_plain.specs.Files.{Files}
-use Rattle.nv_plain.specs.Images.{Image, header_of, layout_in}
-use Rattle.nv_plain.specs.Layouts.{version_1}
+use Rattle.nv_plain.specs.Images.{Image, header_of, layout_in, version_in}
+use Rattle.nv_plain.specs.Layouts.{layout_of, mount_layout, mount_version}
+use Rattle.nv_plain.specs.declared.limits.Version.{Version}
+use Rattle.nv_plain.specs.declared.limits.Version.TheVariants.{One, Two}
+use Rattle.nv_header.specs.Migrations.{HasEmptyLogInEither}
 use Rattle.nv_plain.specs.Recovered.{Fits, committed, group_numbers, recovered, with_entry}
 use Rattle.nv_pmem.specs.Part.{Part}
 use Rattle.nv_pmem.specs.Rows.{EachRowMoment, InEachRowImage, RowTells, row_grown, row_words}
@@ -33,13 +36,13 @@ use Rattle.nv_open.specs.Begun.{files_behind, files_with}
 use Rattle.nv_open.specs.Held.{files_named, header_names}
 use Rattle.nv_open.specs.Lending.{stores_lent, stores_named, without_named, without_stores}
 use Rattle.nv_open.specs.Refusals.{head_image}
-use Rattle.nv_open.specs.Unopened.{GivesBack, HasFirstNames, HasHeader, HasRest, HasSome, InEachImage, StandsAsBefore, StandsWithSome, TellRow, entries_known, first_files, line_counts, names_in, names_known, page_known}
+use Rattle.nv_open.specs.Unopened.{GivesBack, HasFirstNames, HasHeader, HasRest, HasSome, InEachImage, StandsAsBefore, StandsWithSome, TellRow, entries_known, first_files, line_counts, names_in, names_known, page_known, version_known}
 use Rattle.nv_open.proofs.GivenBack.{among}
 use Rattle.nv_open.proofs.Homes.{NotNamed, all_away, all_behind, all_in_front, behind, found_same, in_front, kept_in_all, not_given, one_or_none, other_name, own_stores}
 use Rattle.nv_open.proofs.Openings.{store_of_others}
 use Rattle.nv_open.proofs.Returns.{named_quiet}
-use Rattle.nv_open.proofs.Stands.{head_alike}
 use Rattle.nv_open.proofs.Tells.{did_tells}
+use Rattle.nv_open.proofs.Versions.{empty_names, empty_readable, empty_version, version_same}
 
 -- ---- parts after the last step of a call
 
@@ -58,6 +61,19 @@ row_end P old new states tell moments =
 pub row_more : (P Q : Image → Type 0) (row : List lines.PartHistory) → ((image : Image) → P image → Q image) → TellRow (InEachRowImage P) row → TellRow (InEachRowImage Q) row
 row_more P Q row step has = record { now = has.now; now_are = has.now_are; is_so = λ image is. step image (has.is_so image is) }
 
+-- ---- a region of either version
+
+pub or_one : (version : Version) → ¬ (version ≡ Two) → One ≡ version
+or_one One other = refl
+or_one Two other = absurd (other refl)
+
+-- one that was being carried over has its names, and no more
+pub in_either : (version : Version) (page entries : ℕ) (names : List (List ℕ)) (next : ℕ) (image : Image) → One ≡ version → HasEmptyLogInEither page entries names next image → HasFirstNames version page entries names [] next image
+in_either version page entries names next image known either = elim either [
+  | inl first ↦ record { now = One; now_is = inl known; count = 0; empty = subst (λ (these : List (List ℕ)). HasEmptyLog (layout_of One) page entries these next image) (sym (append-nil names)) first }
+  | inr second ↦ record { now = Two; now_is = inr refl; count = 0; empty = subst (λ (these : List (List ℕ)). HasEmptyLog (layout_of Two) page entries these next image) (sym (append-nil names)) second }
+]
+
 -- ---- files of an image
 
 many_entries : (image : Image) (numbers : List ℕ) (files : Files) → length (fold (with_entry image) files numbers).contents ≡ length files.contents
@@ -68,8 +84,8 @@ pub many_recovered : (image : Image) (files : Files) → length (recovered image
 many_recovered image files = many_entries image (flat_map (group_numbers image) (committed image)) files
 
 -- one whose log is empty stands for what the stores hold
-empty_stands : (page entries : ℕ) (names : List (List ℕ)) (next : ℕ) (image : Image) (bytes files : Files) → HasEmptyLog version_1 page entries names next image → bytes ≡ files → StandsFor image bytes files
-empty_stands page entries names next image bytes files empty same =
+empty_stands : (version : Version) (page entries : ℕ) (names : List (List ℕ)) (next : ℕ) (image : Image) (bytes files : Files) → HasEmptyLog (layout_of version) page entries names next image → bytes ≡ files → StandsFor image bytes files
+empty_stands version page entries names next image bytes files empty same =
     let none = empty_none page entries names next image empty in
     record { fits = empty_fits (layout_in image) image none; recovers = empty_recovered image bytes none ∙ same }
 
@@ -92,32 +108,39 @@ kept_known parts blank = ap (λ (test : Bool). if test then [] else header_names
 pub blank_page : (parts : List Part) (geometry : Geometry) → is_blank parts ≡ true → page_known parts geometry ≡ geometry.page
 blank_page parts geometry blank = ap (λ (test : Bool). if test then geometry.page else (header_of (head_image parts)).page) blank
 
+pub blank_version : (parts : List Part) → is_blank parts ≡ true → version_known parts ≡ mount_version
+blank_version parts blank = ap (λ (test : Bool). if test then mount_version else version_in (head_image parts)) blank
+
 pub blank_entries : (parts : List Part) (geometry : Geometry) → is_blank parts ≡ true → entries_known parts geometry ≡ geometry.entries
 blank_entries parts geometry blank = ap (λ (test : Bool). if test then geometry.entries else (header_of (head_image parts)).entries) blank
 
 pub kept_page : (parts : List Part) (geometry : Geometry) → is_blank parts ≡ false → page_known parts geometry ≡ (header_of (head_image parts)).page
 kept_page parts geometry blank = ap (λ (test : Bool). if test then geometry.page else (header_of (head_image parts)).page) blank
 
+pub kept_version : (parts : List Part) → is_blank parts ≡ false → version_known parts ≡ version_in (head_image parts)
+kept_version parts blank = ap (λ (test : Bool). if test then mount_version else version_in (head_image parts)) blank
+
 pub kept_entries : (parts : List Part) (geometry : Geometry) → is_blank parts ≡ false → entries_known parts geometry ≡ (header_of (head_image parts)).entries
 kept_entries parts geometry blank = ap (λ (test : Bool). if test then geometry.entries else (header_of (head_image parts)).entries) blank
 
 -- its formatting failed, or had not begun
-pub blank_left : (geometry : Geometry) (was back : Holding) (wanted : List (List ℕ)) → is_blank was.parts ≡ true → InEachRowImage (IsBlankOrFormatted version_1 geometry.page geometry.entries) back.parts → InEachImage (StandsWithSome geometry was wanted) back
+pub blank_left : (geometry : Geometry) (was back : Holding) (wanted : List (List ℕ)) → is_blank was.parts ≡ true → InEachRowImage (IsBlankOrFormatted mount_layout geometry.page geometry.entries) back.parts → InEachImage (StandsWithSome geometry was wanted) back
 blank_left geometry was back wanted blank each image bytes is are = elim (each image is) [
   | inl none ↦ inl (blank, none)
   | inr empty ↦
-      let no_name : names_in image ≡ [] = empty.header.names_are in
+      let no_name : names_in image ≡ [] = empty_names mount_version geometry.page geometry.entries [] 0 image empty in
       let no_store : length bytes.contents ≡ 0 = are.count ∙ ap (λ names. length (stores_named names back.stores)) no_name in
       let known = names_known was.parts in
       let none : length known ≡ 0 = ap (λ (names : List (List ℕ)). length names) (blank_known was.parts blank) in
       inr (record {
         count = 0;
         enough = omega (arith, none);
-        readable = empty.header.readable;
+        version_is = inr (empty_version mount_version geometry.page geometry.entries [] 0 image empty);
+        readable = empty_readable mount_version geometry.page geometry.entries [] 0 image empty;
         page_is = empty.header.page_is ∙ sym (blank_page was.parts geometry blank);
         entries_is = empty.header.entries_is ∙ sym (blank_entries was.parts geometry blank);
         names_are = no_name;
-        stands = empty_stands geometry.page geometry.entries [] 0 image bytes (record { contents = [] }) empty (same_contents bytes [] (no_length bytes.contents no_store));
+        stands = empty_stands mount_version geometry.page geometry.entries [] 0 image bytes (record { contents = [] }) empty (same_contents bytes [] (no_length bytes.contents no_store));
       })
 ]
 
@@ -145,7 +168,8 @@ kept_left geometry was back wanted blank can fits stands image bytes is are =
     inr (record {
       count = length known;
       enough = omega arith;
-      readable = head_alike (row_words was.parts) image can.fields.version_is place.header;
+      version_is = inl (version_same (row_words was.parts) image place.header.version ∙ sym (kept_version was.parts blank));
+      readable = place.header.readable;
       page_is = place.header.page ∙ sym (kept_page was.parts geometry blank);
       entries_is = place.header.entries ∙ sym (kept_entries was.parts geometry blank);
       names_are = read ∙ sym same ∙ sym (take-append_seam known (new_names known wanted));
@@ -161,7 +185,7 @@ named_append (name ∷ a) b [] y long = absurd (omega (arith, long))
 named_append (name ∷ a) b (store ∷ x) y long = ap (λ (rest : List NamedStore). record { name = name; store = store } ∷ rest) (named_append a b x y (omega (arith, long)))
 
 -- a name behind others is none of these
-apart_names : (front back : List (List ℕ)) (name : List ℕ) → AreFileNames version_1 (front ++ back) → Contains back name → ¬ (Contains front name)
+apart_names : (front back : List (List ℕ)) (name : List ℕ) → AreFileNames mount_layout (front ++ back) → Contains back name → ¬ (Contains front name)
 apart_names front back name are (j, below, is) (k, inside, at) =
     let all : length (front ++ back) ≡ length front + length back = length-append front back in
     let first : get_or (front ++ back) k [] ≡ name = get_or_append_left front back [] k inside ∙ get_or_default front k [] name inside ∙ at in
@@ -180,7 +204,7 @@ all_from [] P each = All-nil P
 all_from (name ∷ names) P each =
     All-cons P name names (each name (0, omega arith, refl)) (all_from names P (λ other there. each other (suc there.0, (let below = there.1 in omega (arith, below)), there.2)))
 
-module _ (home : List NamedStore) (known more : List (List ℕ)) (held : List Store) (distinct : AreDistinct (names_of home ++ known)) (own : AreDistinct (names_of home)) (are : AreFileNames version_1 (known ++ more)) (long : length known ≡ length held) where
+module _ (home : List NamedStore) (known more : List (List ℕ)) (held : List Store) (distinct : AreDistinct (names_of home ++ known)) (own : AreDistinct (names_of home)) (are : AreFileNames mount_layout (known ++ more)) (long : length known ≡ length held) where
   abbrev others : List NamedStore
   others = without_stores more home
 
@@ -239,15 +263,15 @@ quiet_first names stores quiet = named_quiet names stores quiet
 -- ---- a region that was begun
 
 -- an image of it has its names, and the first of the new ones
-module _ (home : List NamedStore) (known new more : List (List ℕ)) (held : List Store) (files : Files) (page entries next : ℕ) (distinct : AreDistinct (names_of home ++ known)) (own : AreDistinct (names_of home))
-    (are : AreFileNames version_1 (known ++ more)) (long : length known ≡ length held) (files_are : files_of held ≡ files) (quiet : AreQuietStores held) (still : All (λ (named : NamedStore). IsQuietStore named.store) home)
+module _ (version : Version) (home : List NamedStore) (known new more : List (List ℕ)) (held : List Store) (files : Files) (page entries next : ℕ) (distinct : AreDistinct (names_of home ++ known)) (own : AreDistinct (names_of home))
+    (are : AreFileNames mount_layout (known ++ more)) (long : length known ≡ length held) (files_are : files_of held ≡ files) (quiet : AreQuietStores held) (still : All (λ (named : NamedStore). IsQuietStore named.store) home)
     (apart : (name : List ℕ) → Contains new name → ¬ (Contains known name)) where
-  pub begun_left : (back : Holding) → InEachRowImage (HasFirstNames page entries known new next) back.parts → back.stores ≡ without_stores more home ++ (named_stores known held ++ named_stores more (stores_named more home))
-      → InEachImage (HasSome page entries (length known) (known ++ new) (files_behind files new home)) back
+  pub begun_left : (back : Holding) → InEachRowImage (HasFirstNames version page entries known new next) back.parts → back.stores ≡ without_stores more home ++ (named_stores known held ++ named_stores more (stores_named more home))
+      → InEachImage (HasSome version page entries (length known) (known ++ new) (files_behind files new home)) back
   begun_left back each stores image bytes is images =
       let has = each image is in
       let first = take has.count new in
-      let read : names_in image ≡ known ++ first = has.empty.header.names_are in
+      let read : names_in image ≡ known ++ first = empty_names has.now page entries (known ++ first) next image has.empty in
       let these : stores_named (names_in image) back.stores ≡ held ++ stores_named first home =
       ap (λ names. stores_named names back.stores) read ∙ ap (λ (all : List NamedStore). stores_named (known ++ first) all) stores
       ∙ all_back home known more held distinct own are long first (λ name there. apart name (among has.count new name there)) in
@@ -264,20 +288,24 @@ module _ (home : List NamedStore) (known new more : List (List ℕ)) (held : Lis
       record {
         count = length known + has.count;
         enough = omega arith;
-        readable = has.empty.header.readable;
+        version_is = elim has.now_is [
+          | inl same ↦ inl (empty_version has.now page entries (known ++ first) next image has.empty ∙ same)
+          | inr mount ↦ inr (empty_version has.now page entries (known ++ first) next image has.empty ∙ mount)
+        ];
+        readable = empty_readable has.now page entries (known ++ first) next image has.empty;
         page_is = has.empty.header.page_is;
         entries_is = has.empty.header.entries_is;
         names_are = read ∙ sym (take-append-add known new has.count);
         stands =
-            empty_stands page entries (known ++ first) next image bytes (first_files (length known + has.count) (files_behind files new home)) has.empty
+            empty_stands has.now page entries (known ++ first) next image bytes (first_files (length known + has.count) (files_behind files new home)) has.empty
             (bytes_are ∙ same_contents (files_of (held ++ stores_named first home)) (take (length known + has.count) (files.contents ++ Seen (stores_named new home))) shown);
       }
 
   -- and that is what a bench is given back
   pub begun_back : {X Y : Type 0} (part_history : X → lines.PartHistory) (store_history : Y → StoreHistory) (old bench : BenchState) (parts : List X) (stores : List Y) (left : Holding) (counts : List ℕ) → old.told ≡ Some left → left.stores ≡ home → old.lent ≡ known
-      → bench ≡ with_faults bench.faults (stores_lent more old) → (row : TellRow (InEachRowImage (HasFirstNames page entries known new next)) (map part_history parts)) → line_counts row.now ≡ counts
+      → bench ≡ with_faults bench.faults (stores_lent more old) → (row : TellRow (InEachRowImage (HasFirstNames version page entries known new next)) (map part_history parts)) → line_counts row.now ≡ counts
       → AreNow (map store_history stores) (held ++ stores_named more home)
-      → GivesBack part_history store_history (λ now. InEachImage (HasSome page entries (length known) (known ++ new) (files_behind files new home)) now × HasRest counts known home now) bench parts stores
+      → GivesBack part_history store_history (λ now. InEachImage (HasSome version page entries (length known) (known ++ new) (files_behind files new home)) now × HasRest counts known home now) bench parts stores
   begun_back part_history store_history old bench parts stores left counts told at_home lent is row counted held_are =
       let now_held = held ++ stores_named more home in
       let all : List NamedStore = without_stores more home ++ (named_stores known held ++ named_stores more (stores_named more home)) in

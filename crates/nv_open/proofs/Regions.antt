@@ -127,25 +127,30 @@ still_untold count old mid new mid_is lent none =
 
 -- ---- all comes back
 
-pub returned_told : {X Y : Type 0} (part_history : X → PartHistory) (store_history : Y → stores.StoreHistory) (why : Refusal) (old mid new : BenchState) (then told : Option Holding) (before now : List X) (lent : List Y)
+-- what a bench holds that gives its parts as they are
+pub same_told : (told : Option Holding) → option_map (λ (holding : Holding). record { parts = holding.parts; stores = holding.stores }) told ≡ told
+same_told None = refl
+same_told (Some holding) = refl
+
+pub returned_told : {X Y : Type 0} (part_history : X → PartHistory) (store_history : Y → stores.StoreHistory) (why : Refusal) (old mid new : BenchState) (then told : Option Holding) (given : Holding → List Part) (before now : List X) (lent : List Y)
     → mid ≡ with_faults mid.faults (region_lent old) → old.lent ≡ [] → old.told ≡ told
-    → IfSome told (λ holding. AreNow (map part_history before) holding.parts)
+    → IfSome told (λ holding. AreNow (map part_history before) (given holding))
     → AreUnwritten part_history store_history why mid new before now lent
     → ((parts : List Part) (held : List Store) → AreNow (map part_history now) parts → AreNow (map store_history lent) held → then ≡ told_back parts held new)
     → (old.told ≡ None → then ≡ None)
-    → then ≡ told_after why told
-returned_told part_history store_history why old mid new then None before now lent mid_is home is are unwritten back untold = untold is
-returned_told {X} {Y} part_history store_history why old mid new then (Some holding) before now lent mid_is home is are unwritten back untold =
-    let names = names_opened why holding.parts in
+    → then ≡ told_after why (option_map (λ (holding : Holding). record { parts = given holding; stores = holding.stores }) told)
+returned_told part_history store_history why old mid new then None given before now lent mid_is home is are unwritten back untold = untold is
+returned_told {X} {Y} part_history store_history why old mid new then (Some holding) given before now lent mid_is home is are unwritten back untold =
+    let names = names_opened why (given holding) in
     let held = stores_named names holding.stores in
     let mid_told : mid.told ≡ Some (record { parts = []; stores = holding.stores }) =
     lent_told old mid mid_is ∙ ap (λ (one : Option Holding). option_map (λ (these : Holding). record { parts = []; stores = these.stores }) one) is in
     let mid_lent : mid.lent ≡ [] = ap (λ (state : BenchState). state.lent) mid_is ∙ home in
-    let new_is : new ≡ with_faults new.faults (stores_lent names mid) = row_tells_at (map part_history before) _ holding.parts are unwritten.lent in
+    let new_is : new ≡ with_faults new.faults (stores_lent names mid) = row_tells_at (map part_history before) _ (given holding) are unwritten.lent in
     let new_told : new.told ≡ Some (record { parts = []; stores = without_stores names holding.stores }) =
     ap (λ (state : BenchState). state.told) new_is ∙ ap (λ (one : Option Holding). option_map (without_named names) one) mid_told in
     let new_lent : new.lent ≡ names = ap (λ (state : BenchState). state.lent) new_is ∙ ap (λ (front : List (List ℕ)). front ++ names) mid_lent in
     let stores_are : AreNow (map store_history lent) held =
-    row_tells_at (map part_history before) _ holding.parts are (subst (λ (one : Option Holding). IfSome one (λ these. RowTells (map part_history before) (λ parts. AreNow (map store_history lent) (stores_named (names_opened why parts) these.stores)))) mid_told unwritten.held) in
-    back holding.parts held (subst (λ (row : List PartHistory). AreNow row holding.parts) (sym unwritten.parts) are) stores_are
-    ∙ (λ i. option_map (λ (these : Holding). record { parts = holding.parts; stores = these.stores ++ named_stores (new_lent i) held }) (new_told i))
+    row_tells_at (map part_history before) _ (given holding) are (subst (λ (one : Option Holding). IfSome one (λ these. RowTells (map part_history before) (λ parts. AreNow (map store_history lent) (stores_named (names_opened why parts) these.stores)))) mid_told unwritten.held) in
+    back (given holding) held (subst (λ (row : List PartHistory). AreNow row (given holding)) (sym unwritten.parts) are) stores_are
+    ∙ (λ i. option_map (λ (these : Holding). record { parts = given holding; stores = these.stores ++ named_stores (new_lent i) held }) (new_told i))

@@ -127,6 +127,11 @@ unfolding HasOpened
 opened_by_header row why refused =
     row_tells_from row (λ told. names_opened why told ≡ []) (λ told are. names_of_header why told (row_tells_at row _ told are refused).1)
 
+pub opened_by_bad : (row : List lines.PartHistory) (why : Refusal) → RowTells row (λ told. IsBadHeader why) → HasOpened why [] row
+unfolding HasOpened
+opened_by_bad row why bad =
+    row_tells_from row (λ told. names_opened why told ≡ []) (λ told are. names_of_header why told (row_tells_at row (λ told. IsBadHeader why) told are bad))
+
 pub opened_by_log : (row : List lines.PartHistory) (why : Refusal) (names : List (List ℕ)) → RowTells row (λ told. header_names told ≡ names)
     → RowTells row (λ told. IsRefusedFor told why × IsBadLog why) → HasOpened why names row
 unfolding HasOpened

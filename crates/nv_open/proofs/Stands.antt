@@ -3,9 +3,9 @@ use Rattle.std.proofs.Common.{◌≡◌, ℕ, inl, All, List, [], ◌∷◌, len
 use Rattle.std.proofs.lemmas.List.{length-map, get_or-map}
 use Rattle.std.proofs.lemmas.List.Elements.{All-nil, All-cons}
 use Rattle.nv_plain.specs.Files.{Files}
-use Rattle.nv_plain.specs.Images.{Image, header_of, layout_in}
-use Rattle.nv_plain.specs.Layouts.{mount_version, version_1}
-use Rattle.nv_plain.proofs.OwnLayouts.{layout_is, layout_same}
+use Rattle.nv_plain.specs.Images.{Image, header_of, layout_in, version_in}
+use Rattle.nv_plain.specs.Layouts.{Layout, layout_of}
+use Rattle.nv_plain.proofs.OwnLayouts.{layout_same}
 use Rattle.nv_plain.specs.Recovered.{Fits, Recovered as Recovery, recovered}
 use Rattle.nv_pmem.specs.Part.{Part}
 use Rattle.nv_pmem.specs.RowStates.{AreNow, TellingRowsHaveStates, row_tells_at}
@@ -22,7 +22,7 @@ use Rattle.nv_recover.specs.Alike.{SayTheSame}
 use Rattle.nv_recover.specs.Changes.{Devices, devices_after_change}
 use Rattle.nv_recover.specs.Interrupted.{IsRecoveryStop, PromisesKeepTelling, Start}
 use Rattle.nv_recover.specs.Recovering.{StandThroughout}
-use Rattle.nv_recover.specs.Standing.{AreQuietStores, AreStoreImages, ReadsAlike, StandsStill, TakesPlace, files_of}
+use Rattle.nv_recover.specs.Standing.{AreQuietStores, AreStoreImages, StandsStill, TakesPlace, files_of}
 use Rattle.nv_recover.proofs.AlikeLaws.{same_fits, same_recovered}
 use Rattle.nv_recover.proofs.ApplyLaws.{quiet_image}
 use Rattle.nv_recover.proofs.EmptyLaws.{same_words, reads_too}
@@ -33,39 +33,31 @@ use Rattle.nv_open.specs.Held.{header_names}
 use Rattle.nv_open.specs.Lending.{stores_named}
 use Rattle.nv_open.specs.Unopened.{HasHeader, HasRest, StandAsBefore, StandsAsBefore, line_counts, names_in}
 use Rattle.nv_open.proofs.Returns.{states_tell}
+use Rattle.nv_open.proofs.Versions.{own_layout}
 
 -- Quiet devices have one image, which takes the place of itself.
-pub stands_quiet : (parts : List Part) (stores : List Store) → AreQuiet parts → AreQuietStores stores → IsHead version_1 version_1.header_lines (row_words parts) → StandsStill (row_words parts) (files_of stores) parts stores
+pub stands_quiet : (parts : List Part) (stores : List Store) → AreQuiet parts → AreQuietStores stores → HasHeader parts → StandsStill (row_words parts) (files_of stores) parts stores
 stands_quiet parts stores quiet still readable other bytes is are =
     let image = row_words parts in
+    let version = version_in image in
     let here : (part line word : ℕ) → other part line word ≡ image part line word =
     λ part line word. quiet_line (slice_index_or parts part []) (other part) line word ((quiet.each part).lines line) (is.each part) in
     let same : SayTheSame image other = same_words image other here in
     let header = header_of image in
-    let names = first_names version_1 image header.files in
-    let reads : ReadsAs version_1 header.page header.entries names header.tail image =
-    record { readable = readable; page_is = refl; entries_is = refl; names_are = refl; tail_is = refl } in
-    let too = reads_too mount_version header.page header.entries names header.tail image other (here 0) reads in
+    let names = first_names (layout_of version) image header.files in
+    let own : IsHead (layout_of version) (layout_of version).header_lines image = subst (λ (layout : Layout). IsHead layout layout.header_lines image) (own_layout image) readable in
+    let reads : ReadsAs (layout_of version) header.page header.entries names header.tail image =
+    record { readable = own; page_is = refl; entries_is = refl; names_are = refl; tail_is = refl } in
+    let too = reads_too version header.page header.entries names header.tail image other (here 0) reads in
     let log = same_recovered image other same in
     record {
-      header = header_alike mount_version header.page header.entries names header.tail header.tail image other reads too;
+      header = header_alike version header.page header.entries names header.tail header.tail image other reads too;
       log = inl (record { first = λ files. ap (λ (all : Recovery). all.first) (log files); groups = λ files. ap (λ (all : Recovery). all.groups) (log files); next = λ files. ap (λ (all : Recovery). all.next) (log files) });
       files = λ fits. record {
         fits = subst (λ layout. Fits layout other) (sym (layout_same image other (here 0 0 1))) (same_fits image other same (layout_in image) fits);
         recovers = ap (λ (all : Recovery). all.files) (log bytes) ∙ ap (λ (files : Files). (recovered image files).files) (quiet_image stores bytes still are);
       };
     }
-
--- A header of the version that mounts have, and one that reads like it: that can be read,
-pub head_alike : (image other : Image) → (header_of image).version ≡ version_1.version → ReadsAlike image other → IsHead version_1 version_1.header_lines other
-head_alike image other is alike = subst (λ layout. IsHead layout layout.header_lines other) (layout_is mount_version other (alike.version ∙ is)) alike.readable
-
--- and says the same names.
-names_alike : (image other : Image) → (header_of image).version ≡ version_1.version → ReadsAlike image other → names_in other ≡ names_in image
-names_alike image other is alike =
-    ap (λ layout. first_names layout other (header_of other).files) (sym (layout_is mount_version other (alike.version ∙ is)))
-    ∙ alike.names
-    ∙ ap (λ layout. first_names layout image (header_of image).files) (layout_is mount_version image is)
 
 -- What one stop of a recovery comes to takes the place of what was before.
 stop_stands : (before after : Start) → IsRecoveryStop before after → TakesPlace before.image before.bytes after.image after.bytes
@@ -103,14 +95,14 @@ whole_now history told_whole (store ∷ stores) (now ∷ held) are =
     All-cons IsWholeStore now held (told_whole store now are.0.past are.0.is) (whole_now history told_whole stores held are.1)
 
 -- the names that the header says of parts are those that their words say
-pub names_read : (parts : List Part) → header_names parts ≡ first_names version_1 (row_words parts) (header_of (row_words parts)).files
-unfolding first_names
+pub names_read : (parts : List Part) → header_names parts ≡ first_names (layout_in (row_words parts)) (row_words parts) (header_of (row_words parts)).files
+unfolding first_names layout_in
 names_read parts = refl
 
 -- What a recovery leaves that failed.
 pub stood : (old new : Devices) (parts : List Part) (stores : List Store) → PromisesKeepTelling → TellingRowsHaveStates → TellingStoresHaveStates → StandThroughout old new → AreNow old.parts parts → AreNow old.stores stores
-    → ((held : List Store) → AreNow new.stores held → All IsWholeStore held) → (header_of (row_words parts)).version ≡ version_1.version → StandAsBefore parts stores new.parts new.stores
-stood old new parts stores keep part_states store_states promise parts_are stores_are whole version =
+    → ((held : List Store) → AreNow new.stores held → All IsWholeStore held) → StandAsBefore parts stores new.parts new.stores
+stood old new parts stores keep part_states store_states promise parts_are stores_are whole =
     let tell = keep old new (states_tell old.parts parts parts_are) (states_tell old.stores stores stores_are) promise in
     let now = part_states new.parts tell.0 in
     let (held, held_are) = (store_states new.stores).0 tell.1 in
@@ -121,8 +113,7 @@ stood old new parts stores keep part_states store_states promise parts_are store
       now_are = now.are;
       held_are = held_are;
       same_names = λ image is.
-          names_alike (row_words parts) image version
-          (stands image (record { contents = map (λ (store : Store). store.durable) held }) is (durable_images held (whole held held_are))).header
+          (stands image (record { contents = map (λ (store : Store). store.durable) held }) is (durable_images held (whole held held_are))).header.names
           ∙ sym (names_read parts);
       stands = stands;
     }
@@ -153,8 +144,7 @@ stands_read parts stores back quiet still readable same_parts same_stores rest =
       same_names =
           subst Names (sym same_parts)
           (λ image is.
-          names_alike (row_words parts) image readable.fields.version_is
-          (here image (files_of (stores_named names stores)) is (own_images (stores_named names stores) still)).header
+          (here image (files_of (stores_named names stores)) is (own_images (stores_named names stores) still)).header.names
           ∙ sym (names_read parts));
       stands =
           subst (λ now. StandsStill (row_words parts) (files_of (stores_named names stores)) now (stores_named names back.stores)) (sym same_parts)

@@ -139,7 +139,7 @@ opened_passed page_of entries_of next_of names_of (Ok value) (Some holding) mid 
 -- ---- not opened
 
 pub too_many : (row : List lines.PartHistory) (geometry : Geometry) (wanted : List (List ℕ)) (page entries : ℕ) (known : List (List ℕ)) (next : ℕ) (why : Refusal) → RowTells row (λ told. IsOpeningBegun told geometry page entries known next)
-    → why ≡ TooManyFiles → 16 < length (all_names known wanted) → RowTells row (λ told. IsNotOpened told geometry wanted why)
+    → why ≡ TooManyFiles → 64 < length (all_names known wanted) → RowTells row (λ told. IsNotOpened told geometry wanted why)
 too_many row geometry wanted page entries known next why begun is many =
     row_tells_from row (λ told. IsNotOpened told geometry wanted why) (λ told are. record {
       not_blank = λ other. absurd (other is);

@@ -1,7 +1,7 @@
 -- Begun: what opening makes of the parts that a bench gives, before names are added and after.
 use Rattle.std.specs.Prelude.{◌≡◌, ℕ, ◌<◌, true, false, List, [], ◌++◌, length}
 use Rattle.nv_plain.specs.Files.{Files}
-use Rattle.nv_plain.specs.Layouts.{version_1}
+use Rattle.nv_plain.specs.Layouts.{mount_layout}
 use Rattle.nv_pmem.specs.Part.{Part}
 use Rattle.nv_pmem.specs.declared.geometry.Geometry.{Geometry}
 use Rattle.nv_store.specs.Steps.{StoreHistory}
@@ -48,14 +48,14 @@ pub record IsRegionOpened (holding : Holding) (geometry : Geometry) (wanted : Li
   pub names_are : names ≡ all_names known wanted
   pub files : HoldFiles row (files_with holding.parts known wanted holding.stores)
 
--- With the wanted names there would be more than 16.
+-- With the wanted names there would be more than a mount's version allows.
 pub record HasTooMany (parts : List Part) (geometry : Geometry) (wanted : List (List ℕ)) : Type 0 where
   pub page : ℕ
   pub entries : ℕ
   pub known : List (List ℕ)
   pub next : ℕ
   pub begun : IsOpeningBegun parts geometry page entries known next
-  pub many : version_1.file_limit < length (all_names known wanted)
+  pub many : mount_layout.file_limit < length (all_names known wanted)
 
 -- Why it isn't opened: it isn't blank and is refused, or it would have too many files.
 pub record IsNotOpened (parts : List Part) (geometry : Geometry) (wanted : List (List ℕ)) (why : Refusal) : Type 0 where

@@ -2,7 +2,6 @@
 use Rattle.std.specs.Prelude.{◌≡◌, ℕ, List, [], ◌++◌, map, Option, option_map, IfSome}
 use Rattle.nv_plain.specs.Files.{Files}
 use Rattle.nv_plain.specs.Images.{header_of}
-use Rattle.nv_plain.specs.Layouts.{version_1}
 use Rattle.nv_plain.specs.Recovered.{region_files}
 use Rattle.nv_pmem.specs.Part.{Part}
 use Rattle.nv_pmem.specs.RowStates.{AreNow}
@@ -17,13 +16,13 @@ use Rattle.nv_recover.specs.Recovering.{HasFoundAll}
 use Rattle.nv_recover.specs.Standing.{AreQuietStores, files_of}
 use Rattle.nv_recover.specs.declared.recovering.Recovered.{Recovered}
 use Rattle.nv_open.specs.Lending.{stores_named, without_stores, stores_lent}
-use Rattle.nv_open.specs.Refusals.{head_image, CanBeRead, AreLong}
+use Rattle.nv_open.specs.Refusals.{head_image, head_layout, CanBeRead, AreLong}
 use Rattle.nv_open.specs.declared.error.Refusal.{Refusal}
 use Rattle.nv_open.specs.declared.error.Refusal.TheVariants.{Truncated, BadMagic, BadVersion, BadGeometry, BadName, BadEntry, TooManyFiles}
 
 -- the names that the header says
 abbrev pub header_names : List Part → List (List ℕ)
-header_names parts = first_names version_1 (head_image parts) (header_of (head_image parts)).files
+header_names parts = first_names (head_layout parts) (head_image parts) (header_of (head_image parts)).files
 
 -- The files that parts and stores stand for, whose names these are: those of the region, over what the stores of its names hold.
 abbrev pub files_named : List Part → List (List ℕ) → List NamedStore → Files

@@ -1,7 +1,7 @@
 -- Layers: what each step of an opening leaves, said once for the next one that takes it.
-use Rattle.std.specs.Prelude.{◌≡◌, ℕ, ◌+◌, ◌<◌, true, false, List, [], length, map, All, IfSome}
+use Rattle.std.specs.Prelude.{◌≡◌, ℕ, ◌+◌, ◌<◌, ◌≤◌, true, false, List, [], length, map, All, IfSome}
 use Rattle.nv_plain.specs.Files.{Files}
-use Rattle.nv_plain.specs.Layouts.{version_1}
+use Rattle.nv_plain.specs.Layouts.{mount_layout, mount_version}
 use Rattle.nv_pmem.specs.Moments.{Tells}
 use Rattle.nv_pmem.specs.Part.{Part}
 use Rattle.nv_pmem.specs.Room.{Room}
@@ -13,15 +13,16 @@ use Rattle.nv_store.specs.Steps.{StoreHistory}
 use Rattle.nv_store.specs.Store.{IsQuietStore}
 use Rattle.nv_bench.specs.Benches.{BenchState, with_faults}
 use Rattle.nv_bench.specs.Holding.{NamedStore}
-use Rattle.nv_bench.specs.Opening.{is_blank}
+use Rattle.nv_bench.specs.Opening.{is_blank, is_of_version_1}
 use Rattle.nv_header.specs.Laws.{HasSpare}
+use Rattle.nv_header.specs.Needs.{HasLines}
 use Rattle.nv_recover.specs.Telling.{AllTell}
 use Rattle.nv_recover.specs.declared.recovering.Recovered.{Recovered}
 use Rattle.nv_open.specs.Adding.{all_names, new_names}
 use Rattle.nv_open.specs.Begun.{IsNotOpened, IsOpeningBegun, IsRegionOpened, files_behind}
 use Rattle.nv_open.specs.Held.{AreUnwritten, HoldFiles, IsRecovered, files_named}
 use Rattle.nv_open.specs.Lending.{stores_lent}
-use Rattle.nv_open.specs.Refusals.{IsRefusedFor}
+use Rattle.nv_open.specs.Refusals.{IsRefusedFor, header_part, rooms_of}
 use Rattle.nv_open.specs.Unopened.{GivesBack, HasHeader, HasRest, HasSome, HaveSameLines, InEachImage, IsAtRestWith, IsGood, IsUntouched, RestsUnopened, StandForFiles, StandsAsBefore, StandsOpening, line_counts}
 use Rattle.nv_open.specs.declared.error.OpenError.{OpenError}
 use Rattle.nv_open.specs.declared.error.OpenError.TheVariants.{Refused}
@@ -39,6 +40,15 @@ pub record AreLentParts {X : Type 0} (part_history : X → lines.PartHistory) (r
   pub quiet : RowTells (map part_history parts) AreQuiet
   pub synced : IfSome bench.told (λ holding. All (λ (named : NamedStore). IsQuietStore named.store) holding.stores)
   pub tell : IfSome bench.told (λ holding. AllTell (map part_history parts))
+
+-- The header of version 1 has the lines that one of a mount's version needs.
+abbrev pub HasMountHeader : List Part → Type 0
+HasMountHeader parts = is_of_version_1 parts ≡ true → mount_layout.header_lines ≤ length (header_part parts)
+
+-- Parts have the lines that a mount needs of what is made of them: blank ones those of a geometry, and others those of a header.
+pub record HasMountLines (geometry : Geometry) (parts : List Part) : Type 0 where
+  pub blank : is_blank parts ≡ true → HasLines mount_layout geometry.page geometry.entries (rooms_of parts)
+  pub header : HasMountHeader parts
 
 -- ---- a region that is open
 
@@ -80,7 +90,7 @@ pub record IsNotRecovered {X Y : Type 0} (part_history : X → lines.PartHistory
   pub untouched : IfSome old.told (λ holding. RowTells (map part_history before) (λ told. ¬ (IsGood told)
       → GivesBack part_history store_history (IsUntouched (record { parts = told; stores = holding.stores })) new back stores))
 
--- It was neither formatted nor recovered.
+-- It was neither formatted nor recovered, or not carried over to a mount's version.
 pub record IsNotBegun {X Y : Type 0} (part_history : X → lines.PartHistory) (store_history : Y → StoreHistory) (old new : BenchState) (before back : List X) (stores : List Y) (geometry : Geometry) (error : OpenError) : Type 0 where
   pub refused : (why : Refusal) → error ≡ Refused why → IfSome old.told (λ holding. RowTells (map part_history before) (λ told. (is_blank told ≡ false) × IsRefusedFor told why))
   pub unwritten : (why : Refusal) → error ≡ Refused why → AreUnwritten part_history store_history why old new before back stores
@@ -116,8 +126,8 @@ pub record HasAdded {X Y : Type 0} (part_history : X → lines.PartHistory) (sto
 
 -- They were not, or not all of them.
 pub record HasNotAdded {X Y : Type 0} (part_history : X → lines.PartHistory) (store_history : Y → StoreHistory) (old new : BenchState) (page entries : ℕ) (known wanted : List (List ℕ)) (next : ℕ) (before back : List X) (stores_before stores : List Y) (error : OpenError) : Type 0 where
-  pub refused : (why : Refusal) → error ≡ Refused why → (why ≡ TooManyFiles) × (version_1.file_limit < length (all_names known wanted))
+  pub refused : (why : Refusal) → error ≡ Refused why → (why ≡ TooManyFiles) × (mount_layout.file_limit < length (all_names known wanted))
   pub rests : (files : Files) → HoldFiles (map store_history stores_before) files → error ≡ Refused TooManyFiles → IfSome old.told (λ holding. AllTell (map part_history before)
-      → GivesBack part_history store_history (IsAtRestWith page entries known next files holding.stores) new back stores)
+      → GivesBack part_history store_history (IsAtRestWith mount_version page entries known next files holding.stores) new back stores)
   pub standing : (files : Files) → HoldFiles (map store_history stores_before) files → IfSome old.told (λ holding. (told : List Part) → AreNow (map part_history before) told
-      → GivesBack part_history store_history (λ now. InEachImage (HasSome page entries (length known) (all_names known wanted) (files_behind files (new_names known wanted) holding.stores)) now × HasRest (line_counts told) known holding.stores now) new back stores)
+      → GivesBack part_history store_history (λ now. InEachImage (HasSome mount_version page entries (length known) (all_names known wanted) (files_behind files (new_names known wanted) holding.stores)) now × HasRest (line_counts told) known holding.stores now) new back stores)

@@ -2,7 +2,7 @@
 use Rattle.std.specs.Prelude.{◌≡◌, ℕ, List, length, map, take, Option, option_map, IfSome}
 use Rattle.nv_plain.specs.Files.{Files}
 use Rattle.nv_plain.specs.Images.{layout_in}
-use Rattle.nv_plain.specs.Layouts.{mount_version, version_1}
+use Rattle.nv_plain.specs.Layouts.{layout_of}
 use Rattle.nv_plain.specs.Recovered.{Fits}
 use Rattle.nv_pmem.specs.Part.{Part}
 use Rattle.nv_pmem.specs.RowStates.{AreNow}
@@ -27,11 +27,10 @@ abbrev pub of_looking : LookError → OpenError
 of_looking looks.RegionFault = error.Fault
 of_looking looks.NoMemory = error.NoMemory
 
--- The text shows the region of these parts, with these files: its header can be read, of the version that mounts have, and the lines that it says are there.
+-- The text shows the region of these parts, with these files: its header can be read, whatever version it is of, and the lines that it says are there.
 pub record ShowsRegion (parts : List Part) (files : List (List ℕ)) (text : List ℕ) : Type 0 where
   pub head : Head
-  pub version_is : head.version ≡ mount_version
-  pub says : IsHeadOf version_1 (length (header_part parts)) (head_image parts) head
+  pub says : IsHeadOf (layout_of head.version) (length (header_part parts)) (head_image parts) head
   pub long : AreLong parts
   pub text_is : IsLookText head (row_words parts) files text
 

@@ -1,7 +1,7 @@
 -- Refusals: why a region isn't opened, by the bytes of its parts.
 use Rattle.std.specs.Prelude.{◌≡◌, ◌⊎◌, ℕ, List, [], map, length, slice_index_or}
 use Rattle.nv_plain.specs.Images.{Image, header_of, layout_in}
-use Rattle.nv_plain.specs.Layouts.{version_1}
+use Rattle.nv_plain.specs.Layouts.{Layout}
 use Rattle.nv_pmem.specs.Part.{Part}
 use Rattle.nv_pmem.specs.Room.{Room}
 use Rattle.nv_pmem.specs.Rows.{row_words}
@@ -9,7 +9,7 @@ use Rattle.nv_bench.specs.declared.bench.BenchError.{BenchError}
 use Rattle.nv_bench.specs.declared.bench.BenchError.TheVariants as bench
 use Rattle.nv_header.specs.Heads.{IsHead, header_image}
 use Rattle.nv_header.specs.Needs.{HasLines, lines_found, lines_wanted}
-use Rattle.nv_header.specs.Refusals.{IsRefused}
+use Rattle.nv_header.specs.Unread.{IsUnread}
 use Rattle.nv_header.specs.declared.head.HeadError.{HeadError}
 use Rattle.nv_header.specs.declared.head.HeadError.TheVariants as head
 use Rattle.nv_recover.specs.Groups.{IsLeastBad}
@@ -54,9 +54,13 @@ header_part parts = slice_index_or parts 0 []
 abbrev pub head_image : List Part → Image
 head_image parts = header_image (header_part parts)
 
+-- where the region keeps what: the layout of the version that the header says
+abbrev pub head_layout : List Part → Layout
+head_layout parts = layout_in (head_image parts)
+
 -- The header can be read.
 abbrev pub CanBeRead : List Part → Type 0
-CanBeRead parts = IsHead version_1 (length (header_part parts)) (head_image parts)
+CanBeRead parts = IsHead (head_layout parts) (length (header_part parts)) (head_image parts)
 
 -- the room of some parts, as far as it is their lines
 abbrev pub rooms_of : List Part → List Room
@@ -64,18 +68,18 @@ rooms_of parts = map (λ part. record { lines = length part; spare = λ line. 0;
 
 -- The parts have the lines that their header says.
 abbrev pub AreLong : List Part → Type 0
-AreLong parts = HasLines version_1 (header_of (head_image parts)).page (header_of (head_image parts)).entries (rooms_of parts)
+AreLong parts = HasLines (head_layout parts) (header_of (head_image parts)).page (header_of (head_image parts)).entries (rooms_of parts)
 
 -- The header can be read, but lines that it says are wanting.
 pub record LackLines (parts : List Part) (found wanted : ℕ) : Type 0 where
   pub readable : CanBeRead parts
   pub short : ¬ AreLong parts
-  pub found_is : found ≡ lines_found version_1 (header_of (head_image parts)).page (header_of (head_image parts)).entries (rooms_of parts)
-  pub wanted_is : wanted ≡ lines_wanted version_1 (header_of (head_image parts)).page (header_of (head_image parts)).entries
+  pub found_is : found ≡ lines_found (head_layout parts) (header_of (head_image parts)).page (header_of (head_image parts)).entries (rooms_of parts)
+  pub wanted_is : wanted ≡ lines_wanted (head_layout parts) (header_of (head_image parts)).page (header_of (head_image parts)).entries
 
--- a refusal of the header by itself
+-- a refusal of the header by itself, whatever version it is of
 abbrev pub IsHeadRefused : List Part → HeadError → Type 0
-IsHeadRefused parts refusal = IsRefused version_1 (length (header_part parts)) (head_image parts) refusal
+IsHeadRefused parts refusal = IsUnread (length (header_part parts)) (head_image parts) refusal
 
 -- Why a region of these parts is refused: its header can't be read, or says lines that are wanting, or else an entry of the log is
 -- bad.

@@ -1,13 +1,14 @@
 -- Unopened: what a bench holds, whatever a power failure leaves of it, whose region wasn't opened, or wasn't recovered.
 use Rattle.std.specs.Prelude.{◌≡◌, ◌⊎◌, ℕ, ◌<◌, ◌≤◌, true, false, if◌then◌else◌, Contains, List, [], ◌++◌, length, map, take, Option, Some}
 use Rattle.nv_plain.specs.Files.{Files}
-use Rattle.nv_plain.specs.Images.{Image, header_of, layout_in}
-use Rattle.nv_plain.specs.Layouts.{version_1}
+use Rattle.nv_plain.specs.Images.{Image, header_of, layout_in, version_in}
+use Rattle.nv_plain.specs.Layouts.{layout_of, mount_layout, mount_version}
 use Rattle.nv_plain.specs.Recovered.{Fits, IsBlank}
 use Rattle.nv_pmem.specs.Part.{Part}
 use Rattle.nv_pmem.specs.RowStates.{AreNow}
 use Rattle.nv_pmem.specs.Rows.{IsRowImage, RowTells, row_words}
 use Rattle.nv_pmem.specs.Steps as lines
+use Rattle.nv_plain.specs.declared.limits.Version.{Version}
 use Rattle.nv_pmem.specs.declared.geometry.Geometry.{Geometry}
 use Rattle.nv_store.specs.Steps.{StoreHistory}
 use Rattle.nv_store.specs.Store.{Store}
@@ -33,7 +34,7 @@ pub record TellsOf (P : Holding → Type 0) (told : Option Holding) : Type 0 whe
 
 -- the names that the header of an image says
 abbrev pub names_in : Image → List (List ℕ)
-names_in image = first_names version_1 image (header_of image).files
+names_in image = first_names (layout_in image) image (header_of image).files
 
 -- an image of the parts of a bench, with the bytes of the stores that its header names, freely, is so
 abbrev pub InEachImage : (Image → Files → Type 0) → Holding → Type 0
@@ -44,11 +45,13 @@ InEachImage P holding =
 abbrev pub first_files : ℕ → Files → Files
 first_files count files = record { contents = take count files.contents }
 
--- An image can be read, says these sizes, and has some first ones of these names, no fewer than so many. With the bytes it stands for the files of these.
-pub record HasSome (page entries least : ℕ) (names : List (List ℕ)) (files : Files) (image : Image) (bytes : Files) : Type 0 where
+-- An image can be read, is of this version or of that of a mount, says these sizes, and has some first ones of these names, no fewer than so many. With the
+-- bytes it stands for the files of these.
+pub record HasSome (version : Version) (page entries least : ℕ) (names : List (List ℕ)) (files : Files) (image : Image) (bytes : Files) : Type 0 where
   pub count : ℕ
   pub enough : least ≤ count
-  pub readable : IsHead version_1 version_1.header_lines image
+  pub version_is : (version_in image ≡ version) ⊎ (version_in image ≡ mount_version)
+  pub readable : IsHead (layout_in image) (layout_in image).header_lines image
   pub page_is : (header_of image).page ≡ page
   pub entries_is : (header_of image).entries ≡ entries
   pub names_are : names_in image ≡ take count names
@@ -56,7 +59,7 @@ pub record HasSome (page entries least : ℕ) (names : List (List ℕ)) (files :
 
 -- The header of parts can be read, and says good names.
 abbrev pub HasHeader : List Part → Type 0
-HasHeader parts = IsHead version_1 version_1.header_lines (row_words parts)
+HasHeader parts = IsHead (layout_in (row_words parts)) (layout_in (row_words parts)).header_lines (row_words parts)
 
 -- how many lines each part has
 abbrev pub line_counts : List Part → List ℕ
@@ -85,6 +88,10 @@ pub record StandsAsBefore (was now : Holding) : Type 0 where
 abbrev pub names_known : List Part → List (List ℕ)
 names_known parts = if is_blank parts then [] else header_names parts
 
+-- its version: that which its header says, and that of a mount, where it is blank
+abbrev pub version_known : List Part → Version
+version_known parts = if is_blank parts then mount_version else version_in (head_image parts)
+
 -- the sizes of a region at its opening: those that its header says, and those that are wanted of a blank one
 abbrev pub page_known : List Part → Geometry → ℕ
 page_known parts geometry = if is_blank parts then geometry.page else (header_of (head_image parts)).page
@@ -97,20 +104,24 @@ pub record StandForFiles (parts : List Part) : Type 0 where
   pub readable : is_blank parts ≡ false → HasHeader parts
   pub fits : is_blank parts ≡ false → Fits (layout_in (row_words parts)) (row_words parts)
 
--- An image of what is left of a bench: it is blank, as the bench was; or it has the sizes and all names of the region, and maybe some of the new ones, and
--- stands for their files.
+-- An image of what is left of a bench: it is blank, as the bench was; or it is of the version of the region or of a mount, has the sizes and all names of the
+-- region, and maybe some of the new ones, and stands for their files.
 abbrev pub StandsWithSome : (geometry : Geometry) (was : Holding) (wanted : List (List ℕ)) → Image → Files → Type 0
 StandsWithSome geometry was wanted image bytes =
     let known = names_known was.parts in
     ((is_blank was.parts ≡ true) × IsBlank image)
-    ⊎ HasSome (page_known was.parts geometry) (entries_known was.parts geometry) (length known) (all_names known wanted) (files_with was.parts known wanted was.stores) image bytes
+    ⊎ HasSome (version_known was.parts) (page_known was.parts geometry) (entries_known was.parts geometry) (length known) (all_names known wanted) (files_with was.parts known wanted was.stores) image bytes
 
 -- A bench holds what an opening leaves that failed: in each image it stands with some, and it has parts of so many lines each, and each store that is neither of the region nor of these names as it was.
 pub record StandsOpening (counts : List ℕ) (geometry : Geometry) (was : Holding) (wanted : List (List ℕ)) (now : Holding) : Type 0 where
   pub images : InEachImage (StandsWithSome geometry was wanted) now
   pub rest : HasRest counts (all_names (names_known was.parts) wanted) was.stores now
 
--- Its region was never given out, and it holds what it held; or its parts have the lines that they had, or that were made of blank ones.
+-- what a bench holds whose region is opened for a geometry: as it held it, but that its parts are those that are given out
+abbrev pub as_opened : Geometry → Holding → Holding
+as_opened geometry holding = record { parts = opened (Some geometry) holding.parts; stores = holding.stores }
+
+-- Its region was never given out, and it holds what it held; or its parts have the lines that they were given out with.
 pub record StandsUnopened (was : Holding) (geometry : Geometry) (wanted : List (List ℕ)) (now : Holding) : Type 0 where
   pub either : (now ≡ was) ⊎ StandsOpening (line_counts (opened (Some geometry) was.parts)) geometry was wanted now
 
@@ -128,11 +139,15 @@ pub record IsUntouched (was now : Holding) : Type 0 where
   pub of_header : (name : List ℕ) → Contains lent name → Contains (header_names was.parts) name
   pub now_is : now ≡ returned lent was
 
+-- So it is where the region was to be opened for a geometry: it holds what it held, or what it held then with the parts that were given out.
+pub record StaysUntouched (geometry : Geometry) (was now : Holding) : Type 0 where
+  pub either : IsUntouched was now ⊎ IsUntouched (as_opened geometry was) now
+
 -- ---- a region that would have too many files
 
--- A bench holds a region with these names, at rest with an empty log; and behind these stores those of its names, which hold these files, durable.
-pub record IsAtRestWith (page entries : ℕ) (names : List (List ℕ)) (next : ℕ) (files : Files) (others : List NamedStore) (now : Holding) : Type 0 where
-  pub rest : IsAtRest version_1 page entries names next now.parts
+-- A bench holds a region of this version with these names, at rest with an empty log; and behind these stores those of its names, which hold these files, durable.
+pub record IsAtRestWith (version : Version) (page entries : ℕ) (names : List (List ℕ)) (next : ℕ) (files : Files) (others : List NamedStore) (now : Holding) : Type 0 where
+  pub rest : IsAtRest (layout_of version) page entries names next now.parts
   pub held : List Store
   pub stores_are : now.stores ≡ others ++ named_stores names held
   pub files_are : files_of held ≡ files
@@ -146,8 +161,8 @@ pub record RestsUnopened (was : Holding) (geometry : Geometry) (wanted : List (L
   pub known : List (List ℕ)
   pub next : ℕ
   pub begun : IsOpeningBegun was.parts geometry page entries known next
-  pub many : version_1.file_limit < length (all_names known wanted)
-  pub rests : IsAtRestWith page entries known next (files_named was.parts known was.stores) (without_stores known was.stores) now
+  pub many : mount_layout.file_limit < length (all_names known wanted)
+  pub rests : IsAtRestWith mount_version page entries known next (files_named was.parts known was.stores) (without_stores known was.stores) now
 
 -- ---- what comes back
 
@@ -166,10 +181,12 @@ pub record TellRow (P : List Part → Type 0) (row : List lines.PartHistory) : T
   pub now_are : AreNow row now
   pub is_so : P now
 
--- The log is empty, and the header has these names and the first so many of others.
-pub record HasFirstNames (page entries : ℕ) (names more : List (List ℕ)) (next : ℕ) (image : Image) : Type 0 where
+-- The log is empty, and the header is of this version or of that of a mount, and has these names and the first so many of others.
+pub record HasFirstNames (version : Version) (page entries : ℕ) (names more : List (List ℕ)) (next : ℕ) (image : Image) : Type 0 where
+  pub now : Version
+  pub now_is : (now ≡ version) ⊎ (now ≡ mount_version)
   pub count : ℕ
-  pub empty : HasEmptyLog version_1 page entries (names ++ take count more) next image
+  pub empty : HasEmptyLog (layout_of now) page entries (names ++ take count more) next image
 
 -- These parts and stores tell, and a bench to which they come back holds something that is so.
 pub record GivesBack {X Y : Type 0} (part_history : X → lines.PartHistory) (store_history : Y → StoreHistory) (P : Holding → Type 0) (bench : BenchState) (parts : List X) (stores : List Y) : Type 0 where

@@ -1,6 +1,6 @@
 //! The names that are wanted and not there are added.
 ghost use Rattle.std.specs.Prelude.{◌≡◌, ◌+◌, ◌++◌, map, sum_by, Err, IfOk, IfErr};
-ghost use Rattle.nv_plain.specs.Layouts.{mount_version, version_1};
+ghost use Rattle.nv_plain.specs.Layouts.{mount_version, mount_layout};
 ghost use Rattle.nv_pmem.specs.Rows.{InEachRowImage};
 ghost use Rattle.nv_header.specs.FileNames.{AreFileNames};
 ghost use Rattle.nv_header.specs.Changes.{parts_after_format};
@@ -37,7 +37,7 @@ pub(crate) fn add_names<L: Lines + Drop>(
     names: &Names,
 ) -> Result<Region<L>, (Vec<L>, OpenError)>
     requires version { region.version ≡ mount_version }
-    requires names { AreFileNames version_1 (region.names ++ names.now) }
+    requires names { AreFileNames mount_layout (region.names ++ names.now) }
     ensures version { IfOk result (λ added. added.version ≡ mount_version) }
     ensures names { IfOk result (λ added. added.names ≡ region.names ++ names.now) }
     ensures geometry { IfOk result (λ added. added.geometry ≡ region.geometry) }
@@ -46,7 +46,7 @@ pub(crate) fn add_names<L: Lines + Drop>(
     ensures tell { AllTell (map L.history region.parts.items) → IfOk result (λ added. AllTell (map L.history added.parts.items)) }
     ensures never { (why : _) → IfErr result (λ failed. ¬ (failed.1 ≡ error.Refused why)) }
     ensures left { AllTell (map L.history region.parts.items) → IfErr result (λ failed.
-        TellRow (InEachRowImage (HasFirstNames region.geometry.page region.geometry.entries region.names names.now region.next)) (map L.history failed.0.items)) }
+        TellRow (InEachRowImage (HasFirstNames mount_version region.geometry.page region.geometry.entries region.names names.now region.next)) (map L.history failed.0.items)) }
     ensures cause { RegionHasCause (sum_by L.fault_count region.parts.items) (sum_by L.fault_count (parts_after_format result)) result }
 {
     rows_have_states();

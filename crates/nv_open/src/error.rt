@@ -7,17 +7,18 @@ use nv_recover::RecoverError;
 use std::alloc::AllocError;
 use thiserror::Error;
 
-/// Why a region is refused. Those up to `BadEntry` are tested in this order, but that a second test of lines comes behind
-/// `BadName`.
+/// Why a region is refused. Those up to `BadEntry` are tested in this order, but that the lines of the header's own version are
+/// counted once that is known, and those that the header says behind `BadName`.
 #[derive(Clone, Copy, Debug, PartialEq, Eq, Error)]
 pub enum Refusal {
-    /// The region lacks lines: those of its header, or those that the header says.
+    /// The region lacks lines: those of its header, or those that the header says. A region that is opened also lacks some where
+    /// a bench that tells nothing didn't lengthen the header of an earlier version.
     #[error("truncated {found} {wanted}")]
     Truncated { found: u64, wanted: u64 },
     /// The region has another magic.
     #[error("bad magic")]
     BadMagic,
-    /// The region has a version that isn't known.
+    /// The region has a version that isn't known: it is neither 1 nor 2.
     #[error("bad version {found}")]
     BadVersion { found: u64 },
     /// A field of the header is out of its limits.
@@ -29,7 +30,7 @@ pub enum Refusal {
     /// An entry of a committed group breaks a rule of the log; of all such entries this is the least number.
     #[error("bad entry {number}")]
     BadEntry { number: u64 },
-    /// The region would have more than 16 files.
+    /// The region would have more than 64 files.
     #[error("too many files")]
     TooManyFiles,
 }

@@ -1,6 +1,6 @@
 //! A blank region of a bench is formatted.
 ghost use Rattle.std.specs.Prelude.{◌≡◌, All, true, map, sum_by, IfOk, IfErr};
-ghost use Rattle.nv_plain.specs.Layouts.{mount_version, version_1};
+ghost use Rattle.nv_plain.specs.Layouts.{mount_version, mount_layout};
 ghost use Rattle.nv_plain.specs.Faults.{HasCause};
 ghost use Rattle.nv_pmem.specs.Rows.{RowTells, AreOnlyRead, InEachRowImage};
 ghost use Rattle.nv_bench.specs.Opening.{is_blank};
@@ -34,11 +34,11 @@ pub(crate) fn format_parts<L: Lines + Drop>(
     ensures lines { HaveSameLines (map L.history parts.items) (map L.history (parts_after_format result)) }
     ensures tell { AllTell (map L.history parts.items) → IfOk result (λ region. AllTell (map L.history region.parts.items)) }
     ensures short { (why : _) → IfErr result (λ failed. failed.1 ≡ error.Refused why
-        → RowTells (map L.history parts.items) (λ told. ¬ HasLines version_1 geometry.page geometry.entries (rooms_of told))) }
+        → RowTells (map L.history parts.items) (λ told. ¬ HasLines mount_layout geometry.page geometry.entries (rooms_of told))) }
     ensures header { (why : _) → IfErr result (λ failed. failed.1 ≡ error.Refused why → IsBadHeader why) }
     ensures kept { (why : _) → IfErr result (λ failed. failed.1 ≡ error.Refused why → map L.history failed.0.items ≡ map L.history parts.items) }
     ensures left { AllTell (map L.history parts.items) → IfErr result (λ failed.
-        TellRow (InEachRowImage (IsBlankOrFormatted version_1 geometry.page geometry.entries)) (map L.history failed.0.items)) }
+        TellRow (InEachRowImage (IsBlankOrFormatted mount_layout geometry.page geometry.entries)) (map L.history failed.0.items)) }
     ensures cause { RegionHasCause (sum_by L.fault_count parts.items) (sum_by L.fault_count (parts_after_format result)) result }
 {
     rows_have_states();

@@ -1,6 +1,6 @@
 //! The log of a region that is lent is recovered.
 ghost use Rattle.std.specs.Prelude.{◌≡◌, ◌+◌, List, length, map, sum_by, All, Err, IfOk, IfErr};
-ghost use Rattle.nv_plain.specs.Layouts.{mount_version, version_1};
+ghost use Rattle.nv_plain.specs.Layouts.{layout_of};
 ghost use Rattle.nv_plain.specs.Recovered.{region_files};
 ghost use Rattle.nv_pmem.specs.Moments.{Tells};
 ghost use Rattle.nv_pmem.specs.Part.{Part};
@@ -37,17 +37,16 @@ pub(crate) fn recover_log<L: Lines + Drop, B: Backing>(
     parts: Vec<L>,
     stores: &mut Vec<B>,
 ) -> Result<(Region<L>, Recovered), (Vec<L>, OpenError)>
-    requires version { head.version ≡ mount_version }
-    requires limits { HeadIsWithinLimits version_1 head }
+    requires limits { HeadIsWithinLimits (layout_of head.version) head }
     requires head { Tells (header_history (map L.history parts.items)) (λ now.
-        IsHeadOf version_1 (header_lines_in (map L.room parts.items)) (header_image now) head) }
-    requires lines { HasLines version_1 head.geometry.page head.geometry.entries (map L.room parts.items) }
+        IsHeadOf (layout_of head.version) (header_lines_in (map L.room parts.items)) (header_image now) head) }
+    requires lines { HasLines (layout_of head.version) head.geometry.page head.geometry.entries (map L.room parts.items) }
     requires spare { All HasSpare (map L.room parts.items) }
     requires quiet { RowTells (map L.history parts.items) AreQuiet }
     requires stores { length stores.old.items ≡ length head.names }
     requires synced { RowTells (map B.history stores.old.items) AreQuietStores }
 
-    ensures version { IfOk result (λ done. done.0.version ≡ mount_version) }
+    ensures version { IfOk result (λ done. done.0.version ≡ head.version) }
     ensures recovered { IfOk result (λ done. RowTells (map L.history parts.items) (λ told. IsRecovered told
         done.0.geometry.page done.0.geometry.entries done.0.names done.0.next done.1)) }
     ensures names { IfOk result (λ done. done.0.names ≡ head.names) }

@@ -1,7 +1,7 @@
 //! The look at a region of a bench.
 ghost use Rattle.std.specs.Prelude.{◌≡◌, ◌+◌, ℕ, List, [], false, true, length, map, sum_by, All, Err, IfOk, IfSome, OnOk};
 ghost use Rattle.nv_plain.specs.Faults.{saturated};
-ghost use Rattle.nv_plain.specs.Layouts.{mount_version, version_1};
+ghost use Rattle.nv_plain.specs.Layouts.{layout_of};
 ghost use Rattle.nv_plain.specs.Recovered.{region_files};
 ghost use Rattle.nv_pmem.specs.Moments.{Tells};
 ghost use Rattle.nv_pmem.specs.RowStates.{AreNow};
@@ -30,7 +30,7 @@ use nv_recover::images_stand_for_files;
 use nv_store::Backing;
 use std::alloc::Global;
 
-/// Shows the region of a bench as it stands: what its header says, and what its log holds. A region with no part, or a blank one, is
+/// Shows the region of a bench as it stands, of whatever version: what its header says, and what its log holds. A region with no part, or a blank one, is
 /// refused; one of whose log an entry is bad isn't. Nothing of the bench is changed, whichever answer came.
 pub fn look_at_region<T: Bench>(alloc: Global, bench: &mut T) -> Result<Text, OpenError>
     requires closed { (T.state bench.old).is_open ≡ false }
@@ -123,11 +123,10 @@ fn look_at_log<L: Lines, B: Backing>(
     parts: &mut [L],
     stores: &mut [B],
 ) -> Result<Text, OpenError>
-    requires version { head.now.version ≡ mount_version }
-    requires limits { HeadIsWithinLimits version_1 head.now }
+    requires limits { HeadIsWithinLimits (layout_of head.now.version) head.now }
     requires head { Tells (header_history (map L.history parts.old)) (λ now.
-        IsHeadOf version_1 (header_lines_in (map L.room parts.old)) (header_image now) head.now) }
-    requires lines { HasLines version_1 head.now.geometry.page head.now.geometry.entries (map L.room parts.old) }
+        IsHeadOf (layout_of head.now.version) (header_lines_in (map L.room parts.old)) (header_image now) head.now) }
+    requires lines { HasLines (layout_of head.now.version) head.now.geometry.page head.now.geometry.entries (map L.room parts.old) }
     requires spare { All HasSpare (map L.room parts.old) }
     requires stores { length stores.old ≡ length head.now.names }
     ensures text { (was : List Store) → AreNow (map B.history stores.old) was → IfOk result (λ text. RowTells (map L.history parts.old) (λ told.

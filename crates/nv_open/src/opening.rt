@@ -1,7 +1,7 @@
 //! The opening of a region of a bench.
-ghost use Rattle.std.specs.Prelude.{◌≡◌, ℕ, List, ◌+◌, ◌<◌, ◌++◌, [], false, true, length, map, sum_by, All, None, Some, Err, IfOk, IfErr, IfSome};
+ghost use Rattle.std.specs.Prelude.{◌≡◌, ℕ, List, ◌+◌, ◌<◌, ◌++◌, [], false, true, length, map, option_map, sum_by, All, None, Some, Err, IfOk, IfErr, IfSome};
 ghost use Rattle.nv_plain.specs.Faults.{saturated};
-ghost use Rattle.nv_plain.specs.Layouts.{mount_version, version_1};
+ghost use Rattle.nv_plain.specs.Layouts.{mount_layout, mount_version};
 ghost use Rattle.nv_pmem.specs.Moments.{Tells};
 ghost use Rattle.nv_pmem.specs.Rows.{RowTells};
 ghost use Rattle.nv_bench.specs.Benches.{with_faults};
@@ -9,21 +9,21 @@ ghost use Rattle.nv_bench.specs.Holding.{IsQuietHolding};
 ghost use Rattle.nv_bench.specs.Opening.{is_blank, opened as opened_parts};
 ghost use Rattle.nv_store.specs.Store.{IsQuietStore};
 ghost use Rattle.nv_header.specs.Changes.{parts_after_format};
-ghost use Rattle.nv_header.specs.Needs.{HasLines};
 ghost use Rattle.nv_recover.specs.Telling.{AllTell};
 ghost use Rattle.nv_open.specs.Adding.{AreWanted, all_names};
 ghost use Rattle.nv_open.specs.Begun.{IsRegionOpened, IsNotOpened};
 ghost use Rattle.nv_open.specs.Causes.{ErrorHasCause, RegionHasCause};
 ghost use Rattle.nv_open.specs.Held.{told_after};
-ghost use Rattle.nv_open.specs.Layers.{AreLentParts, HasAdded, HasNotAdded, IsBegunOpen, IsNotBegun, IsOpenedOpen, IsUnopened};
+ghost use Rattle.nv_open.specs.Layers.{AreLentParts, HasAdded, HasMountHeader, HasMountLines, HasNotAdded, IsBegunOpen, IsNotBegun, IsOpenedOpen, IsUnopened};
 ghost use Rattle.nv_open.specs.Lending.{HasLent, HasLentMore, all_lent};
-ghost use Rattle.nv_open.specs.Refusals.{rooms_of};
-ghost use Rattle.nv_open.specs.Unopened.{IsGood, IsUntouched, RestsUnopened, StandForFiles, StandsUnopened, TellsOf, line_counts};
+ghost use Rattle.nv_open.specs.Unopened.{IsGood, RestsUnopened, StandForFiles, StandsUnopened, StaysUntouched, TellsOf, as_opened, line_counts};
 ghost use Rattle.nv_open.specs.declared.error.OpenError.TheVariants as error;
 ghost use Rattle.nv_open.specs.declared.error.Refusal.TheVariants as refusal;
 
 use crate::adding::{add_names, missing_names};
 use crate::formatting::{are_blank, format_parts};
+use crate::header::check_mount_header;
+use crate::migrating::carry_over;
 use crate::recovering::recover_parts;
 use crate::stores::open_stores;
 use crate::{OpenError, Opened, Refusal};
@@ -37,7 +37,9 @@ use std::alloc::Global;
 const FILE_LIMIT: usize = limits::FILE_LIMIT as usize;
 
 /// Opens the region of a bench, with the stores of its files. A blank one is formatted with this geometry, and any other one is
-/// recovered, and keeps its own. Then each name that is wanted and isn't there is added.
+/// recovered, and keeps its own. One of an earlier version than mounts have is then carried over to that: at each moment, whatever a
+/// power failure leaves of it is a header of one of the two versions, with the same names and sizes, and stands for the same files.
+/// Then each name that is wanted and isn't there is added.
 pub fn open<T: Bench>(
     alloc: Global,
     bench: &mut T,
@@ -47,7 +49,7 @@ pub fn open<T: Bench>(
     requires closed { (T.state bench.old).is_open ≡ false }
     requires home { (T.state bench.old).lent ≡ [] }
     requires quiet { IfSome (T.state bench.old).told IsQuietHolding }
-    requires wanted { AreWanted version_1 wanted.now }
+    requires wanted { AreWanted mount_layout wanted.now }
 
     // At `Ok`.
     ensures lent { IfOk result (λ opened. T.state bench.new
@@ -68,13 +70,13 @@ pub fn open<T: Bench>(
     ensures refused { (why : _) → result ≡ Err (error.Refused why)
         → IfSome (T.state bench.old).told (λ holding. IsNotOpened holding.parts geometry wanted.now why) }
     ensures unwritten { (why : _) → result ≡ Err (error.Refused why) → ¬ (why ≡ refusal.TooManyFiles)
-        → (T.state bench.new).told ≡ told_after why (T.state bench.old).told }
+        → (T.state bench.new).told ≡ told_after why (option_map (as_opened geometry) (T.state bench.old).told) }
     ensures rests { result ≡ Err (error.Refused refusal.TooManyFiles)
         → IfSome (T.state bench.old).told (λ was. TellsOf (RestsUnopened was geometry wanted.now) (T.state bench.new).told) }
     ensures standing { IfErr result (λ why. IfSome (T.state bench.old).told (λ was. StandForFiles was.parts
         → TellsOf (StandsUnopened was geometry wanted.now) (T.state bench.new).told)) }
     ensures untouched { IfErr result (λ why. IfSome (T.state bench.old).told (λ was. is_blank was.parts ≡ false → ¬ (IsGood was.parts)
-        → TellsOf (IsUntouched was) (T.state bench.new).told)) }
+        → TellsOf (StaysUntouched geometry was) (T.state bench.new).told)) }
     ensures untold { (T.state bench.old).told ≡ None → (T.state bench.new).told ≡ None }
     ensures cause { IfErr result (ErrorHasCause (T.state bench.old).faults (T.state bench.new).faults) }
 {
@@ -101,9 +103,8 @@ fn open_parts<T: Bench>(
 ) -> Result<Region<T::Part>, (Vec<T::Part>, OpenError)>
     requires given { AreLentParts T.Part.history T.Part.room (T.state bench.old) parts.items }
     requires none { stores.old.items ≡ [] }
-    requires long { IfSome (T.state bench.old).told (λ holding. RowTells (map T.Part.history parts.items) (λ told.
-        is_blank told ≡ true → HasLines version_1 geometry.page geometry.entries (rooms_of told))) }
-    requires wanted { AreWanted version_1 wanted.now }
+    requires long { IfSome (T.state bench.old).told (λ holding. RowTells (map T.Part.history parts.items) (HasMountLines geometry)) }
+    requires wanted { AreWanted mount_layout wanted.now }
     ensures lent { HasLent (length stores.new.items) (T.state bench.old) (T.state bench.new) }
     ensures cause { RegionHasCause (saturated ((T.state bench.old).faults + sum_by T.Part.fault_count parts.items))
         (saturated ((T.state bench.new).faults + (sum_by T.Part.fault_count (parts_after_format result) + sum_by T.Store.fault_count stores.new.items)))
@@ -121,7 +122,7 @@ fn open_parts<T: Bench>(
     }
 }
 
-// Formats a region that is lent where it is blank, and recovers it where it isn't, with the stores of its files.
+// Formats a region that is lent where it is blank, and where it isn't recovers it, with the stores of its files, and carries it over.
 fn begin<T: Bench>(
     alloc: Global,
     bench: &mut T,
@@ -131,8 +132,7 @@ fn begin<T: Bench>(
 ) -> Result<Region<T::Part>, (Vec<T::Part>, OpenError)>
     requires given { AreLentParts T.Part.history T.Part.room (T.state bench.old) parts.items }
     requires none { stores.old.items ≡ [] }
-    requires long { IfSome (T.state bench.old).told (λ holding. RowTells (map T.Part.history parts.items) (λ told.
-        is_blank told ≡ true → HasLines version_1 geometry.page geometry.entries (rooms_of told))) }
+    requires long { IfSome (T.state bench.old).told (λ holding. RowTells (map T.Part.history parts.items) (HasMountLines geometry)) }
     ensures lent { HasLent (length stores.new.items) (T.state bench.old) (T.state bench.new) }
     ensures cause { RegionHasCause (saturated ((T.state bench.old).faults + sum_by T.Part.fault_count parts.items))
         (saturated ((T.state bench.new).faults + (sum_by T.Part.fault_count (parts_after_format result) + sum_by T.Store.fault_count stores.new.items)))
@@ -146,11 +146,41 @@ fn begin<T: Bench>(
     images_follow_calls();
     match are_blank(&mut parts) {
         Ok(true) => format_parts(alloc, geometry, parts),
-        Ok(false) => match recover_parts(alloc, bench, parts, stores) {
-            Ok((region, _found)) => Ok(region),
-            Err(failed) => Err(failed),
-        },
+        Ok(false) => begin_kept(alloc, bench, parts, stores),
         Err(fault) => Err((parts, fault.into())),
+    }
+}
+
+// Recovers a region that is lent, with the stores of its files, and makes it one of the version that a mount opens over. Whether its
+// header has the lines for that is tested first, so that nothing is written of one that can't be carried over.
+fn begin_kept<T: Bench>(
+    alloc: Global,
+    bench: &mut T,
+    parts: Vec<T::Part>,
+    stores: &mut Vec<T::Store>,
+) -> Result<Region<T::Part>, (Vec<T::Part>, OpenError)>
+    requires given { AreLentParts T.Part.history T.Part.room (T.state bench.old) parts.items }
+    requires none { stores.old.items ≡ [] }
+    requires kept { RowTells (map T.Part.history parts.items) (λ told. is_blank told ≡ false) }
+    requires long { IfSome (T.state bench.old).told (λ holding. RowTells (map T.Part.history parts.items) HasMountHeader) }
+    ensures lent { HasLent (length stores.new.items) (T.state bench.old) (T.state bench.new) }
+    ensures cause { RegionHasCause (saturated ((T.state bench.old).faults + sum_by T.Part.fault_count parts.items))
+        (saturated ((T.state bench.new).faults + (sum_by T.Part.fault_count (parts_after_format result) + sum_by T.Store.fault_count stores.new.items)))
+        result }
+    ensures version { IfOk result (λ region. region.version ≡ mount_version) }
+    ensures begun { IfOk result (λ region. (geometry : _) → IsBegunOpen T.Part.history T.Store.history (T.state bench.old) (T.state bench.new) parts.items stores.new.items
+        geometry region.geometry.page region.geometry.entries region.names region.next region.parts.items) }
+    ensures given_up { IfErr result (λ failed. (geometry : _) → IsNotBegun T.Part.history T.Store.history (T.state bench.old) (T.state bench.new) parts.items failed.0.items
+        stores.new.items geometry failed.1) }
+{
+    rows_have_states();
+    let mut parts = parts;
+    if let Err(error) = check_mount_header(alloc, &mut parts) {
+        return Err((parts, error));
+    }
+    match recover_parts(alloc, bench, parts, stores) {
+        Ok((region, _found)) => carry_over(region),
+        Err(failed) => Err(failed),
     }
 }
 
@@ -166,7 +196,7 @@ fn add_wanted<T: Bench>(
     requires open { (T.state bench.old).is_open ≡ true }
     requires names { (T.state bench.old).lent ≡ region.names }
     requires one_each { length stores.old.items ≡ length region.names }
-    requires wanted { AreWanted version_1 wanted.now }
+    requires wanted { AreWanted mount_layout wanted.now }
     requires synced { IfSome (T.state bench.old).told (λ holding. All (λ named. IsQuietStore named.store) holding.stores) }
     ensures lent { HasLentMore (length stores.old.items) (length stores.new.items) (T.state bench.old) (T.state bench.new) }
     ensures cause { RegionHasCause (saturated ((T.state bench.old).faults + (sum_by T.Part.fault_count region.parts.items + sum_by T.Store.fault_count stores.old.items)))

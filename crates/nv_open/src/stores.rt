@@ -1,6 +1,6 @@
 //! The stores of some names are opened.
 ghost use Rattle.std.specs.Prelude.{◌≡◌, ◌++◌, true, IfErr, IsTrue, OnOk};
-ghost use Rattle.nv_plain.specs.Layouts.{version_1};
+ghost use Rattle.nv_plain.specs.Layouts.{mount_layout};
 ghost use Rattle.nv_plain.specs.Names.{is_name};
 ghost use Rattle.nv_header.specs.FileNames.{AreFileNames};
 ghost use Rattle.nv_open.specs.Lending.{AreOpened, AreBegun};
@@ -16,7 +16,7 @@ pub(crate) fn open_stores<T: Bench>(
     stores: &mut Vec<T::Store>,
 ) -> Result<(), BenchError>
     requires open { (T.state bench.old).is_open ≡ true }
-    requires names { AreFileNames version_1 ((T.state bench.old).lent ++ names.now) }
+    requires names { AreFileNames mount_layout ((T.state bench.old).lent ++ names.now) }
     ensures opened { OnOk result (AreOpened T.Store.history T.Store.fault_count names.now (T.state bench.new).faults
         (T.state bench.old) (T.state bench.new) stores.old.items stores.new.items) }
     ensures begun { IfErr result (AreBegun T.Store.history T.Store.fault_count names.now
@@ -34,7 +34,7 @@ pub(crate) fn open_stores<T: Bench>(
 
 // A name as a text.
 fn text_of(name: &Bytes) -> &str
-    requires { IsTrue (is_name version_1.name_limit name.now) }
+    requires { IsTrue (is_name mount_layout.name_limit name.now) }
     ensures { result.now ≡ name.now }
 {
     let Ok(text) = str::from_utf8(name.as_slice()) else {

@@ -5,10 +5,10 @@ use Rattle.std.proofs.Common.{map}
 use Rattle.std.proofs.lemmas.Grind.{common_steps}
 use Rattle.nv_open.proofs.LineCounts.{same_lines}
 use Rattle.nv_open.proofs.Tells.{did_tells}
-use Rattle.std.proofs.Common.{◌≡◌, ◌++◌, ◌+◌, [], ◌∷◌, List, ℕ, take, inl, inr, subst, append_assoc}
+use Rattle.std.proofs.Common.{◌≡◌, ◌++◌, ◌+◌, [], ◌∷◌, List, ℕ, take, inl, inr, refl, subst, append_assoc}
 use Rattle.std.proofs.lemmas.List.{take_more}
 use Rattle.nv_plain.specs.Images.{Image}
-use Rattle.nv_plain.specs.Layouts.{layout_of, mount_version, version_1}
+use Rattle.nv_plain.specs.Layouts.{layout_of, mount_layout, mount_version}
 use Rattle.nv_plain.specs.declared.limits.Version.{Version}
 use Rattle.nv_header.specs.Additions.{HasNamesOrOneMore, IsNotAdded}
 use Rattle.nv_header.specs.Regions.{HasEmptyLog}
@@ -57,10 +57,12 @@ returns-in-Err-clause-left g c tell =
     let same_page = ap (λ geometry. geometry.page) geometry in
     let same_entries = ap (λ geometry. geometry.entries) geometry in
     let at = c.as_slice.ensures ∙ item_at c.as_slice-name-items.result.now names i c.name-item.result c.as_slice-name-items.ensures c.loop-name-test.true c.name-item.is in
-    row_more (HasNamesOrOneMore (layout_of region.version) region.geometry.page region.geometry.entries region.names name region.next) (HasFirstNames page entries c.args.region.names names c.args.region.next) (map g.L.Lines.history c.in-Err.parts.items)
+    row_more (HasNamesOrOneMore (layout_of region.version) region.geometry.page region.geometry.entries region.names name region.next) (HasFirstNames mount_version page entries c.args.region.names names c.args.region.next) (map g.L.Lines.history c.in-Err.parts.items)
     (λ image has. elim has [
-      | inl as_before ↦ record { count = i; empty = said image page entries region.geometry.page region.geometry.entries region.version c.loop-name.invariant.version region.names (c.args.region.names ++ take i names) region.next c.args.region.next same_page same_entries c.loop-name.invariant.names c.loop-name.invariant.next as_before }
+      | inl as_before ↦ record { now = mount_version; now_is = inr refl; count = i; empty = said image page entries region.geometry.page region.geometry.entries region.version c.loop-name.invariant.version region.names (c.args.region.names ++ take i names) region.next c.args.region.next same_page same_entries c.loop-name.invariant.names c.loop-name.invariant.next as_before }
       | inr one_more ↦ record {
+        now = mount_version;
+        now_is = inr refl;
         count = i + 1;
         empty =
             said image page entries region.geometry.page region.geometry.entries region.version c.loop-name.invariant.version (region.names ++ name ∷ []) (c.args.region.names ++ take (i + 1) names) region.next c.args.region.next same_page same_entries
@@ -73,10 +75,10 @@ returns-in-Err-clause-left g c tell =
     c.rows_have_states.ensures.some (c.loop-name.invariant.tell tell) c.in-Err.ensures.changed.moments)
   where
     said : (image : Image) (page entries at_page at_entries : ℕ) (version : Version) → version ≡ mount_version → (was names : List (List ℕ)) (at_next next : ℕ) → at_page ≡ page → at_entries ≡ entries → was ≡ names → at_next ≡ next
-        → HasEmptyLog (layout_of version) at_page at_entries was at_next image → HasEmptyLog version_1 page entries names next image
+        → HasEmptyLog (layout_of version) at_page at_entries was at_next image → HasEmptyLog mount_layout page entries names next image
     said image page entries at_page at_entries version same_version was names at_next next pages entry same nexts empty =
-        subst (λ (n : ℕ). HasEmptyLog version_1 n entries names next image) pages
-        (subst (λ (n : ℕ). HasEmptyLog version_1 at_page n names next image) entry
-        (subst (λ (these : List (List ℕ)). HasEmptyLog version_1 at_page at_entries these next image) same
-        (subst (λ (n : ℕ). HasEmptyLog version_1 at_page at_entries was n image) nexts
+        subst (λ (n : ℕ). HasEmptyLog mount_layout n entries names next image) pages
+        (subst (λ (n : ℕ). HasEmptyLog mount_layout at_page n names next image) entry
+        (subst (λ (these : List (List ℕ)). HasEmptyLog mount_layout at_page at_entries these next image) same
+        (subst (λ (n : ℕ). HasEmptyLog mount_layout at_page at_entries was n image) nexts
         (subst (λ (one : Version). HasEmptyLog (layout_of one) at_page at_entries was at_next image) same_version empty))))

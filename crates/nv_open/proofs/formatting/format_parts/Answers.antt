@@ -1,5 +1,5 @@
 use Rattle.std.proofs.Common.{◌≡◌, true, false, map, refl, sym, subst}
-use Rattle.nv_plain.specs.Layouts.{version_1}
+use Rattle.nv_plain.specs.Layouts.{mount_layout}
 use Rattle.nv_pmem.specs.RowStates.{row_tells_from}
 use Rattle.nv_header.specs.Needs.{HasLines}
 use Rattle.nv_open.specs.Refusals.{rooms_of}
@@ -16,15 +16,15 @@ returns-in-Err-clause-short g c why is =
     let page = c.args.geometry.page in
     let entries = c.args.geometry.entries in
     let parts = c.args.parts.items in
-    row_tells_from (map g.L.Lines.history parts) (λ told. ¬ (HasLines version_1 page entries (rooms_of told))) (λ told are has.
-    let long = has_lines_same version_1 page entries (rooms_of told) (map g.L.Lines.room parts) (sym (told_counts g.L.Lines.history g.L.Lines.room g.met.L.Lines.told_lines parts told are)) has in
-    let never : false ≡ true = c.in-Err.ensures.exact.1 (subst (λ these. HasLines version_1 page entries (map g.L.Lines.room these)) (sym c.deref.ensures.value) long) in
+    row_tells_from (map g.L.Lines.history parts) (λ told. ¬ (HasLines mount_layout page entries (rooms_of told))) (λ told are has.
+    let long = has_lines_same mount_layout page entries (rooms_of told) (map g.L.Lines.room parts) (sym (told_counts g.L.Lines.history g.L.Lines.room g.met.L.Lines.told_lines parts told are)) has in
+    let never : false ≡ true = c.in-Err.ensures.exact.1 (subst (λ these. HasLines mount_layout page entries (map g.L.Lines.room these)) (sym c.deref.ensures.value) long) in
     cc)
 
 pub format-requires-clause-parts : goal.format-requires-clause-parts
 format-requires-clause-parts g c =
-    c.needed_lines_make_parts.ensures version_1 c.args.geometry.page c.args.geometry.entries (map g.L.Lines.room c.args.parts.items)
-    (subst (λ these. HasLines version_1 c.args.geometry.page c.args.geometry.entries (map g.L.Lines.room these)) c.deref.ensures.value (c.in_default.ensures.exact.0 refl)) c.requires.spare
+    c.needed_lines_make_parts.ensures mount_layout c.args.geometry.page c.args.geometry.entries (map g.L.Lines.room c.args.parts.items)
+    (subst (λ these. HasLines mount_layout c.args.geometry.page c.args.geometry.entries (map g.L.Lines.room these)) c.deref.ensures.value (c.in_default.ensures.exact.0 refl)) c.requires.spare
 
 pub returns-in-Ok-clause-tell : goal.returns-in-Ok-clause-tell
 returns-in-Ok-clause-tell g c tell = did_tells _ (map g.L.Lines.history c.args.parts.items) (map g.L.Lines.history c.in-Ok.region.parts.items) c.in-Ok.ensures.done tell
@@ -47,5 +47,5 @@ returns-in-Err-clause-left g c tell =
 
 pub returns-clause-left : goal.returns-clause-left
 returns-clause-left g c tell =
-    row_end (IsBlankOrFormatted version_1 c.args.geometry.page c.args.geometry.entries) (map g.L.Lines.history c.args.parts.items) (map g.L.Lines.history c.in-Err-format.parts.items) c.rows_have_states.ensures.some tell
+    row_end (IsBlankOrFormatted mount_layout c.args.geometry.page c.args.geometry.entries) (map g.L.Lines.history c.args.parts.items) (map g.L.Lines.history c.in-Err-format.parts.items) c.rows_have_states.ensures.some tell
     c.in-Err-format.ensures.changed.moments

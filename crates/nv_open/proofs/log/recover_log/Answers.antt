@@ -1,26 +1,21 @@
 use Rattle.std.proofs.Common.{Err, map, refl, sym, ap, ◌∙◌}
-use Rattle.nv_plain.specs.Layouts.{version_1}
+use Rattle.nv_plain.specs.Layouts.{layout_of}
 use Rattle.nv_recover.specs.Changes.{devices_of}
 use Rattle.nv_open.proofs.HeadLaws.{error_is}
 use Rattle.nv_open.proofs.LineCounts.{same_lines}
 use Rattle.nv_open.proofs.LogLaws.{files_held, can_be_read, recovered_told, refused_by_log, unwritten_log, unwritten_unless_good, as_many}
 use Rattle.nv_header.specs.Needs.{header_lines_in}
-use Rattle.nv_open.proofs.Looks.{head_known, limits_known, parts_known}
+use Rattle.nv_open.proofs.Looks.{head_needs}
 use Rattle.nv_open.proofs.Stands.{stood, whole_now}
 use Rattle.nv_open.proofs.log.recover_log.Goals as goal
 
-pub recover-requires-clause-limits : goal.recover-requires-clause-limits
-recover-requires-clause-limits g c = limits_known c.args.head c.requires.version c.requires.limits
-
 pub recover-requires-clause-head : goal.recover-requires-clause-head
 recover-requires-clause-head g c =
-    head_known (map g.L.Lines.history c.args.parts.items) (header_lines_in (map g.L.Lines.room c.args.parts.items)) c.args.head c.requires.version c.requires.head
+    head_needs (map g.L.Lines.history c.args.parts.items) (header_lines_in (map g.L.Lines.room c.args.parts.items)) c.args.head c.requires.head
 
 pub recover-requires-clause-parts : goal.recover-requires-clause-parts
 recover-requires-clause-parts g c =
-    let rooms = map g.L.Lines.room c.args.parts.items in
-    parts_known c.args.head rooms c.requires.version
-    (c.needed_lines_make_parts.ensures version_1 c.args.head.geometry.page c.args.head.geometry.entries rooms c.requires.lines c.requires.spare)
+    c.needed_lines_make_parts.ensures (layout_of c.args.head.version) c.args.head.geometry.page c.args.head.geometry.entries (map g.L.Lines.room c.args.parts.items) c.requires.lines c.requires.spare
 
 pub returns-in-Ok-clause-recovered : goal.returns-in-Ok-clause-recovered
 returns-in-Ok-clause-recovered g c =
@@ -70,4 +65,3 @@ returns-in-Err-clause-standing g c told was told_are was_are =
     stood (devices_of history held c.args.parts.items c.args.stores.now.items) (devices_of history held c.in-Err.parts.items c.recover.new.stores.items) told was
     c.recoveries_give_the_same_files.ensures.tell c.rows_have_states.ensures.some c.rows_of_stores_have_states.ensures.some c.in-Err.ensures.kept.moments told_are was_are
     (whole_now held g.met.B.Backing.told_whole c.recover.new.stores.items)
-    (can_be_read history g.L.Lines.room g.met.L.Lines.told_lines c.args.parts.items c.args.head c.requires.lines c.requires.head told told_are).fields.version_is

@@ -9,9 +9,12 @@ use Rattle.nv_open.specs.Looking.{names_until}
 use Rattle.nv_open.specs.Refusals.{IsBadHeader, IsBadLog, IsRefusedFor}
 use Rattle.nv_open.specs.declared.error.OpenError.TheVariants as error
 use Rattle.nv_open.proofs.LineCounts.{kept_spare}
-use Rattle.nv_open.proofs.Looks.{lent_by, on_ok}
+use Rattle.nv_open.proofs.Looks.{lent_by, on_ok, text_passed}
 use Rattle.nv_open.proofs.Openings.{opened_none}
-use Rattle.nv_open.proofs.Returns.{names_of_header, names_of_log, refused_alone, written_back}
+use Rattle.nv_open.proofs.Returns.{names_of_header, names_of_log, opened_alone, refused_alone, written_back}
+use Rattle.nv_pmem.specs.RowStates.{AreNow}
+use Rattle.std.specs.Prelude.{IfSome}
+use Rattle.nv_open.specs.Lending.{stores_named}
 use Rattle.nv_open.proofs.looking.look_at_lent.Goals as goal
 
 pub returns-in_err-head-clause-lent : goal.returns-in_err-head-clause-lent
@@ -117,6 +120,16 @@ pub returns-clause-refused : goal.returns-clause-refused
 returns-clause-refused g c why is =
     refused_alone (map g.T.Part.Lines.history c.args.parts.now) why IsBadLog
     (subst (λ row. RowTells row (λ told. IsRefusedFor told why × IsBadLog why)) c.in_ok-head.ensures.read.histories (c.look_at_log.ensures.refused why is))
+
+pub returns-clause-text : goal.returns-clause-text
+returns-clause-text g c =
+    let history = g.T.Store.Backing.history in
+    let names = c.in_ok-head.head.names in
+    let opened = c.in_ok-open_stores.ensures.opened in
+    let told = (g.T.Bench.state c.args.bench.now).told in
+    let alone = opened_alone c.args.stores.now.items c.open_stores.new.stores.items opened.stores c.requires.none opened.behind ∙ sym c.deref_mut.ensures.value in
+    text_passed c.look_at_log.result told (map g.T.Part.Lines.history c.args.parts.now) (map g.T.Part.Lines.history c.read_header.new.parts) (map history c.deref_mut.result.now) names c.in_ok-head.ensures.read.histories c.in_ok-head.ensures.names
+    (subst (λ these. IfSome told (λ holding. AreNow (map history these) (stores_named names holding.stores))) alone opened.told) c.look_at_log.ensures.text
 
 pub returns-clause-read : goal.returns-clause-read
 returns-clause-read g c = only_read_more c.in_ok-head.ensures.read c.look_at_log.ensures.read

@@ -1,6 +1,6 @@
 use Rattle.std.proofs.Common.{◌≡◌, All, ◌++◌, ◌≤◌, ℕ, List, length, map, sym, ap, ◌∙◌, subst, arith, length-append}
 use Rattle.std.specs.Prelude.{IfSome}
-use Rattle.nv_plain.specs.Layouts.{version_1}
+use Rattle.nv_plain.specs.Layouts.{mount_layout, mount_version}
 use Rattle.nv_header.specs.FileNames.{AreFileNames}
 use Rattle.nv_header.proofs.InRow.{region_as}
 use Rattle.nv_open.specs.Adding.{new_names, all_names}
@@ -37,10 +37,10 @@ open_stores-requires-clause-names g c κs lives =
     let wanted = c.args.wanted.now in
     let missing = c.in-Ok.missing in
     let is : missing ≡ new_names known wanted = c.in-Ok.ensures ∙ ap (λ (these : List (List ℕ)). new_names these wanted) c.names.ensures in
-    let few : length (all_names known wanted) ≤ 16 =
+    let few : length (all_names known wanted) ≤ 64 =
     omega (arith, length-append known (new_names known wanted), ap length is, c.if-len-gt-FILE_LIMIT.false, c.len.ensures, c.len-2.ensures, ap length c.names-2.ensures) in
-    subst (λ (these : List (List ℕ)). AreFileNames version_1 (these ++ missing)) (sym c.requires.names)
-    (subst (λ (these : List (List ℕ)). AreFileNames version_1 (known ++ these)) (sym is) (all_are_names known wanted (region_as c.requires.version c.args.region.is_region).names_are c.requires.wanted few))
+    subst (λ (these : List (List ℕ)). AreFileNames mount_layout (these ++ missing)) (sym c.requires.names)
+    (subst (λ (these : List (List ℕ)). AreFileNames mount_layout (known ++ these)) (sym is) (all_are_names known wanted (region_as c.requires.version c.args.region.is_region).names_are c.requires.wanted few))
 
 pub add_names-requires-clause-names : goal.add_names-requires-clause-names
 add_names-requires-clause-names g c =
@@ -48,9 +48,9 @@ add_names-requires-clause-names g c =
     let wanted = c.args.wanted.now in
     let missing = c.in-Ok.missing in
     let is : missing ≡ new_names known wanted = c.in-Ok.ensures ∙ ap (λ (these : List (List ℕ)). new_names these wanted) c.names.ensures in
-    let few : length (all_names known wanted) ≤ 16 =
+    let few : length (all_names known wanted) ≤ 64 =
     omega (arith, length-append known (new_names known wanted), ap length is, c.if-len-gt-FILE_LIMIT.false, c.len.ensures, c.len-2.ensures, ap length c.names-2.ensures) in
-    subst (λ (these : List (List ℕ)). AreFileNames version_1 (known ++ these)) (sym is) (all_are_names known wanted (region_as c.requires.version c.args.region.is_region).names_are c.requires.wanted few)
+    subst (λ (these : List (List ℕ)). AreFileNames mount_layout (known ++ these)) (sym is) (all_are_names known wanted (region_as c.requires.version c.args.region.is_region).names_are c.requires.wanted few)
 
 pub returns-in_default-clause-lent : goal.returns-in_default-clause-lent
 returns-in_default-clause-lent g c =
@@ -118,21 +118,21 @@ returns-clause-given_up g c =
     let opened = c.in_default-open_stores.ensures.opened in
     let stores = c.open_stores.new.stores.items in
     let is : missing ≡ new = c.in-Ok.ensures ∙ ap (λ (these : List (List ℕ)). new_names these wanted) c.names.ensures in
-    let few : length (all_names known wanted) ≤ 16 =
+    let few : length (all_names known wanted) ≤ 64 =
     omega (arith, length-append known new, ap length is, c.if-len-gt-FILE_LIMIT.false, c.len.ensures, c.len-2.ensures, ap length c.names-2.ensures) in
     let all = all_are_names known wanted (region_as c.requires.version region.is_region).names_are c.requires.wanted few in
     let row : List lines.PartHistory = map history region.parts.items in
-    let Left : Vec _ _ × OpenError → Type 0 = λ failed. TellRow (InEachRowImage (HasFirstNames region.geometry.page region.geometry.entries known missing region.next)) (map history failed.0.items) in
+    let Left : Vec _ _ × OpenError → Type 0 = λ failed. TellRow (InEachRowImage (HasFirstNames mount_version region.geometry.page region.geometry.entries known missing region.next)) (map history failed.0.items) in
     let Alike : Vec _ _ × OpenError → Type 0 = λ failed. HaveSameLines row (map history failed.0.items) in
     if_err_both (λ failed. AllTell row → Left failed) Alike
     (λ failed. IfSome state.told (λ holding. (told : List Part) → AreNow row told
-    → GivesBack history store_history (λ now. InEachImage (HasSome region.geometry.page region.geometry.entries (length known) (all_names known wanted) (files_behind files new holding.stores)) now × HasRest (line_counts told) known holding.stores now) then failed.0.items stores))
+    → GivesBack history store_history (λ now. InEachImage (HasSome mount_version region.geometry.page region.geometry.entries (length known) (all_names known wanted) (files_behind files new holding.stores)) now × HasRest (line_counts told) known holding.stores now) then failed.0.items stores))
     c.add_names.result
     (λ failed left alike.
-    added_back history store_history state then row failed.0.items c.args.stores.now.items stores opened.stores known wanted missing region.geometry.page region.geometry.entries region.next files
-    (g.met.T.Bench.named c.args.bench.now) c.requires.names (subst (λ (these : List (List ℕ)). AreFileNames version_1 (known ++ these)) (sym is) all) c.requires.one_each holds c.requires.synced
+    added_back history store_history state then row failed.0.items c.args.stores.now.items stores opened.stores mount_version known wanted missing region.geometry.page region.geometry.entries region.next files
+    (g.met.T.Bench.named c.args.bench.now) c.requires.names (subst (λ (these : List (List ℕ)). AreFileNames mount_layout (known ++ these)) (sym is) all) c.requires.one_each holds c.requires.synced
     opened.behind opened.lent opened.told
-    (λ tell. subst (λ names. TellRow (InEachRowImage (HasFirstNames region.geometry.page region.geometry.entries known names region.next)) (map history failed.0.items)) is (left tell)) alike)
+    (λ tell. subst (λ names. TellRow (InEachRowImage (HasFirstNames mount_version region.geometry.page region.geometry.entries known names region.next)) (map history failed.0.items)) is (left tell)) alike)
     (if_err_each c.add_names.result Left (λ failed. AllTell row → Left failed) (λ failed left. left) c.add_names.ensures.left)
     (lines_left history row c.add_names.result c.add_names.ensures.lines))
 
@@ -152,7 +152,7 @@ returns-in_default-clause-given_up g c = record {
       let back = c.into_parts.result.items in
       let row : List lines.PartHistory = map history region.parts.items in
       let same : map history back ≡ row = ap (λ parts. map history parts.items) c.into_parts.ensures.parts in
-      added_back history store_history state state row back stores stores none.stores known c.args.wanted.now [] region.geometry.page region.geometry.entries region.next files (g.met.T.Bench.named c.args.bench.now) c.requires.names
+      added_back history store_history state state row back stores stores none.stores mount_version known c.args.wanted.now [] region.geometry.page region.geometry.entries region.next files (g.met.T.Bench.named c.args.bench.now) c.requires.names
       (alone_are known (region_as c.requires.version region.is_region).names_are) c.requires.one_each holds c.requires.synced none.behind none.lent none.told
       (λ tell. rest_left (map history back) region.geometry.page region.geometry.entries known new region.next c.rows_have_states.ensures.some (subst AllTell (sym same) tell) (region_as c.requires.version c.into_parts.ensures.region).tells)
       (subst (HaveSameLines row) (sym same) (own_lines c.rows_have_states.ensures.one row));
@@ -175,7 +175,7 @@ returns-then-len-gt-FILE_LIMIT-clause-given_up g c = record {
       let region = c.args.region in
       let stores = c.args.stores.now.items in
       let back = c.into_parts-then-len-gt-FILE_LIMIT.result.items in
-      let At : List lines.PartHistory → Type 0 = λ row. IfSome state.told (λ holding. AllTell row → GivesBack history store_history (IsAtRestWith region.geometry.page region.geometry.entries region.names region.next files holding.stores) state back stores) in
+      let At : List lines.PartHistory → Type 0 = λ row. IfSome state.told (λ holding. AllTell row → GivesBack history store_history (IsAtRestWith mount_version region.geometry.page region.geometry.entries region.names region.next files holding.stores) state back stores) in
       subst At (ap (λ parts. map history parts.items) c.into_parts-then-len-gt-FILE_LIMIT.ensures.parts)
       (rest_back history store_history state back stores region.geometry.page region.geometry.entries region.names region.next files c.rows_have_states.ensures.some c.requires.names holds (region_as c.requires.version c.into_parts-then-len-gt-FILE_LIMIT.ensures.region).tells);
   standing = λ files holds.
@@ -190,7 +190,7 @@ returns-then-len-gt-FILE_LIMIT-clause-given_up g c = record {
       let back = c.into_parts-then-len-gt-FILE_LIMIT.result.items in
       let row : List lines.PartHistory = map history region.parts.items in
       let same : map history back ≡ row = ap (λ parts. map history parts.items) c.into_parts-then-len-gt-FILE_LIMIT.ensures.parts in
-      added_back history store_history state state row back stores stores none.stores known c.args.wanted.now [] region.geometry.page region.geometry.entries region.next files (g.met.T.Bench.named c.args.bench.now) c.requires.names
+      added_back history store_history state state row back stores stores none.stores mount_version known c.args.wanted.now [] region.geometry.page region.geometry.entries region.next files (g.met.T.Bench.named c.args.bench.now) c.requires.names
       (alone_are known (region_as c.requires.version region.is_region).names_are) c.requires.one_each holds c.requires.synced none.behind none.lent none.told
       (λ tell. rest_left (map history back) region.geometry.page region.geometry.entries known new region.next c.rows_have_states.ensures.some (subst AllTell (sym same) tell) (region_as c.requires.version c.into_parts-then-len-gt-FILE_LIMIT.ensures.region).tells)
       (subst (HaveSameLines row) (sym same) (own_lines c.rows_have_states.ensures.one row));
@@ -213,14 +213,14 @@ returns-in-Err-clause-given_up g c = record {
       let opened = begun.opened in
       let more = take begun.number missing in
       let is : missing ≡ new = c.in-Ok.ensures ∙ ap (λ (these : List (List ℕ)). new_names these wanted) c.names.ensures in
-      let few : length (all_names known wanted) ≤ 16 =
+      let few : length (all_names known wanted) ≤ 64 =
       omega (arith, length-append known new, ap length is, c.if-len-gt-FILE_LIMIT.false, c.len.ensures, c.len-2.ensures, ap length c.names-2.ensures) in
       let all = all_are_names known wanted (region_as c.requires.version region.is_region).names_are c.requires.wanted few in
       let back = c.into_parts-in-Err.result.items in
       let row : List lines.PartHistory = map history region.parts.items in
       let same : map history back ≡ row = ap (λ parts. map history parts.items) c.into_parts-in-Err.ensures.parts in
-      added_back history store_history state (g.T.Bench.state c.open_stores.new.bench) row back c.args.stores.now.items c.open_stores.new.stores.items opened.stores known wanted more region.geometry.page region.geometry.entries region.next files
-      (g.met.T.Bench.named c.args.bench.now) c.requires.names (some_are begun.number known missing (subst (λ (these : List (List ℕ)). AreFileNames version_1 (known ++ these)) (sym is) all)) c.requires.one_each holds c.requires.synced
+      added_back history store_history state (g.T.Bench.state c.open_stores.new.bench) row back c.args.stores.now.items c.open_stores.new.stores.items opened.stores mount_version known wanted more region.geometry.page region.geometry.entries region.next files
+      (g.met.T.Bench.named c.args.bench.now) c.requires.names (some_are begun.number known missing (subst (λ (these : List (List ℕ)). AreFileNames mount_layout (known ++ these)) (sym is) all)) c.requires.one_each holds c.requires.synced
       opened.behind opened.lent opened.told
       (λ tell. rest_left (map history back) region.geometry.page region.geometry.entries known new region.next c.rows_have_states.ensures.some (subst AllTell (sym same) tell) (region_as c.requires.version c.into_parts-in-Err.ensures.region).tells)
       (subst (HaveSameLines row) (sym same) (own_lines c.rows_have_states.ensures.one row));

@@ -10,8 +10,11 @@ use Rattle.nv_header.specs.Laws.{HasSpare}
 use Rattle.nv_header.specs.Changes.{parts_after_format}
 use Rattle.nv_header.specs.Regions.{IsBlankRow}
 use Rattle.nv_header.specs.Needs.{HasLines}
-use Rattle.nv_plain.specs.Layouts.{version_1}
+use Rattle.nv_plain.specs.Layouts.{mount_layout}
 use Rattle.nv_open.specs.Held.{AreUnwritten}
+use Rattle.nv_open.specs.Layers.{HasMountHeader, HasMountLines, IsBegunOpen, IsNotBegun}
+use Rattle.nv_pmem.specs.declared.geometry.Geometry.{Geometry}
+use Rattle.std.proofs.lemmas.Result.{IfErr-weaker, IfOk-weaker}
 use Rattle.nv_open.specs.Refusals.{rooms_of, IsRefusedFor, IsBadHeader}
 use Rattle.nv_open.specs.declared.error.OpenError.TheVariants as error
 use Rattle.nv_open.proofs.Beginnings.{if_err_map, if_err_both, if_some_map, tells_test, blank_rows, not_short, opened_short}
@@ -28,7 +31,7 @@ use Rattle.nv_pmem.specs.RowStates.{AreNow}
 use Rattle.nv_open.specs.Lending.{stores_named}
 use Rattle.nv_open.proofs.GivenBack.{if_err_any, if_err_each, none_of_header, read_back, read_untouched}
 use Rattle.nv_open.proofs.PartlyBack.{blank_back, read_left}
-use Rattle.nv_open.proofs.Layers.{formatted_begins, lines_left, never_bad, never_by_fault, not_blank, not_formatted, not_recovered_begins, recovered_begins}
+use Rattle.nv_open.proofs.Layers.{begun_since, formatted_begins, lines_left, never_bad, never_by_fault, not_begun_since, not_blank, not_formatted}
 use Rattle.nv_pmem.specs.Rows.{AreQuiet}
 use Rattle.nv_open.proofs.opening.begin.Goals as goal
 
@@ -52,8 +55,8 @@ format_parts-requires-clause-spare g c =
     subst (λ these. All HasSpare (map room these)) (sym (written_back c.args.parts.len new c.args.parts.items (omega (arith, c.are_blank.auto.parts, c.deref_mut.ensures.len))))
     (kept_spare room c.args.parts.items new (subst (λ these. AllZip (λ before now. Keeps (room before) (room now)) these new) c.deref_mut.ensures.value c.are_blank.ensures.read.rooms) c.requires.given.spare)
 
-pub recover_parts-requires-clause-given : goal.recover_parts-requires-clause-given
-recover_parts-requires-clause-given g c κs lives =
+pub begin_kept-requires-clause-given : goal.begin_kept-requires-clause-given
+begin_kept-requires-clause-given g c κs lives =
     let history = g.T.Part.Lines.history in
     let room = g.T.Part.Lines.room in
     let new = c.are_blank.new.parts in
@@ -112,10 +115,10 @@ returns-in-Ok-true-clause-given_up g c =
     let stores = c.args.stores.now.items in
     not_formatted history store_history state state items stores c.format_parts.result geometry
     (λ why.
-    if_err_map (λ failed. failed.1 ≡ error.Refused why → RowTells (map history back) (λ parts. ¬ (HasLines version_1 geometry.page geometry.entries (rooms_of parts))))
+    if_err_map (λ failed. failed.1 ≡ error.Refused why → RowTells (map history back) (λ parts. ¬ (HasLines mount_layout geometry.page geometry.entries (rooms_of parts))))
     (λ failed. failed.1 ≡ error.Refused why → IfSome told (λ holding. RowTells row (λ parts. (is_blank parts ≡ false) × IsRefusedFor parts why))) c.format_parts.result
     (λ failed short is. if_some_map told c.requires.long (λ long. not_short row geometry (λ parts. (is_blank parts ≡ false) × IsRefusedFor parts why) blank long
-    (subst (λ (these : List lines.PartHistory). RowTells these (λ parts. ¬ (HasLines version_1 geometry.page geometry.entries (rooms_of parts)))) same (short is)))) (c.format_parts.ensures.short why))
+    (subst (λ (these : List lines.PartHistory). RowTells these (λ parts. ¬ (HasLines mount_layout geometry.page geometry.entries (rooms_of parts)))) same (short is)))) (c.format_parts.ensures.short why))
     (λ why.
     if_err_both (λ failed. failed.1 ≡ error.Refused why → IsBadHeader why)
     (λ failed. failed.1 ≡ error.Refused why → map history failed.0.items ≡ map history back)
@@ -125,7 +128,7 @@ returns-in-Ok-true-clause-given_up g c =
     (row_tells_from row (λ told. map store_history c.args.stores.now.items ≡ []) (λ told are. ap (map store_history) c.requires.none)))
     (c.format_parts.ensures.header why) (c.format_parts.ensures.kept why))
     (λ wanted.
-    let Left : Vec _ _ × OpenError → Type 0 = λ failed. TellRow (InEachRowImage (IsBlankOrFormatted version_1 geometry.page geometry.entries)) (map history failed.0.items) in
+    let Left : Vec _ _ × OpenError → Type 0 = λ failed. TellRow (InEachRowImage (IsBlankOrFormatted mount_layout geometry.page geometry.entries)) (map history failed.0.items) in
     let Gives : Vec _ _ × OpenError → Type 0 = λ failed. IfSome state.told (λ holding. RowTells row (λ told. StandForFiles told
     → GivesBack history store_history (StandsOpening (line_counts told) geometry (record { parts = told; stores = holding.stores }) wanted) state failed.0.items stores)) in
     let Alike : Vec _ _ × OpenError → Type 0 = λ failed. HaveSameLines row (map history failed.0.items) in
@@ -137,23 +140,27 @@ returns-in-Ok-true-clause-given_up g c =
     (λ failed. never_bad state.told row (λ holding told. GivesBack history store_history (IsUntouched (record { parts = told; stores = holding.stores })) state failed.0.items stores)
     (row_tells_from row (λ told. is_blank told ≡ false → ¬ (IsGood told) → ⊥) (λ told are kept not_good. true_is_kept (sym (row_tells_at row (λ told. is_blank told ≡ true) told are blank) ∙ kept)))))
 
-pub returns-in-Ok-clause-begun : goal.returns-in-Ok-clause-begun
-returns-in-Ok-clause-begun g c =
+pub begin_kept-requires-clause-kept : goal.begin_kept-requires-clause-kept
+begin_kept-requires-clause-kept g c κs lives =
     let history = g.T.Part.Lines.history in
-    let store_history = g.T.Store.Backing.history in
     let new = c.are_blank.new.parts in
     let items = c.args.parts.items in
-    let row : List lines.PartHistory = map history items in
-    let back = take c.args.parts.len (new ++ drop (length new) items) in
-    let state = g.T.Bench.state c.args.bench.now in
     let same = ap (map history) (written_back c.args.parts.len new items (omega (arith, c.are_blank.auto.parts, c.deref_mut.ensures.len))) ∙ c.are_blank.ensures.read.histories ∙ ap (map history) c.deref_mut.ensures.value in
-    let blank = tells_test (map history c.deref_mut.result.now) row c.in-Ok-false.field-0 false (ap (map history) c.deref_mut.ensures.value) c.in-Ok-false.ensures.told c.in-Ok-false.field-0-test in
-    let region = c.in-Ok.region in
-    recovered_begins history store_history state (g.T.Bench.state c.recover_parts.new.bench) items c.recover_parts.new.stores.items back region.parts.items c.args.geometry region.geometry.page region.geometry.entries region.names
-    region.next c.in-Ok._found same blank c.in-Ok.ensures.recovered
+    subst (λ (row : List lines.PartHistory). RowTells row (λ told. is_blank told ≡ false)) (sym same)
+    (tells_test (map history c.deref_mut.result.now) (map history items) c.in-Ok-false.field-0 false (ap (map history) c.deref_mut.ensures.value) c.in-Ok-false.ensures.told c.in-Ok-false.field-0-test)
 
-pub returns-in-Err-recover_parts-clause-given_up : goal.returns-in-Err-recover_parts-clause-given_up
-returns-in-Err-recover_parts-clause-given_up g c =
+pub begin_kept-requires-clause-long : goal.begin_kept-requires-clause-long
+begin_kept-requires-clause-long g c κs lives =
+    let history = g.T.Part.Lines.history in
+    let new = c.are_blank.new.parts in
+    let items = c.args.parts.items in
+    let same = ap (map history) (written_back c.args.parts.len new items (omega (arith, c.are_blank.auto.parts, c.deref_mut.ensures.len))) ∙ c.are_blank.ensures.read.histories ∙ ap (map history) c.deref_mut.ensures.value in
+    if_some_map (g.T.Bench.state c.args.bench.now).told c.requires.long (λ long.
+    subst (λ (row : List lines.PartHistory). RowTells row HasMountHeader) (sym same)
+    (row_tells_from (map history items) HasMountHeader (λ told are. (row_tells_at (map history items) (HasMountLines c.args.geometry) told are long).header)))
+
+pub returns-in-Ok-false-clause-begun : goal.returns-in-Ok-false-clause-begun
+returns-in-Ok-false-clause-begun g c =
     let history = g.T.Part.Lines.history in
     let store_history = g.T.Store.Backing.history in
     let new = c.are_blank.new.parts in
@@ -162,9 +169,33 @@ returns-in-Err-recover_parts-clause-given_up g c =
     let back = take c.args.parts.len (new ++ drop (length new) items) in
     let state = g.T.Bench.state c.args.bench.now in
     let same = ap (map history) (written_back c.args.parts.len new items (omega (arith, c.are_blank.auto.parts, c.deref_mut.ensures.len))) ∙ c.are_blank.ensures.read.histories ∙ ap (map history) c.deref_mut.ensures.value in
-    let blank = tells_test (map history c.deref_mut.result.now) row c.in-Ok-false.field-0 false (ap (map history) c.deref_mut.ensures.value) c.in-Ok-false.ensures.told c.in-Ok-false.field-0-test in
-    let failed = c.in-Err-recover_parts.failed in
-    not_recovered_begins history store_history state (g.T.Bench.state c.recover_parts.new.bench) items c.recover_parts.new.stores.items back failed.0.items c.args.geometry failed.1 same blank c.in-Err-recover_parts.ensures.given_up
+    let then = g.T.Bench.state c.begin_kept.new.bench in
+    let stores = c.begin_kept.new.stores.items in
+    let geometry = c.args.geometry in
+    IfOk-weaker c.begin_kept.result
+    (λ region. (geometry : Geometry) → IsBegunOpen history store_history state then back stores geometry region.geometry.page region.geometry.entries region.names region.next region.parts.items)
+    (λ region. IsBegunOpen history store_history state then items stores geometry region.geometry.page region.geometry.entries region.names region.next region.parts.items)
+    (λ region begun. begun_since history store_history state then items stores back region.parts.items geometry region.geometry.page region.geometry.entries region.names region.next same (begun geometry))
+    c.begin_kept.ensures.begun
+
+pub returns-in-Ok-false-clause-given_up : goal.returns-in-Ok-false-clause-given_up
+returns-in-Ok-false-clause-given_up g c =
+    let history = g.T.Part.Lines.history in
+    let store_history = g.T.Store.Backing.history in
+    let new = c.are_blank.new.parts in
+    let items = c.args.parts.items in
+    let row : List lines.PartHistory = map history items in
+    let back = take c.args.parts.len (new ++ drop (length new) items) in
+    let state = g.T.Bench.state c.args.bench.now in
+    let same = ap (map history) (written_back c.args.parts.len new items (omega (arith, c.are_blank.auto.parts, c.deref_mut.ensures.len))) ∙ c.are_blank.ensures.read.histories ∙ ap (map history) c.deref_mut.ensures.value in
+    let then = g.T.Bench.state c.begin_kept.new.bench in
+    let stores = c.begin_kept.new.stores.items in
+    let geometry = c.args.geometry in
+    IfErr-weaker c.begin_kept.result
+    (λ failed. (geometry : Geometry) → IsNotBegun history store_history state then back failed.0.items stores geometry failed.1)
+    (λ failed. IsNotBegun history store_history state then items failed.0.items stores geometry failed.1)
+    (λ failed not. not_begun_since history store_history state then items stores back failed.0.items geometry failed.1 same (not geometry))
+    c.begin_kept.ensures.given_up
 
 pub returns-in-Err-clause-given_up : goal.returns-in-Err-clause-given_up
 returns-in-Err-clause-given_up g c =

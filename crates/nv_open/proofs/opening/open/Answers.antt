@@ -7,14 +7,15 @@ use Rattle.nv_bench.specs.Holding.{Holding, IsQuietHolding, NamedStore}
 use Rattle.nv_bench.specs.Opening.{is_blank, opened}
 use Rattle.nv_open.specs.Begun.{IsRegionOpened, IsNotOpened}
 use Rattle.nv_open.proofs.HeadLaws.{error_is}
-use Rattle.nv_open.proofs.AsHeld.{given_long, given_kept, some_map, opened_before, not_opened_before}
+use Rattle.nv_open.proofs.AsHeld.{given_long, some_map, opened_before, not_opened_before}
 use Rattle.nv_open.proofs.Regions.{given_quiet, given_spare, given_tell, lent_told, quiet_parts, some_stores, stores_after, still_untold, returned_told}
-use Rattle.nv_open.proofs.Sized.{opened_kept, quiet_opened}
-use Rattle.std.proofs.Common.{Option, [], ap, false, inl, subst}
+use Rattle.nv_open.proofs.Lengthened.{good_before}
+use Rattle.nv_open.proofs.Sized.{blank_stays, opened_reads, quiet_opened}
+use Rattle.std.proofs.Common.{Option, [], ap, false, inl, inr}
 use Rattle.std.specs.Prelude.{All, option_map}
 use Rattle.nv_pmem.specs.Rows.{RowTells}
 use Rattle.nv_pmem.specs.RowStates.{row_tells_at}
-use Rattle.nv_open.specs.Unopened.{GivesBack, IsGood, IsUntouched, RestsUnopened, StandForFiles, StandsOpening, StandsUnopened, TellsOf, line_counts}
+use Rattle.nv_open.specs.Unopened.{GivesBack, IsGood, IsUntouched, RestsUnopened, StandForFiles, StandsOpening, StandsUnopened, StaysUntouched, TellsOf, as_opened, line_counts}
 use Rattle.nv_open.proofs.GivenBack.{at_some, if_err_any, if_some, still_untouched, told_so}
 use Rattle.nv_open.proofs.PartlyBack.{gives_more, made_stand, rests_before, unopened_made}
 use Rattle.nv_open.proofs.opening.open.Goals as goal
@@ -75,18 +76,9 @@ pub returns-in-Err-clause-unwritten : goal.returns-in-Err-clause-unwritten
 returns-in-Err-clause-unwritten g c why is other =
     let old = g.T.Bench.state c.args.bench.now in
     let mid = g.T.Bench.state c.open_region.new.self in
-    let geometry = c.args.geometry in
-    let wanted = c.args.wanted.now in
-    let row = map g.T.Part.Lines.history c.in_ok-parts.parts.items in
-    let same = error_is (Err c.in-Err.error) _ _ refl is in
-    let not = some_map old.told (λ holding. IsNotOpened (opened (Some geometry) holding.parts) geometry wanted why) (λ holding. IsNotOpened holding.parts geometry wanted why)
-    (λ holding no. not_opened_before geometry holding.parts wanted why no)
-    (some_stores old.told mid.told (λ (holding : Holding). opened (Some geometry) holding.parts) row
-    (λ parts held. IsNotOpened parts geometry wanted why) (lent_told old mid c.in_ok-parts.ensures.lent) c.in_ok-parts.ensures.told (c.in-Err.ensures.given_up.refused why same)) in
-    returned_told g.T.Part.Lines.history g.T.Store.Backing.history why old mid (g.T.Bench.state c.open_parts.new.bench) (g.T.Bench.state c.give_back.new.self).told old.told
-    c.in_ok-parts.parts.items c.in-Err.parts.items c.open_parts.new.stores.items c.in_ok-parts.ensures.lent c.requires.home refl
-    (given_kept geometry old.told row wanted why other c.in_ok-parts.ensures.told not)
-    (c.in-Err.ensures.given_up.unwritten why same other) c.give_back.ensures.told
+    returned_told g.T.Part.Lines.history g.T.Store.Backing.history why old mid (g.T.Bench.state c.open_parts.new.bench) (g.T.Bench.state c.give_back.new.self).told old.told (λ (holding : Holding). opened (Some c.args.geometry) holding.parts)
+    c.in_ok-parts.parts.items c.in-Err.parts.items c.open_parts.new.stores.items c.in_ok-parts.ensures.lent c.requires.home refl c.in_ok-parts.ensures.told
+    (c.in-Err.ensures.given_up.unwritten why (error_is (Err c.in-Err.error) _ _ refl is) other) c.give_back.ensures.told
     (λ none. c.give_back.ensures.untold (still_untold (length c.open_parts.new.stores.items) old mid (g.T.Bench.state c.open_parts.new.bench) c.in_ok-parts.ensures.lent c.in-Err.ensures.lent none))
 
 pub returns-in-Ok-clause-lines : goal.returns-in-Ok-clause-lines
@@ -136,7 +128,9 @@ returns-in_err-parts-clause-untouched g c =
     let old = g.T.Bench.state c.args.bench.now in
     let new = g.T.Bench.state c.open_region.new.self in
     if_err_any c.from_residual.result (λ why.
-    if_some old.told (λ was. is_blank was.parts ≡ false → ¬ (IsGood was.parts) → TellsOf (IsUntouched was) new.told) (λ was told kept not_good. still_untouched old new was c.in_err-parts.ensures.kept told))
+    if_some old.told (λ was. is_blank was.parts ≡ false → ¬ (IsGood was.parts) → TellsOf (StaysUntouched c.args.geometry was) new.told) (λ was told kept not_good.
+    let still = still_untouched old new was c.in_err-parts.ensures.kept told in
+    record { now = still.now; told_is = still.told_is; is_so = record { either = inl still.is_so } }))
 
 pub returns-in-Err-clause-untouched : goal.returns-in-Err-clause-untouched
 returns-in-Err-clause-untouched g c =
@@ -150,14 +144,17 @@ returns-in-Err-clause-untouched g c =
     let back = c.in-Err.parts.items in
     let then = (g.T.Bench.state c.give_back.new.self).told in
     let geometry = c.args.geometry in
-    if_some old.told (λ was. is_blank was.parts ≡ false → ¬ (IsGood was.parts) → TellsOf (IsUntouched was) then) (λ was told kept not_good.
+    if_some old.told (λ was. is_blank was.parts ≡ false → ¬ (IsGood was.parts) → TellsOf (StaysUntouched geometry was) then) (λ was told kept not_good.
+    let made = opened (Some geometry) was.parts in
     let left : Holding = record { parts = []; stores = was.stores } in
     let mid_told : mid.told ≡ Some left = lent_told old mid c.in_ok-parts.ensures.lent ∙ ap (λ (one : Option Holding). option_map (λ (these : Holding). record { parts = []; stores = these.stores }) one) told in
     let Untouched : Holding → List Part → Type 0 = λ holding told. is_blank told ≡ false → ¬ (IsGood told) → GivesBack history store_history (IsUntouched (record { parts = told; stores = holding.stores })) new back stores in
-    told_so history store_history (IsUntouched was) new back stores then
-    (row_tells_at (map history parts) (Untouched left) was.parts
-    (subst (λ (made : List Part). AreNow (map history parts) made) (opened_kept geometry was.parts kept) (at_some old.told (λ holding. AreNow (map history parts) (opened (Some geometry) holding.parts)) was told c.in_ok-parts.ensures.told))
-    (at_some mid.told (λ holding. RowTells (map history parts) (Untouched holding)) left mid_told c.in-Err.ensures.given_up.untouched) kept not_good)
+    told_so history store_history (StaysUntouched geometry was) new back stores then
+    (gives_more history store_history (IsUntouched (as_opened geometry was)) (StaysUntouched geometry was) new back stores (λ holding untouched. record { either = inr untouched })
+    (row_tells_at (map history parts) (Untouched left) made
+    (at_some old.told (λ holding. AreNow (map history parts) (opened (Some geometry) holding.parts)) was told c.in_ok-parts.ensures.told)
+    (at_some mid.told (λ holding. RowTells (map history parts) (Untouched holding)) left mid_told c.in-Err.ensures.given_up.untouched) (blank_stays geometry was.parts ∙ kept)
+    (λ good. not_good (good_before was.parts made (opened_reads geometry was.parts kept) good))))
     c.give_back.ensures.told)
 
 pub returns-in-Err-clause-rests : goal.returns-in-Err-clause-rests

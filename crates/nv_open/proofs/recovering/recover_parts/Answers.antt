@@ -12,10 +12,11 @@ use Rattle.nv_recover.proofs.RoomLaws.{parts_read, parts_stay}
 use Rattle.nv_recover.specs.Standing.{AreQuietStores}
 use Rattle.nv_open.specs.Held.{header_names}
 use Rattle.nv_open.specs.Lending.{stores_named}
-use Rattle.nv_open.specs.Refusals.{IsRefusedFor, IsBadHeader, IsBadLog}
+use Rattle.nv_open.specs.Refusals.{IsRefusedFor, IsBadHeader, IsBadLog, head_image}
 use Rattle.nv_open.proofs.Beginnings.{if_err_both}
 use Rattle.nv_open.proofs.Layers.{is_recovered, lines_after, never_by_bench, not_recovered}
 use Rattle.nv_open.proofs.LineCounts.{kept_spare}
+use Rattle.nv_open.proofs.NewNames.{for_mount}
 use Rattle.nv_open.proofs.Openings.{opened_none, some_nil}
 use Rattle.nv_open.proofs.Returns.{written_back, lent_quiet, opened_alone, files_passed, opened_by_header, opened_by_log, refused_alone, unwritten_by}
 use Rattle.nv_bench.specs.Holding.{Holding}
@@ -25,7 +26,8 @@ use Rattle.nv_pmem.specs.Part.{Part}
 use Rattle.nv_open.specs.Unopened.{HaveSameLines, IsGood, StandAsBefore}
 use Rattle.nv_open.proofs.GivenBack.{all_of_header, at_some, first_of_header, none_of_header, read_back, read_untouched, stood_back, untouched_back}
 use Rattle.std.proofs.lemmas.Result.{IfErr-weaker, IfOk-weaker}
-use Rattle.nv_plain.specs.Layouts.{version_1}
+use Rattle.nv_plain.specs.Images.{version_in}
+use Rattle.nv_plain.specs.Layouts.{layout_of, mount_layout}
 use Rattle.nv_header.specs.FileNames.{AreFileNames}
 use Rattle.nv_pmem.specs.Rows.{AreQuiet}
 use Rattle.std.proofs.Common.{ℕ}
@@ -36,7 +38,7 @@ open_stores-requires-clause-open g c κs lives = c.requires.given.is_open
 
 pub open_stores-requires-clause-names : goal.open_stores-requires-clause-names
 open_stores-requires-clause-names g c κs lives =
-    subst (λ (lent : List (List ℕ)). AreFileNames version_1 (lent ++ c.in-Ok.head.names)) (sym c.requires.given.home) c.in-Ok.ensures.limits.names
+    subst (λ (lent : List (List ℕ)). AreFileNames mount_layout (lent ++ c.in-Ok.head.names)) (sym c.requires.given.home) (for_mount c.in-Ok.head.version c.in-Ok.head.names c.in-Ok.ensures.limits.names)
 
 pub recover_log-requires-clause-spare : goal.recover_log-requires-clause-spare
 recover_log-requires-clause-spare g c =
@@ -164,6 +166,15 @@ returns-clause-recovered g c =
     c.requires.given.tell lent (λ parts_tell stores_tell. c.recover_log.ensures.tell (subst AllTell (sym same) parts_tell) stores_tell))
     c.recover_log.ensures.lines
 
+pub returns-clause-version : goal.returns-clause-version
+returns-clause-version g c =
+    let history = g.T.Part.Lines.history in
+    let row : List lines.PartHistory = map history c.args.parts.items in
+    let says = subst (λ these. RowTells (map history these) (λ told. c.in-Ok.head.version ≡ version_in (head_image told))) c.deref_mut.ensures.value c.in-Ok.ensures.version in
+    IfOk-weaker c.recover_log.result (λ done. done.0.version ≡ c.in-Ok.head.version) (λ done. RowTells row (λ told. done.0.version ≡ version_in (head_image told)))
+    (λ done same. row_tells_from row (λ told. done.0.version ≡ version_in (head_image told)) (λ told are. same ∙ row_tells_at row (λ told. c.in-Ok.head.version ≡ version_in (head_image told)) told are says))
+    c.recover_log.ensures.version
+
 pub returns-clause-rooms : goal.returns-clause-rooms
 returns-clause-rooms g c =
     let room = g.T.Part.Lines.room in
@@ -209,7 +220,7 @@ returns-clause-given_up g c =
     (λ failed. HaveSameLines row (map history failed.0.items))
     (λ failed. IfSome state.told (λ holding. RowTells (map history items) (λ told. _))) c.recover_log.result
     (λ failed stands alike.
-    stood_back history store_history state then items failed.0.items c.recover_log.new.stores.items (g.met.T.Bench.named c.args.bench.now) c.requires.given.home c.requires.given.quiet c.requires.given.synced names
+    stood_back history store_history state then items failed.0.items c.recover_log.new.stores.items (g.met.T.Bench.named c.args.bench.now) c.requires.given.home c.requires.given.quiet c.requires.given.synced (layout_of c.in-Ok.head.version) names
     says c.in-Ok.ensures.limits.names (c.recover_log.ensures.count ∙ sym (ap length alone) ∙ opened.count) alike opened.lent
     (λ holding told_is told told_are. stands told (stores_named names holding.stores) (subst (λ (row : List lines.PartHistory). AreNow row told) (sym same) told_are)
     (at_some state.told (λ holding. AreNow (map store_history c.open_stores.new.stores.items) (stores_named names holding.stores)) holding told_is lent)))

@@ -3,11 +3,12 @@ use Rattle.nv_pmem.specs.RowStates.{AreNow}
 use Rattle.nv_store.specs.Store.{IsQuietStore}
 use Rattle.nv_bench.specs.Holding.{Holding, IsQuietHolding, NamedStore}
 use Rattle.nv_pmem.specs.Part.{Part}
-use Rattle.nv_open.specs.Held.{HoldFiles, IsRecovered, files_named}
-use Rattle.nv_open.specs.Refusals.{IsRefusedFor}
+use Rattle.nv_plain.specs.Images.{version_in}
+use Rattle.nv_open.specs.Held.{HoldFiles, IsRecovered, files_named, told_after}
+use Rattle.nv_open.specs.Refusals.{IsRefusedFor, head_image}
 use Rattle.nv_open.proofs.HeadLaws.{error_is}
 use Rattle.nv_open.proofs.AsHeld.{some_map}
-use Rattle.nv_open.proofs.Regions.{given_quiet, given_spare, given_tell, lent_told, quiet_parts, some_told, some_stores, stores_after, still_untold, returned_told}
+use Rattle.nv_open.proofs.Regions.{given_quiet, given_spare, given_tell, lent_told, quiet_parts, same_told, some_told, some_stores, stores_after, still_untold, returned_told}
 use Rattle.std.proofs.Common.{Some, Option, List, []}
 use Rattle.std.specs.Prelude.{All, option_map}
 use Rattle.nv_bench.specs.Benches.{BenchState}
@@ -60,10 +61,16 @@ pub returns-in-Err-clause-unwritten : goal.returns-in-Err-clause-unwritten
 returns-in-Err-clause-unwritten g c why is =
     let old = g.T.Bench.state c.args.bench.now in
     let mid = g.T.Bench.state c.open_region.new.self in
-    returned_told g.T.Part.Lines.history g.T.Store.Backing.history why old mid (g.T.Bench.state c.recover_parts.new.bench) (g.T.Bench.state c.give_back.new.self).told old.told
+    returned_told g.T.Part.Lines.history g.T.Store.Backing.history why old mid (g.T.Bench.state c.recover_parts.new.bench) (g.T.Bench.state c.give_back.new.self).told old.told (λ (holding : Holding). holding.parts)
     c.in_ok-parts.parts.items c.in-Err.parts.items c.recover_parts.new.stores.items c.in_ok-parts.ensures.lent c.requires.home refl c.in_ok-parts.ensures.told
     (c.in-Err.ensures.given_up.unwritten why (error_is (Err c.in-Err.error) _ _ refl is)) c.give_back.ensures.told
     (λ none. c.give_back.ensures.untold (still_untold (length c.recover_parts.new.stores.items) old mid (g.T.Bench.state c.recover_parts.new.bench) c.in_ok-parts.ensures.lent c.in-Err.ensures.lent none))
+    ∙ ap (told_after why) (same_told old.told)
+
+pub returns-in-Ok-clause-version : goal.returns-in-Ok-clause-version
+returns-in-Ok-clause-version g c =
+    some_told (g.T.Bench.state c.args.bench.now).told (λ (holding : Holding). holding.parts) (map g.T.Part.Lines.history c.in_ok-parts.parts.items)
+    (λ told. c.in-Ok.region.version ≡ version_in (head_image told)) c.in_ok-parts.ensures.told c.in-Ok.ensures.version
 
 pub returns-in-Ok-clause-lines : goal.returns-in-Ok-clause-lines
 returns-in-Ok-clause-lines g c =

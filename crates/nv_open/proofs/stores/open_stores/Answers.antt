@@ -3,7 +3,7 @@ use Rattle.std.specs.Prelude.{Contains}
 use Rattle.std.proofs.lemmas.List.{take_more}
 use Rattle.std.proofs.lemmas.List.Elements.{Contains-append_right}
 use Rattle.std.proofs.lemmas.Result.{err_from_is_err_and}
-use Rattle.nv_plain.specs.Layouts.{version_1}
+use Rattle.nv_plain.specs.Layouts.{mount_layout}
 use Rattle.nv_plain.specs.Names.{is_name}
 use Rattle.nv_bench.specs.Benches.{BenchState}
 use Rattle.nv_open.specs.Lending.{AreOpened}
@@ -27,17 +27,17 @@ pub text_of-requires : goal.text_of-requires
 text_of-requires g c =
     let names = c.args.names.now in
     let i = c.loop-name.name-index in
-    let Allowed : List ℕ → Type 0 = λ name. IsTrue (is_name version_1.name_limit name) in
+    let Allowed : List ℕ → Type 0 = λ name. IsTrue (is_name mount_layout.name_limit name) in
     subst Allowed (sym (item_at c.as_slice-name-items.result.now names i c.name-item.result c.as_slice-name-items.ensures c.loop-name-test.true c.name-item.is))
-    (is_allowed version_1 (g.T.Bench.state c.args.bench.now).lent names i (omega (arith, ap length c.as_slice-name-items.ensures)) c.requires.names)
+    (is_allowed mount_layout (g.T.Bench.state c.args.bench.now).lent names i (omega (arith, ap length c.as_slice-name-items.ensures)) c.requires.names)
 
 pub open_store-requires-clause-name : goal.open_store-requires-clause-name
 open_store-requires-clause-name g c =
     let names = c.args.names.now in
     let i = c.loop-name.name-index in
-    let Allowed : List ℕ → Type 0 = λ name. IsTrue (is_name version_1.name_limit name) in
+    let Allowed : List ℕ → Type 0 = λ name. IsTrue (is_name mount_layout.name_limit name) in
     subst Allowed (sym (c.text_of.ensures ∙ item_at c.as_slice-name-items.result.now names i c.name-item.result c.as_slice-name-items.ensures c.loop-name-test.true c.name-item.is))
-    (is_allowed version_1 (g.T.Bench.state c.args.bench.now).lent names i (omega (arith, ap length c.as_slice-name-items.ensures)) c.requires.names)
+    (is_allowed mount_layout (g.T.Bench.state c.args.bench.now).lent names i (omega (arith, ap length c.as_slice-name-items.ensures)) c.requires.names)
 
 pub open_store-requires-clause-other : goal.open_store-requires-clause-other
 open_store-requires-clause-other g c =
@@ -47,7 +47,7 @@ open_store-requires-clause-other g c =
     let Apart : List (List ℕ) → List ℕ → Type 0 = λ these name. ¬ (Contains these name) in
     let is = c.text_of.ensures ∙ item_at c.as_slice-name-items.result.now names i c.name-item.result c.as_slice-name-items.ensures c.loop-name-test.true c.name-item.is in
     subst (λ (these : List (List ℕ)). Apart these c.text_of.result.now) (sym (ap (λ (state : BenchState). state.lent) c.loop-name.invariant.opened.lent))
-    (subst (λ (name : List ℕ). Apart (lent ++ take i names) name) (sym is) (not_lent version_1 lent names i (omega (arith, ap length c.as_slice-name-items.ensures)) c.requires.names))
+    (subst (λ (name : List ℕ). Apart (lent ++ take i names) name) (sym is) (not_lent mount_layout lent names i (omega (arith, ap length c.as_slice-name-items.ensures)) c.requires.names))
 
 pub returns-in_err-store-clause-begun : goal.returns-in_err-store-clause-begun
 returns-in_err-store-clause-begun g c =
@@ -73,7 +73,7 @@ loop-name-preserved g c =
     let was = g.T.Bench.state c.loop-name.bench in
     let new = g.T.Bench.state c.open_store.new.self in
     let is : name ≡ get_or names i [] = c.text_of.ensures ∙ item_at c.as_slice-name-items.result.now names i c.name-item.result c.as_slice-name-items.ensures c.loop-name-test.true c.name-item.is in
-    let apart : ¬ (Contains (take i names) name) = λ known. not_lent version_1 lent names i below c.requires.names (subst (λ (one : List ℕ). Contains (lent ++ take i names) one) is (Contains-append_right lent (take i names) name known)) in
+    let apart : ¬ (Contains (take i names) name) = λ known. not_lent mount_layout lent names i below c.requires.names (subst (λ (one : List ℕ). Contains (lent ++ take i names) one) is (Contains-append_right lent (take i names) name known)) in
     let more = opened_more history fault_count (take i names) name old was new c.args.stores.now.items c.loop-name.stores.items c.in_ok-store.store apart
     c.loop-name.invariant.opened c.in_ok-store.ensures.lent c.in_ok-store.ensures.told c.in_ok-store.ensures.untold c.in_ok-store.ensures.counts in
     let front : take i names ++ name ∷ [] ≡ take (i + 1) names = ap (λ (one : List ℕ). take i names ++ one ∷ []) is ∙ sym (take_more names i [] below) in
