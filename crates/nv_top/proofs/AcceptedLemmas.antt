@@ -3,10 +3,15 @@ use Rattle.std.proofs.Common.{◌≡◌, ◌⊎◌, ℕ, ◌≤◌, Bool, true, 
 use Rattle.std.specs.Global.{Vec}
 use Rattle.std.specs.Prelude.{IfOk, IfSome, IsOk, is_ok, slice_index_or}
 use Rattle.std.proofs.lemmas.Bool.{eqb-true, true≢false}
+use Rattle.nv_open.specs.Refusals.{head_layout}
+use Rattle.nv_open.specs.Unopened.{HasHeader}
+use Rattle.nv_open.specs.Refusals.{AreLong}
 use Rattle.nv_plain.specs.Faults.{Rose}
 use Rattle.nv_plain.specs.Files.{Files}
-use Rattle.nv_plain.specs.Images.{Image, header_of, layout_in}
-use Rattle.nv_plain.specs.Layouts.{mount_layout, mount_version}
+use Rattle.nv_plain.specs.Images.{Image, header_of, layout_in, version_in}
+use Rattle.nv_plain.specs.Layouts.{Layout, layout_of, mount_layout, mount_version}
+use Rattle.nv_plain.specs.declared.limits.Version.{Version}
+use Rattle.nv_plain.proofs.OwnLayouts.{layout_is, layout_same}
 use Rattle.nv_plain.specs.Recovered.{Fits, IsBlank}
 use Rattle.nv_pmem.specs.Draws.{draws_of}
 use Rattle.nv_pmem.specs.Laws.{QuietPartHasOneImage}
@@ -35,8 +40,10 @@ use Rattle.nv_open.specs.Unopened.{InEachImage, IsGood, IsUntouched, StandForFil
 use Rattle.nv_open.proofs.LineCounts.{long_alike}
 use Rattle.nv_open.proofs.Partly.{blank_entries, blank_page, kept_entries, kept_page}
 use Rattle.nv_open.proofs.PartlyBack.{known_entries, known_page}
-use Rattle.nv_open.proofs.Sized.{blank_stays, long_opened, opened_kept}
-use Rattle.nv_open.proofs.Stands.{durable_images, head_alike}
+use Rattle.nv_open.proofs.Sized.{blank_stays, either_long, long_opened, mount_long}
+use Rattle.nv_open.proofs.Stands.{durable_images}
+use Rattle.nv_open.proofs.Versions.{own_layout}
+use Rattle.nv_top.proofs.LineLemmas.{head_layout_is}
 use Rattle.nv_trace.specs.Traced.{Traced}
 use Rattle.nv_trace.specs.declared.trace.Form.{Form}
 use Rattle.nv_trace.specs.declared.trace.Form.TheVariants as forms
@@ -74,17 +81,30 @@ of_read form (Some input) P Q each read = each read.0 read.2
 -- ---- what is read of parts
 
 -- the header's part has the header's lines
-first_long : (parts : List Part) → mount_layout.header_lines ≤ header_lines_in (rooms_of parts) → mount_layout.header_lines ≤ length (header_part parts)
-first_long [] enough = enough
-first_long (part ∷ parts) enough = enough
+first_long : (layout : Layout) (parts : List Part) → layout.header_lines ≤ header_lines_in (rooms_of parts) → layout.header_lines ≤ length (header_part parts)
+first_long layout [] enough = enough
+first_long layout (part ∷ parts) enough = enough
 
 -- a header that can be read of the parts' words can be read of its part, where that has its lines
-read_of : (parts : List Part) → IsHead mount_layout mount_layout.header_lines (row_words parts) → mount_layout.header_lines ≤ length (header_part parts) → CanBeRead parts
-read_of parts read long = record { long_enough = long; fields = read.fields; names = λ i below. let good = read.names i below in record { whole = good.whole; new = good.new } }
+read_of : (parts : List Part) → HasHeader parts → (head_layout parts).header_lines ≤ length (header_part parts) → CanBeRead parts
+read_of parts read long =
+    let lines = length (header_part parts) in
+    let same = head_layout_is parts in
+    let whole : IsHead (layout_in (row_words parts)) lines (head_image parts) =
+    record {
+      long_enough = subst (λ (layout : Layout). layout.header_lines ≤ lines) same long;
+      fields = read.fields;
+      names = λ i below. let good = read.names i below in record { whole = good.whole; new = good.new };
+    } in
+    subst (λ (layout : Layout). IsHead layout lines (head_image parts)) (sym same) whole
 
 -- and the other way round
-head_of : (parts : List Part) → CanBeRead parts → IsHead mount_layout mount_layout.header_lines (row_words parts)
-head_of parts read = record { long_enough = omega arith; fields = read.fields; names = λ i below. let good = read.names i below in record { whole = good.whole; new = good.new } }
+head_of : (parts : List Part) → CanBeRead parts → HasHeader parts
+head_of parts read =
+    let own = head_layout parts in
+    let whole : IsHead own own.header_lines (row_words parts) =
+    record { long_enough = omega arith; fields = read.fields; names = λ i below. let good = read.names i below in record { whole = good.whole; new = good.new } } in
+    subst (λ (layout : Layout). IsHead layout layout.header_lines (row_words parts)) (head_layout_is parts) whole
 
 blank_is : (parts : List Part) → is_blank parts ≡ true → IsBlank (row_words parts)
 blank_is parts is = eqb-true (header_of (row_words parts)).magic 0 is
@@ -98,15 +118,18 @@ not_blank parts good = go (is_blank parts) refl
     go false e = refl
 
 -- a region is good whose header can be read of its words, and which has the lines that this says and whole groups
-good_of : (parts : List Part) → IsHead mount_layout mount_layout.header_lines (row_words parts) → Fits (layout_in (row_words parts)) (row_words parts)
-    → HasLines mount_layout (header_of (head_image parts)).page (header_of (head_image parts)).entries (rooms_of parts) → IsGood parts
-good_of parts read fits long = record { readable = read_of parts read (first_long parts long.header); long = long; fits = fits }
+good_of : (parts : List Part) → HasHeader parts → Fits (layout_in (row_words parts)) (row_words parts) → AreLong parts → IsGood parts
+good_of parts read fits long = record { readable = read_of parts read (first_long (head_layout parts) parts long.header); long = long; fits = fits }
+
+-- a header that can be read as one of a version is one of its own
+own_header : (version : Version) (parts : List Part) → IsHead (layout_of version) (layout_of version).header_lines (row_words parts) → HasHeader parts
+own_header version parts read =
+    subst (λ (layout : Layout). IsHead layout layout.header_lines (row_words parts)) (sym (layout_is version (row_words parts) read.fields.version_is)) read
 
 -- it has the lines that its header says, where it has those of these sizes, and the header says these
-sizes_long : (page entries : ℕ) (parts : List Part) → (header_of (head_image parts)).page ≡ page → (header_of (head_image parts)).entries ≡ entries → HasLines mount_layout page entries (rooms_of parts)
-    → HasLines mount_layout (header_of (head_image parts)).page (header_of (head_image parts)).entries (rooms_of parts)
+sizes_long : (page entries : ℕ) (parts : List Part) → (header_of (head_image parts)).page ≡ page → (header_of (head_image parts)).entries ≡ entries → HasLines (head_layout parts) page entries (rooms_of parts) → AreLong parts
 sizes_long page entries parts page_is entries_are long =
-    subst (λ n. HasLines mount_layout n (header_of (head_image parts)).entries (rooms_of parts)) (sym page_is) (subst (λ n. HasLines mount_layout page n (rooms_of parts)) (sym entries_are) long)
+    subst (λ n. HasLines (head_layout parts) n (header_of (head_image parts)).entries (rooms_of parts)) (sym page_is) (subst (λ n. HasLines (head_layout parts) page n (rooms_of parts)) (sym entries_are) long)
 
 -- the parts of a region at its opening have the lines of its sizes
 known_long : (geometry : Geometry) (parts : List Part) → IsBlankOrGood parts → HasLines mount_layout (page_known parts geometry) (entries_known parts geometry) (rooms_of (opened (Some geometry) parts))
@@ -115,12 +138,11 @@ known_long geometry parts sound =
     elim sound [
       | inl blank ↦
           subst (λ n. HasLines mount_layout n (entries_known parts geometry) (rooms_of made)) (sym (blank_page parts geometry blank))
-          (subst (λ n. HasLines mount_layout geometry.page n (rooms_of made)) (sym (blank_entries parts geometry blank)) (long_opened geometry parts (blank_stays geometry parts ∙ blank)))
+          (subst (λ n. HasLines mount_layout geometry.page n (rooms_of made)) (sym (blank_entries parts geometry blank)) ((long_opened geometry parts).blank (blank_stays geometry parts ∙ blank)))
       | inr good ↦
           let kept = not_blank parts good in
           subst (λ n. HasLines mount_layout n (entries_known parts geometry) (rooms_of made)) (sym (kept_page parts geometry kept))
-          (subst (λ n. HasLines mount_layout (header_of (head_image parts)).page n (rooms_of made)) (sym (kept_entries parts geometry kept))
-          (subst (λ (these : List Part). HasLines mount_layout (header_of (head_image parts)).page (header_of (head_image parts)).entries (rooms_of these)) (sym (opened_kept geometry parts kept)) good.long))
+          (subst (λ n. HasLines mount_layout (header_of (head_image parts)).page n (rooms_of made)) (sym (kept_entries parts geometry kept)) (mount_long geometry parts kept good.readable good.long))
     ]
 
 -- ---- what is left, whatever power leaves of it
@@ -147,9 +169,17 @@ module _ (one_so : QuietPartHasOneImage) (power_so : PowerLeavesAnImage) (was : 
   image_of now whole pick = (power_so pick now whole).0.parts
 
   -- the lines of what power leaves, where these have them
-  lines_left : (now : Holding) (pick : Pick) (page entries : ℕ) (others : List Part) → line_counts now.parts ≡ line_counts others → HasLines mount_layout page entries (rooms_of others)
-      → HasLines mount_layout page entries (rooms_of (powered pick now).parts)
-  lines_left now pick page entries others same = long_alike mount_layout page entries others (powered pick now).parts (sym (powered_lines (draws_of pick) now.parts ∙ same))
+  lines_left : (layout : Layout) (now : Holding) (pick : Pick) (page entries : ℕ) (others : List Part) → line_counts now.parts ≡ line_counts others → HasLines layout page entries (rooms_of others)
+      → HasLines layout page entries (rooms_of (powered pick now).parts)
+  lines_left layout now pick page entries others same = long_alike layout page entries others (powered pick now).parts (sym (powered_lines (draws_of pick) now.parts ∙ same))
+
+  -- those of what an opening gave out, whatever version the region has then
+  opened_left : (geometry : Geometry) (now : Holding) (pick : Pick) → line_counts now.parts ≡ line_counts (opened (Some geometry) was.parts)
+      → HasLines (head_layout (powered pick now).parts) (page_known was.parts geometry) (entries_known was.parts geometry) (rooms_of (powered pick now).parts)
+  opened_left geometry now pick same =
+      subst (λ (layout : Layout). HasLines layout (page_known was.parts geometry) (entries_known was.parts geometry) (rooms_of (powered pick now).parts)) (sym (own_layout (head_image (powered pick now).parts)))
+      (either_long (version_in (head_image (powered pick now).parts)) (page_known was.parts geometry) (entries_known was.parts geometry) (rooms_of (powered pick now).parts)
+      (lines_left mount_layout now pick (page_known was.parts geometry) (entries_known was.parts geometry) (opened (Some geometry) was.parts) same (known_long geometry was.parts sound)))
 
   opening_left : (geometry : Geometry) (wanted : List (List ℕ)) (now : Holding) → StandsOpening (line_counts (opened (Some geometry) was.parts)) geometry was wanted now → Accepts now
   opening_left geometry wanted now stands whole pick =
@@ -159,7 +189,7 @@ module _ (one_so : QuietPartHasOneImage) (power_so : PowerLeavesAnImage) (was : 
       elim (stands.images image bytes.0 (image_of now whole pick) bytes.1) [
         | inl blank ↦ blank_or parts blank.1 blank.0
         | inr some ↦ inl (good_of parts some.readable some.stands.fits (sizes_long (page_known was.parts geometry) (entries_known was.parts geometry) parts some.page_is some.entries_is
-            (lines_left now pick (page_known was.parts geometry) (entries_known was.parts geometry) (opened (Some geometry) was.parts) stands.rest.lines_are (known_long geometry was.parts sound))))
+            (opened_left geometry now pick stands.rest.lines_are)))
       ]
 
   lived_left : (options : RunOptions) (trace : Traced) (basis : Basis) (begun : IsBasis options was trace.names basis) (history : List PlacedCall) (now : Holding) → InEachImage (RecoversBehind basis trace history) now
@@ -170,10 +200,10 @@ module _ (one_so : QuietPartHasOneImage) (power_so : PowerLeavesAnImage) (was : 
       let bytes = bytes_of (names_in image) now whole in
       let behind = images image bytes.0 (image_of now whole pick) bytes.1 in
       let geometry = begun.geometry in
-      inl (good_of parts behind.readable (fits_own mount_version image behind.readable.fields.version_is behind.fits) (sizes_long (page_known was.parts geometry) (entries_known was.parts geometry) parts
+      inl (good_of parts (own_header mount_version parts behind.readable) (fits_own mount_version image behind.readable.fields.version_is behind.fits) (sizes_long (page_known was.parts geometry) (entries_known was.parts geometry) parts
       (behind.page_is ∙ sym (known_page was.parts geometry basis.sizes.page basis.sizes.entries begun.known basis.next begun.begun))
       (behind.entries_is ∙ sym (known_entries was.parts geometry basis.sizes.page basis.sizes.entries begun.known basis.next begun.begun))
-      (lines_left now pick (page_known was.parts geometry) (entries_known was.parts geometry) (opened (Some geometry) was.parts) counted (known_long geometry was.parts sound))))
+      (opened_left geometry now pick counted)))
 
   recovery_left : IsGood was.parts → (now : Holding) → StandsAsBefore was now → Accepts now
   recovery_left good now before whole pick =
@@ -181,8 +211,10 @@ module _ (one_so : QuietPartHasOneImage) (power_so : PowerLeavesAnImage) (was : 
       let bytes = bytes_of (header_names was.parts) now whole in
       let takes = before.stands (row_words parts) bytes.0 (image_of now whole pick) bytes.1 in
       let header = header_of (head_image was.parts) in
-      inl (good_of parts (head_alike (row_words was.parts) (row_words parts) good.readable.fields.version_is takes.header) (takes.files good.fits).fits (sizes_long header.page header.entries parts takes.header.page takes.header.entries
-      (lines_left now pick header.page header.entries was.parts before.rest.lines_are good.long)))
+      let same : head_layout parts ≡ head_layout was.parts = head_layout_is parts ∙ layout_same (row_words was.parts) (row_words parts) takes.header.version ∙ sym (head_layout_is was.parts) in
+      inl (good_of parts takes.header.readable (takes.files good.fits).fits (sizes_long header.page header.entries parts takes.header.page takes.header.entries
+      (subst (λ (layout : Layout). HasLines layout header.page header.entries (rooms_of parts)) (sym same)
+      (lines_left (head_layout was.parts) now pick header.page header.entries was.parts before.rest.lines_are good.long))))
 
   -- the same parts
   same_left : (now : Holding) → now.parts ≡ was.parts → Accepts now
@@ -192,9 +224,9 @@ module _ (one_so : QuietPartHasOneImage) (power_so : PowerLeavesAnImage) (was : 
       let header = header_of (head_image was.parts) in
       elim sound [
         | inl blank ↦ blank_or parts (subst IsBlank (sym image) (blank_is was.parts blank)) blank
-        | inr good ↦ inl (good_of parts (subst (IsHead mount_layout mount_layout.header_lines) (sym image) (head_of was.parts good.readable)) (subst (λ (one : Image). Fits (layout_in one) one) (sym image) good.fits)
+        | inr good ↦ inl (good_of parts (subst (λ (one : Image). IsHead (layout_in one) (layout_in one).header_lines one) (sym image) (head_of was.parts good.readable)) (subst (λ (one : Image). Fits (layout_in one) one) (sym image) good.fits)
             (sizes_long header.page header.entries parts (ap (λ (one : Image). (header_of one).page) image) (ap (λ (one : Image). (header_of one).entries) image)
-            (lines_left now pick header.page header.entries was.parts (ap line_counts same) good.long)))
+            (subst (λ (layout : Layout). HasLines layout header.page header.entries (rooms_of parts)) (head_layout_is was.parts ∙ ap layout_in (sym image) ∙ sym (head_layout_is parts)) (lines_left (head_layout was.parts) now pick header.page header.entries was.parts (ap line_counts same) good.long))))
       ]
 
   -- ---- what a command tells
@@ -276,15 +308,16 @@ next_is_accepted one_so power_so command given left before now old new shown res
 own_image : (parts : List Part) → IsRowImage parts (row_words parts)
 own_image parts = record { each = λ i. image_of_now (slice_index_or parts i []) }
 
-rest_good : (page entries next : ℕ) (names : List (List ℕ)) (parts : List Part) → IsAtRest mount_layout page entries names next parts → HasLines mount_layout page entries (rooms_of parts) → IsGood parts
-rest_good page entries next names parts rest long =
+rest_good : (version : Version) (page entries next : ℕ) (names : List (List ℕ)) (parts : List Part) → IsAtRest (layout_of version) page entries names next parts → HasLines (layout_of version) page entries (rooms_of parts)
+    → IsGood parts
+rest_good version page entries next names parts rest long =
     let empty = rest.empty (row_words parts) (own_image parts) in
     let header = empty.header in
-    let Long : ℕ → ℕ → Type 0 = λ page entries. HasLines mount_layout page entries (rooms_of parts) in
-    let Of : ℕ → Type 0 = λ page. Long page (header_of (head_image parts)).entries in
+    let own : head_layout parts ≡ layout_of version = head_layout_is parts ∙ layout_is version (row_words parts) header.readable.fields.version_is in
+    let all : AreLong parts = sizes_long page entries parts header.page_is header.entries_is (subst (λ (layout : Layout). HasLines layout page entries (rooms_of parts)) (sym own) long) in
     record {
-      readable = read_of parts header.readable (first_long parts long.header);
-      long = subst Of (sym header.page_is) (subst (Long page) (sym header.entries_is) long);
+      readable = read_of parts (own_header version parts header.readable) (first_long (head_layout parts) parts all.header);
+      long = all;
       fits = empty_fits (layout_in (row_words parts)) (row_words parts) (empty_none page entries names next (row_words parts) empty);
     }
 
@@ -295,13 +328,13 @@ same_parts now here told one other good = subst (λ (h : Holding). IsGood h.part
     same is = cc
 
 module _ (here : Holding) (told : Option Holding) (told_is : told ≡ Some here) where
-  leaves_good : {want : Option Geometry} {names : List (List ℕ)} {files : Files} {was : Holding} → Leaves want names files was told → IsGood here.parts
-  leaves_good {want} {names} {files} {was} leaves =
+  leaves_good : {version : Version} {want : Option Geometry} {names : List (List ℕ)} {files : Files} {was : Holding} → Leaves version want names files was told → IsGood here.parts
+  leaves_good {version} {want} {names} {files} {was} leaves =
       let left = leaves.left in
-      same_parts leaves.now here told leaves.told_is told_is (rest_good left.page left.entries left.next names leaves.now.parts left.rest left.long)
+      same_parts leaves.now here told leaves.told_is told_is (rest_good version left.page left.entries left.next names leaves.now.parts left.rest left.long)
 
-  rests_good : {page entries next many : ℕ} {names : List (List ℕ)} {files : Files} {others : List NamedStore} → RestsWith page entries names next files many others told → IsGood here.parts
-  rests_good {page} {entries} {next} {many} {names} {files} {others} rests = same_parts rests.now here told rests.told_is told_is (rest_good page entries next names rests.now.parts rests.rests.rest rests.long)
+  rests_good : {version : Version} {page entries next many : ℕ} {names : List (List ℕ)} {files : Files} {others : List NamedStore} → RestsWith version page entries names next files many others told → IsGood here.parts
+  rests_good {version} {page} {entries} {next} {many} {names} {files} {others} rests = same_parts rests.now here told rests.told_is told_is (rest_good version page entries next names rests.now.parts rests.rests.rest rests.long)
 
 module _ (given left : Option (List ℕ)) (before now : ℕ) (old new : BenchState) (shown : List PlacedCall) (result : Outcome) (was here : Holding) (told_was : old.told ≡ Some was) (told_here : new.told ≡ Some here) where
   abbrev Came : Command → Type 0

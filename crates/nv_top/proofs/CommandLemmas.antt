@@ -6,6 +6,7 @@ use Rattle.nv_pmem.specs.Part.{Part}
 use Rattle.nv_pmem.specs.Steps as lines
 use Rattle.nv_store.specs.Steps as stores
 use Rattle.nv_store.specs.Store.{Store}
+use Rattle.nv_plain.specs.declared.limits.Version.{Version}
 use Rattle.nv_plain.specs.Files.{Files}
 use Rattle.nv_bench.specs.Benches.{BenchState, told_back, with_faults}
 use Rattle.nv_bench.specs.Holding.{Holding, NamedStore, named_stores}
@@ -43,12 +44,12 @@ module _ (old mid : BenchState) (names : List (List ℕ)) (holding : Holding) (l
       ap (λ (one : Option Holding). option_map (back mid.lent) one) mid_told
       ∙ ap (λ lent. Some (back lent (record { parts = []; stores = without_stores names holding.stores }))) mid_lent
 
-  abbrev pub leaves : {X Y : Type 0} (want : Option Geometry) (history : X → lines.PartHistory) (held : Y → stores.StoreHistory) (files : Files) (parts : List X) (backing : List Y) (then : Option Holding)
+  abbrev pub leaves : {X Y : Type 0} (version : Version) (want : Option Geometry) (history : X → lines.PartHistory) (held : Y → stores.StoreHistory) (files : Files) (parts : List X) (backing : List Y) (then : Option Holding)
       → length parts ≡ length (opened want holding.parts)
-      → AreLeft history held names files parts backing
+      → AreLeft version history held names files parts backing
       → ((now : List Part) (disks : List Store) → AreNow (map history parts) now → AreNow (map held backing) disks → then ≡ told_back now disks mid)
-      → Leaves want names files holding then
-  leaves want history held files parts backing then many left back = record {
+      → Leaves version want names files holding then
+  leaves version want history held files parts backing then many left back = record {
     now = record { parts = left.now; stores = without_stores names holding.stores ++ named_stores names left.disks };
     told_is = back left.now left.disks left.now_are left.disks_are ∙ back_is left.now left.disks;
     left = record {
@@ -66,13 +67,13 @@ module _ (old mid : BenchState) (names : List (List ℕ)) (holding : Holding) (l
   }
 
 -- A bench is left with the files of these names, and with a region of these sizes whose log goes on with this number.
-abbrev pub LeavesAt : (page entries next : ℕ) (want : Option Geometry) (names : List (List ℕ)) (files : Files) (was : Holding) (told : Option Holding) → Type 0
-LeavesAt page entries next want names files was told =
-    (left : Leaves want names files was told) × (left.left.page ≡ page) × (left.left.entries ≡ entries) × (left.left.next ≡ next)
+abbrev pub LeavesAt : (version : Version) (page entries next : ℕ) (want : Option Geometry) (names : List (List ℕ)) (files : Files) (was : Holding) (told : Option Holding) → Type 0
+LeavesAt version page entries next want names files was told =
+    (left : Leaves version want names files was told) × (left.left.page ≡ page) × (left.left.entries ≡ entries) × (left.left.next ≡ next)
 
 -- one that is left with the files of some names is so with those of the same names
-pub leaves_by : {want : Option Geometry} {names other : List (List ℕ)} {holding : Holding} {then : Option Holding} (parts : List Part) (backing : List NamedStore) (page entries next : ℕ) → names ≡ other
-    → LeavesAt page entries next want names (files_named parts names backing) holding then → LeavesAt page entries next want other (files_named parts other backing) holding then
-leaves_by {want} {names} {other} {holding} {then} parts backing page entries next same left =
-    let LeftWith : List (List ℕ) → Type 0 = λ by. LeavesAt page entries next want by (files_named parts by backing) holding then in
-    subst LeftWith same left
+pub leaves_by : {version own : Version} {want : Option Geometry} {names other : List (List ℕ)} {holding : Holding} {then : Option Holding} (parts : List Part) (backing : List NamedStore) (page entries next : ℕ) → version ≡ own → names ≡ other
+    → LeavesAt version page entries next want names (files_named parts names backing) holding then → LeavesAt own page entries next want other (files_named parts other backing) holding then
+leaves_by {version} {own} {want} {names} {other} {holding} {then} parts backing page entries next of same left =
+    let LeftWith : Version → List (List ℕ) → Type 0 = λ version by. LeavesAt version page entries next want by (files_named parts by backing) holding then in
+    subst (LeftWith own) same (subst (λ version. LeftWith version names) of left)

@@ -6,6 +6,7 @@ use Rattle.std.proofs.Math.ListN.{get_or-append}
 use Rattle.std.proofs.lemmas.List.{get_or_default, length-append, length-map, map-append, set-append_left}
 use Rattle.std.proofs.lemmas.List.Elements.{All-append, All-cons, All-head, All-nil, All-tail, Contains-append_right}
 use Rattle.std.proofs.lemmas.List.Sorted.{All-permutation, IsPermutation-sym}
+use Rattle.nv_open.specs.Refusals.{head_image}
 use Rattle.nv_plain.specs.declared.call.FileCall.{FileCall}
 use Rattle.nv_plain.specs.declared.call.FileCall.TheVariants.{Read, Write, Readv, Writev, Sync}
 use Rattle.nv_plain.specs.declared.call.Reply.TheVariants.{Bytes, Parts, Count}
@@ -13,8 +14,10 @@ use Rattle.nv_plain.specs.declared.mode.Mode.TheVariants.{R}
 use Rattle.nv_plain.specs.Calls.{filled, files_after, reply_of}
 use Rattle.nv_plain.specs.Files.{Files, bytes_at, contents_of, overwritten, with_contents}
 use Rattle.nv_plain.specs.Histories.{Answered, IsLegal, after}
-use Rattle.nv_plain.specs.Images.{Image, header_of}
-use Rattle.nv_plain.specs.Layouts.{mount_layout}
+use Rattle.nv_plain.specs.Images.{Image, header_of, version_in}
+use Rattle.nv_plain.specs.Layouts.{layout_of, mount_version}
+use Rattle.nv_plain.specs.declared.limits.Version.{Version}
+use Rattle.nv_open.proofs.Versions.{empty_names}
 use Rattle.nv_plain.specs.Recovered.{recovered, region_files}
 use Rattle.nv_plain.proofs.HistoryLemmas.{IsLegal-append, after-append, length-after, length-files_after}
 use Rattle.nv_pmem.specs.Part.{Part}
@@ -132,9 +135,9 @@ found_behind home names disks long distinct =
 -- ---- what is found of a region at rest
 
 -- A region at rest behind whose others the stores of its names stand: these hold the files that a next command finds.
-finds_rested : (page entries next : ℕ) (names : List (List ℕ)) (files : Files) (now : Holding) (others : List NamedStore) (disks : List Store) → IsAtRest mount_layout page entries names next now.parts
+finds_rested : (version : Version) (page entries next : ℕ) (names : List (List ℕ)) (files : Files) (now : Holding) (others : List NamedStore) (disks : List Store) → IsAtRest (layout_of version) page entries names next now.parts
     → now.stores ≡ others ++ named_stores names disks → files_of disks ≡ files → length files.contents ≡ length names → HasOwnNames now → FindsFiles names files now
-finds_rested page entries next names files now others disks rest stores_are files_are many own =
+finds_rested version page entries next names files now others disks rest stores_are files_are many own =
     let image = row_words now.parts in
     let empty = rest.empty image (record { each = λ i. image_of_now (slice_index_or now.parts i []) }) in
     let none = empty_none page entries names next image empty in
@@ -143,7 +146,7 @@ finds_rested page entries next names files now others disks rest stores_are file
     let held : stores_named names now.stores ≡ disks =
     ap (stores_named names) stores_are ∙ found_behind others names disks long (subst (λ (stores : List NamedStore). AreDistinct (names_of stores)) stores_are own) in
     let bytes = files_of (stores_named names now.stores) in
-    let said = names_read now.parts ∙ empty.header.names_are in
+    let said = names_read now.parts ∙ empty_names version page entries names next image empty in
     let stands : files_named now.parts names now.stores ≡ files =
     ap (λ (test : Bool). if test then bytes else (recovered image bytes).files) magic ∙ empty_recovered image bytes none ∙ ap files_of held ∙ files_are in
     record {
@@ -162,7 +165,7 @@ pub next_finds_run : NextFindsRun
 next_finds_run show options holding told trace text ran own =
     let left = ran.left.left in
     let names = ran.basis.names in
-    finds_rested left.page left.entries left.next names (files_shown ran.basis trace ran.report) ran.left.now (without_stores names holding.stores) left.disks left.rest left.stores_are left.files_are
+    finds_rested mount_version left.page left.entries left.next names (files_shown ran.basis trace ran.report) ran.left.now (without_stores names holding.stores) left.disks left.rest left.stores_are left.files_are
     (shown_many ran.basis trace ran.report ∙ basis_many options holding trace.names ran.basis ran.begun) own
 
 pub next_finds_stopped : NextFindsStopped
@@ -171,7 +174,7 @@ next_finds_stopped options old new holding trace text run own =
     let power = run.stopped.left.lost.power in
     let rests = run.stopped.left.lost.rests in
     subst (λ files. FindsFiles names files rests.now) run.stopped.shows
-    (finds_rested run.basis.sizes.page run.basis.sizes.entries (next_in power.parts run.basis.files) names (files_named power.parts names power.stores) rests.now (without_stores names holding.stores) rests.rests.held rests.rests.rest
+    (finds_rested mount_version run.basis.sizes.page run.basis.sizes.entries (next_in power.parts run.basis.files) names (files_named power.parts names power.stores) rests.now (without_stores names holding.stores) rests.rests.held rests.rests.rest
     rests.rests.stores_are rests.rests.files_are (named_many power.parts names power.stores) own)
 
 pub next_finds_scheduled : NextFindsScheduled
@@ -179,7 +182,7 @@ next_finds_scheduled options old new holding trace text run own =
     let names = run.basis.names in
     let power = run.scheduled.left.lost.power in
     let rests = run.scheduled.left.lost.rests in
-    finds_rested run.basis.sizes.page run.basis.sizes.entries (next_in power.parts run.basis.files) names (files_named power.parts names power.stores) rests.now (without_stores names holding.stores) rests.rests.held rests.rests.rest
+    finds_rested mount_version run.basis.sizes.page run.basis.sizes.entries (next_in power.parts run.basis.files) names (files_named power.parts names power.stores) rests.now (without_stores names holding.stores) rests.rests.held rests.rests.rest
     rests.rests.stores_are rests.rests.files_are
     (named_many power.parts names power.stores) own
 
@@ -191,7 +194,7 @@ pub next_finds_recovered : NextFindsRecovered
 next_finds_recovered holding told text recovered own =
     let left = recovered.left.left in
     let names = header_names holding.parts in
-    finds_rested left.page left.entries left.next names (files_named holding.parts names holding.stores) recovered.left.now (without_stores names holding.stores) left.disks left.rest left.stores_are
+    finds_rested (version_in (head_image holding.parts)) left.page left.entries left.next names (files_named holding.parts names holding.stores) recovered.left.now (without_stores names holding.stores) left.disks left.rest left.stores_are
     left.files_are (named_many holding.parts names holding.stores) own
 
 -- ---- behind a look

@@ -3,8 +3,10 @@ use Rattle.std.proofs.Common.{◌≡◌, ◌≢◌, ℕ, ◌<◌, Bool, true, fa
 use Rattle.std.specs.Prelude.{Contains, IfSome, option_map}
 use Rattle.std.proofs.lemmas.List.Elements.{All-nil, All-cons, All-head, All-tail}
 use Rattle.nv_plain.specs.Files.{Files}
-use Rattle.nv_plain.specs.Images.{Image, header_of, layout_in}
-use Rattle.nv_plain.specs.Layouts.{mount_layout, mount_version}
+use Rattle.nv_plain.specs.Images.{Image, header_of, layout_in, version_in}
+use Rattle.nv_plain.specs.Layouts.{Layout, layout_of, mount_layout, mount_version}
+use Rattle.nv_plain.specs.declared.limits.Version.{Version}
+use Rattle.nv_plain.proofs.OwnLayouts.{layout_is}
 use Rattle.nv_pmem.specs.Laws.{QuietPartHasOneImage}
 use Rattle.nv_pmem.specs.Part.{Part}
 use Rattle.nv_pmem.specs.RowStates.{AreNow, row_tells_at, row_tells_from}
@@ -20,6 +22,7 @@ use Rattle.nv_bench.specs.Laws.{AreWholeStores, PowerLeavesAnImage}
 use Rattle.nv_bench.specs.Naming.{AreDistinct, names_of}
 use Rattle.nv_bench.specs.Powered.{powered, powered_parts}
 use Rattle.nv_pmem.specs.Draws.{draws_of}
+use Rattle.nv_header.specs.Heads.{IsHead}
 use Rattle.nv_header.specs.Regions.{IsAtRest, ReadsAs}
 use Rattle.nv_recover.specs.Standing.{AreQuietStores, AreStoreImages, ReadableStandsForRecovered, files_of}
 use Rattle.nv_recover.specs.Telling.{AllTell}
@@ -34,7 +37,9 @@ use Rattle.nv_open.specs.Unopened.{HasHeader, InEachImage, StandsAsBefore, Tells
 use Rattle.nv_open.proofs.Homes.{back_again, in_front, not_given, others_again}
 use Rattle.nv_open.proofs.Openings.{store_of_others}
 use Rattle.nv_open.proofs.Returns.{named_quiet}
-use Rattle.nv_open.proofs.Stands.{durable_images, head_alike, names_read, own_images}
+use Rattle.nv_open.specs.Refusals.{head_image}
+use Rattle.nv_open.proofs.Stands.{durable_images, names_read, own_images}
+use Rattle.nv_open.proofs.Versions.{empty_names, own_layout}
 use Rattle.nv_trace.specs.Reading.{ending_of, Whole}
 use Rattle.nv_trace.specs.declared.trace.Form.TheVariants as forms
 use Rattle.nv_trace.specs.Traced.{Traced}
@@ -57,6 +62,7 @@ use Rattle.nv_top.proofs.CommandLemmas.{if_told, told_at}
 use Rattle.nv_top.proofs.HeadlineLemmas.{of_read}
 use Rattle.nv_top.proofs.HomeLemmas.{any_images}
 use Rattle.nv_top.proofs.PoweredHomes.{found_powered, powered_lines}
+use Rattle.nv_top.proofs.NameLemmas.{mount_names}
 use Rattle.nv_top.proofs.RowLemmas.{all_tell, present}
 
 -- ---- stores that are found
@@ -99,7 +105,8 @@ module _ (basis : Basis) (trace : Traced) where
   images_home shown part_row store_row life now held all now_are held_are whole same image bytes is are =
       let every = row_tells_at store_row (λ held. (bytes : Files) → AreStoreImages held bytes → Behind (shown ++ life.later) image bytes) held held_are
       (row_tells_at part_row (InEachRowImage (λ image. RowTells store_row (λ held. (bytes : Files) → AreStoreImages held bytes → Behind (shown ++ life.later) image bytes))) now now_are life.images image is) in
-      let read = (every (record { contents = map (λ (store : Store). store.durable) held }) (durable_images held whole)).names_are in
+      let behind = every (record { contents = map (λ (store : Store). store.durable) held }) (durable_images held whole) in
+      let read = mount_names image behind.readable ∙ behind.names_are in
       every bytes (subst (λ stores. AreStoreImages stores bytes) same (subst (λ names. AreStoreImages (stores_named names all) bytes) read are))
 
   pub lived_home : {X Y : Type 0} {Tells : Basis → Traced → (shown later : List PlacedCall) → Type 0} (shown : List PlacedCall) (history : X → lines.PartHistory) (held : Y → stores.StoreHistory)
@@ -179,7 +186,9 @@ module _ (basis : Basis) (trace : Traced) where
       let here : RecoversBehind basis trace lived.history first base =
       lived.images.is_so.0 first base (record { each = λ i. image_of_now (slice_index_or before.parts i []) })
       (subst (λ names. AreStoreImages (stores_named names before.stores) base) read (own_images (stores_named names before.stores) (named_quiet names before.stores still.stores))) in
-      let after = stands here.readable in
+      let named = read ∙ mount_names first here.readable ∙ here.names_are in
+      let own : layout_in first ≡ mount_layout = layout_is mount_version first here.readable.fields.version_is in
+      let after = stands (subst (λ (layout : Layout). IsHead layout layout.header_lines first) (sym own) here.readable) in
       record {
         history = lived.history;
         begins = lived.begins;
@@ -193,12 +202,14 @@ module _ (basis : Basis) (trace : Traced) where
                 let same = after.is_so.same_names image is in
                 let place = after.is_so.stands image bytes is (subst (λ names. AreStoreImages (stores_named names after.now.stores) bytes) same are) in
                 let version = here.readable.fields.version_is in
+                let said : IsHead mount_layout mount_layout.header_lines image =
+                subst (λ (layout : Layout). IsHead layout layout.header_lines image) (layout_is mount_version image (place.header.version ∙ version)) place.header.readable in
                 let stand = place.files (fits_own mount_version first version here.fits) in
                 record {
-                  readable = head_alike first image version place.header;
+                  readable = said;
                   page_is = place.header.page ∙ here.page_is;
                   entries_is = place.header.entries ∙ here.entries_is;
-                  names_are = same ∙ read ∙ here.names_are;
+                  names_are = sym (mount_names image said) ∙ same ∙ named;
                   fits = fits_said mount_version image (place.header.version ∙ version) stand.fits;
                   kept = here.kept;
                   of_trace = here.of_trace;
@@ -207,7 +218,7 @@ module _ (basis : Basis) (trace : Traced) where
                 },
             record {
               lines_are = after.is_so.rest.lines_are ∙ lived.images.is_so.1.lines_are;
-              others = λ name other. after.is_so.rest.others name (subst (λ names. ¬ (Contains names name)) (sym (read ∙ here.names_are)) other) ∙ lived.images.is_so.1.others name other;
+              others = λ name other. after.is_so.rest.others name (subst (λ names. ¬ (Contains names name)) (sym named) other) ∙ lived.images.is_so.1.others name other;
             },
           );
         };
@@ -237,7 +248,7 @@ module _ (basis : Basis) (trace : Traced) where
 -- ---- what a recovery leaves that was finished
 
 module _ (stand_so : ReadableStandsForRecovered) (was : Holding) (page entries next : ℕ) (names : List (List ℕ)) (found : recover.Recovered) (now : List Part) (held : List Store)
-    (recovered_so : IsRecovered was.parts page entries names next found) (rest : IsAtRest mount_layout page entries names next now) (files_are : files_of held ≡ files_named was.parts names was.stores) (quiet : AreQuietStores held)
+    (version : Version) (own : version ≡ version_in (head_image was.parts)) (recovered_so : IsRecovered was.parts page entries names next found) (rest : IsAtRest (layout_of version) page entries names next now) (files_are : files_of held ≡ files_named was.parts names was.stores) (quiet : AreQuietStores held)
     (distinct : AreDistinct (names_of was.stores)) (counted : line_counts now ≡ line_counts was.parts) (long : length names ≡ length held) (differ : (i j : ℕ) → i < j → j < length names → slice_index_or names i [] ≢ slice_index_or names j []) where
   abbrev back : Holding
   back = record { parts = now; stores = without_stores names was.stores ++ named_stores names held }
@@ -251,23 +262,24 @@ module _ (stand_so : ReadableStandsForRecovered) (was : Holding) (page entries n
       let read = names_read was.parts in
       let there : stores_named (header_names was.parts) back.stores ≡ held = subst (λ names. stores_named names back.stores ≡ held) same (back_again names was.stores held distinct long differ) in
       record {
-        same_names = λ image is. (rest.empty image is).header.names_are ∙ same;
+        same_names = λ image is. empty_names version page entries names next image (rest.empty image is) ∙ same;
         rest = record { lines_are = counted; others = λ name other. others_again name names was.stores held (subst (λ these. ¬ (Contains these name)) (sym same) other) };
         stands = λ image bytes is are.
             let empty = rest.empty image is in
             let none = empty_none page entries names next image empty in
             let base = files_of (stores_named (header_names was.parts) was.stores) in
             let tail = (header_of first).tail in
-            let reads : ReadsAs mount_layout page entries names tail first =
+            let said : ReadsAs (layout_in first) page entries names tail first =
             record { readable = readable; page_is = sym recovered_so.page_is; entries_is = sym recovered_so.entries_is; names_are = sym (same ∙ read); tail_is = refl } in
+            let reads = subst (λ (layout : Layout). ReadsAs layout page entries names tail first) (own_layout first ∙ ap layout_of (sym own)) said in
             record {
-              header = header_alike mount_version page entries names tail next first image reads empty.header;
-              log = inr (emptied_log mount_version page entries names tail next first image (λ files. recovered_so.next_is ∙ recovered_so.log.next files) reads empty);
+              header = header_alike version page entries names tail next first image reads empty.header;
+              log = inr (emptied_log version page entries names tail next first image (λ files. recovered_so.next_is ∙ recovered_so.log.next files) reads empty);
               files = λ fits. record {
                 fits = empty_fits (layout_in image) image none;
                 recovers =
                     empty_recovered image bytes none ∙ quiet_image held bytes quiet (subst (λ stores. AreStoreImages stores bytes) there are) ∙ files_are
-                    ∙ ap (λ names. files_named was.parts names was.stores) same ∙ stand_so mount_layout mount_layout.header_lines first base readable;
+                    ∙ ap (λ names. files_named was.parts names was.stores) same ∙ stand_so (layout_in first) (layout_in first).header_lines first base readable;
               };
             };
       }
@@ -353,7 +365,7 @@ pub still_run : (Tells : Basis → Traced → (shown later : List PlacedCall) �
 still_run Tells old new options trace one is quiet =
     if_told old.told (λ was. LeavesRun Tells options was trace [] new.told) (λ was told. record {
       stands = λ stand. inl (refl, inl (ap (λ (bench : BenchState). bench.told) is ∙ told));
-      untouched = λ kept bad. (refl, still_untouched old new was is told);
+      untouched = λ kept bad. (refl, inl (still_untouched old new was is told));
     })
 
 -- ---- by the input

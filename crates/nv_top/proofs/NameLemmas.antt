@@ -8,7 +8,11 @@ use Rattle.std.proofs.lemmas.List.Folds.{list_any-append}
 use Rattle.std.proofs.lemmas.List.Elements.{All-cons, All-head, All-tail, All-map, All-weaker}
 use Rattle.std.proofs.lemmas.List.Sums.{AllPass-from_list_all}
 use Rattle.std.proofs.lemmas.List.{get_or_default}
-use Rattle.nv_plain.specs.Layouts.{mount_layout}
+use Rattle.nv_plain.specs.Images.{Image, header_of}
+use Rattle.nv_plain.specs.Layouts.{Layout, mount_layout, mount_version}
+use Rattle.nv_plain.proofs.OwnLayouts.{layout_is}
+use Rattle.nv_header.specs.Heads.{IsHead, first_names}
+use Rattle.nv_open.specs.Unopened.{names_in}
 use Rattle.nv_plain.specs.Names.{is_name, is_name_byte}
 use Rattle.nv_header.specs.FileNames.{AreFileNames}
 use Rattle.nv_open.specs.Adding.{all_names, is_known}
@@ -34,10 +38,14 @@ plain_name most name named k d inside =
     (second (nat_le 1 (length name) && nat_le (length name) most && not (slice_index name 0 == 46)) (list_all is_name_byte name) named) k d inside)
 
 -- the names of a region's files are allowed
-pub each_allowed : (names : List (List ℕ)) → AreFileNames mount_layout names → All (λ name. is_name mount_layout.name_limit name ≡ true) names
-each_allowed names are k d inside =
-    let May : List ℕ → Type 0 = λ name. is_name mount_layout.name_limit name ≡ true in
+pub each_allowed : (layout : Layout) (names : List (List ℕ)) → AreFileNames layout names → All (λ name. is_name layout.name_limit name ≡ true) names
+each_allowed layout names are k d inside =
+    let May : List ℕ → Type 0 = λ name. is_name layout.name_limit name ≡ true in
     subst May (get_or_default names k [] d inside) (are.allowed k inside)
+
+-- the names that the header of a mount's version says
+pub mount_names : (image : Image) → IsHead mount_layout mount_layout.header_lines image → names_in image ≡ first_names mount_layout image (header_of image).files
+mount_names image readable = ap (λ (layout : Layout). first_names layout image (header_of image).files) (layout_is mount_version image readable.fields.version_is)
 
 -- files of names that are allowed have plain names
 pub names_plain : (most : ℕ) (names contents : List (List ℕ)) → All (λ name. is_name most name ≡ true) names → HavePlainNames (named names (record { contents = contents }))

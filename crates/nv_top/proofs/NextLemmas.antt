@@ -2,8 +2,12 @@
 use Rattle.std.proofs.Common.{◌≡◌, ℕ, ◌<◌, ◌≤◌, ◌==◌, ◌^◌, slice_index_or, All, Bool, true, false, List, [], ◌∷◌, ◌++◌, Option, Some, None, inl, inr, refl, sym, ap, subst, ◌∙◌, arith}
 use Rattle.std.specs.Prelude.{IfSome}
 use Rattle.std.proofs.lemmas.List.Elements.{All-nil, All-cons, All-head, All-tail, All-append}
+use Rattle.nv_open.specs.Refusals.{head_image}
+use Rattle.nv_plain.specs.Images.{version_in}
 use Rattle.nv_plain.specs.Files.{Files}
-use Rattle.nv_plain.specs.Layouts.{mount_layout}
+use Rattle.nv_plain.specs.Layouts.{layout_of, mount_version}
+use Rattle.nv_plain.specs.declared.limits.Version.{Version}
+use Rattle.nv_open.proofs.Versions.{empty_names}
 use Rattle.nv_plain.specs.Recovered.{next_after, recovered}
 use Rattle.nv_pmem.specs.Rows.{row_words}
 use Rattle.nv_pmem.proofs.ImageLaws.{image_of_now}
@@ -51,17 +55,17 @@ both_still others names disks stores are still quiet =
 told_quiet : (told : Option Holding) (now : Holding) → told ≡ Some now → IsQuietHolding now → IfSome told IsQuietHolding
 told_quiet told now is quiet = subst (λ (one : Option Holding). IfSome one IsQuietHolding) (sym is) quiet
 
-left_quiet : {want : _} {names : List (List ℕ)} {files : _} {was : Holding} {told : Option Holding} → IsQuietHolding was → Leaves want names files was told → IfSome told IsQuietHolding
-left_quiet {want} {names} {files} {was} {told} quiet leaves =
+left_quiet : {version : _} {want : _} {names : List (List ℕ)} {files : _} {was : Holding} {told : Option Holding} → IsQuietHolding was → Leaves version want names files was told → IfSome told IsQuietHolding
+left_quiet {version} {want} {names} {files} {was} {told} quiet leaves =
     told_quiet told leaves.now leaves.told_is (record {
       parts = leaves.left.rest.quiet;
       stores = both_still (without_stores names was.stores) names leaves.left.disks leaves.now.stores leaves.left.stores_are
           (kept_in_all (λ (named : NamedStore). IsQuietStore named.store) names was.stores quiet.stores) leaves.left.synced;
     })
 
-rests_quiet : {page entries next many : ℕ} {files : _} {told : Option Holding} (names : List (List ℕ)) (was : Holding) → IsQuietHolding was
-    → RestsWith page entries names next files many (without_stores names was.stores) told → IfSome told IsQuietHolding
-rests_quiet {page} {entries} {next} {many} {files} {told} names was quiet rests =
+rests_quiet : {version : _} {page entries next many : ℕ} {files : _} {told : Option Holding} (names : List (List ℕ)) (was : Holding) → IsQuietHolding was
+    → RestsWith version page entries names next files many (without_stores names was.stores) told → IfSome told IsQuietHolding
+rests_quiet {version} {page} {entries} {next} {many} {files} {told} names was quiet rests =
     told_quiet told rests.now rests.told_is (record {
       parts = rests.rests.rest.quiet;
       stores = both_still (without_stores names was.stores) names rests.rests.held rests.now.stores rests.rests.stores_are
@@ -151,16 +155,16 @@ next_is_ready (Gen load) input old new holding text ready told room has left cou
 -- ---- where the next run begins
 
 -- over a region at rest it begins with the sizes and at the number of that
-begins_at : (page entries next : ℕ) (names : List (List ℕ)) (now : Holding) (later : RunOptions) (wanted : List (List ℕ)) (basis : Basis) → IsAtRest mount_layout page entries names next now.parts → IsBasis later now wanted basis
+begins_at : (version : Version) (page entries next : ℕ) (names : List (List ℕ)) (now : Holding) (later : RunOptions) (wanted : List (List ℕ)) (basis : Basis) → IsAtRest (layout_of version) page entries names next now.parts → IsBasis later now wanted basis
     → BeginsAt page entries next basis × (basis.names ≡ all_names names wanted)
-begins_at page entries next names now later wanted basis rest begins =
+begins_at version page entries next names now later wanted basis rest begins =
     let image = row_words now.parts in
     let empty = rest.empty image (record { each = λ i. image_of_now (slice_index_or now.parts i []) }) in
     let none = empty_none page entries names next image empty in
     let blank : is_blank now.parts ≡ false = ap (λ (magic : ℕ). magic == 0) empty.header.readable.fields.magic in
     let kept = (begins.begun.kept blank).recovered in
     let files : Files = record { contents = [] } in
-    let known : begins.known ≡ names = kept.names_are ∙ names_read now.parts ∙ empty.header.names_are in
+    let known : begins.known ≡ names = kept.names_are ∙ names_read now.parts ∙ empty_names version page entries names next image empty in
     let goes_on : (recovered image files).next ≡ next = ap (next_after image) (no_commit image none) ∙ empty.header.tail_is in (
       record { page_is = kept.page_is ∙ empty.header.page_is; entries_is = kept.entries_is ∙ empty.header.entries_is; next_is = kept.next_is ∙ kept.log.next files ∙ goes_on },
       begins.names_are ∙ ap (λ known. all_names known wanted) known,
@@ -169,21 +173,21 @@ begins_at page entries next names now later wanted basis rest begins =
 pub next_begins_behind : NextBeginsBehind
 next_begins_behind show options later holding told trace text ran wanted basis second =
     let left = ran.left.left in
-    let (at, names) = begins_at left.page left.entries left.next ran.basis.names ran.left.now later wanted basis left.rest second in
+    let (at, names) = begins_at mount_version left.page left.entries left.next ran.basis.names ran.left.now later wanted basis left.rest second in
     record { page = at.page_is ∙ ran.page_is; entries = at.entries_is ∙ ran.entries_is; names = names; next = at.next_is ∙ ran.next_is }
 
 pub next_begins_behind_stop : NextBeginsBehindStop
 next_begins_behind_stop options later old new holding trace text run wanted basis second =
     let rests = run.stopped.left.lost.rests in
-    (begins_at run.basis.sizes.page run.basis.sizes.entries (next_in run.stopped.left.lost.power.parts run.basis.files) run.basis.names rests.now later wanted basis rests.rests.rest second).0
+    (begins_at mount_version run.basis.sizes.page run.basis.sizes.entries (next_in run.stopped.left.lost.power.parts run.basis.files) run.basis.names rests.now later wanted basis rests.rests.rest second).0
 
 pub next_begins_behind_schedule : NextBeginsBehindSchedule
 next_begins_behind_schedule options later old new holding trace text run wanted basis second =
     let rests = run.scheduled.left.lost.rests in
-    (begins_at run.basis.sizes.page run.basis.sizes.entries (next_in run.scheduled.left.lost.power.parts run.basis.files) run.basis.names rests.now later wanted basis rests.rests.rest second).0
+    (begins_at mount_version run.basis.sizes.page run.basis.sizes.entries (next_in run.scheduled.left.lost.power.parts run.basis.files) run.basis.names rests.now later wanted basis rests.rests.rest second).0
 
 pub next_begins_behind_recovery : NextBeginsBehindRecovery
 next_begins_behind_recovery later holding told text recovered wanted basis second =
     let left = recovered.left.left in
-    let at = (begins_at left.page left.entries left.next (header_names holding.parts) recovered.left.now later wanted basis left.rest second).0 in
+    let at = (begins_at (version_in (head_image holding.parts)) left.page left.entries left.next (header_names holding.parts) recovered.left.now later wanted basis left.rest second).0 in
     record { page_is = at.page_is ∙ recovered.page_is; entries_is = at.entries_is ∙ recovered.entries_is; next_is = at.next_is ∙ recovered.next_is }

@@ -4,6 +4,7 @@ use Rattle.std.specs.Prelude.{IfErr, IfOk, IfSome, OnOk, Bool, false, true, max}
 use Rattle.std.proofs.lemmas.List.{append-nil}
 use Rattle.std.specs.Result.{IsErrAnd}
 use Rattle.std.specs.Global.{Vec}
+use Rattle.std.specs.Prelude.{option_map}
 use Rattle.nv_plain.specs.Faults.{Rose}
 use Rattle.nv_pmem.specs.declared.geometry.Geometry.{Geometry}
 use Rattle.nv_store.specs.Steps.{StoreHistory}
@@ -16,7 +17,7 @@ use Rattle.nv_open.specs.Held.{told_after}
 use Rattle.nv_open.specs.Lending.{all_lent}
 use Rattle.nv_open.specs.Looking.{names_until, told_by}
 use Rattle.nv_bench.specs.Opening.{is_blank}
-use Rattle.nv_open.specs.Unopened.{IsGood, IsUntouched, RestsUnopened, StandForFiles, StandsUnopened, TellsOf}
+use Rattle.nv_open.specs.Unopened.{IsGood, RestsUnopened, StandForFiles, StandsUnopened, StaysUntouched, TellsOf, as_opened}
 use Rattle.nv_open.specs.declared.error.OpenError.{OpenError}
 use Rattle.nv_open.specs.declared.error.OpenError.TheVariants as open_errors
 use Rattle.nv_open.specs.declared.error.Refusal.{Refusal}
@@ -32,7 +33,7 @@ use Rattle.nv_trace.specs.declared.read_error.ReadError.{ReadError}
 use Rattle.nv_trace.specs.declared.read_error.ReadError.TheVariants as read_errors
 use Rattle.nv_trace.specs.declared.trace.Form.{Form}
 use Rattle.nv_trace.specs.declared.trace.Form.TheVariants as forms
-use Rattle.nv_top.specs.Commands.{IsBasis, IsGivenBack, IsNotRun, RestsNotRun}
+use Rattle.nv_top.specs.Commands.{IsBasis, IsGivenBack, RestsNotRun}
 use Rattle.nv_top.specs.Endings.{IsTrace}
 use Rattle.nv_top.specs.Headline.{HasInput, HasRunRounds, IsArmedByAll, IsArmedBySome, IsCommandRefused, IsLeftAfter, IsLeftBy, IsRun, IsRunRefused, IsShown, IsUnhindered, UsesTurns, expected_faults, form_by, form_of}
 use Rattle.nv_top.specs.Lives.{HasMadeNoCall, LeavesLife, LeavesRun}
@@ -457,19 +458,18 @@ opened_basis options holding sizes wanted names page entries all next row opened
 
 -- a region that an opening refuses refuses the run
 module _ (options : RunOptions) (wanted names : List (List ℕ)) (old new : BenchState) (same : wanted ≡ names) where
-  pub run_refused : (why : Refusal) (sizes : Geometry) → IfSome old.told (λ holding. IsNotOpened holding.parts sizes wanted why) → (¬ (why ≡ refusals.TooManyFiles) → new.told ≡ told_after why old.told)
+  pub run_refused : (why : Refusal) (sizes : Geometry) → IfSome old.told (λ holding. IsNotOpened holding.parts sizes wanted why) → (¬ (why ≡ refusals.TooManyFiles) → new.told ≡ told_after why (option_map (as_opened sizes) old.told))
       → (why ≡ refusals.TooManyFiles → IfSome old.told (λ was. TellsOf (RestsUnopened was sizes wanted) new.told))
       → sizes.page ≡ options.page → sizes.entries ≡ options.entries → IfSome old.told (λ holding. IsRunRefused options holding names old new why)
   run_refused why sizes refused unwritten rests page_is entries_are =
-      let NotRun : Holding → List (List ℕ) → Type 0 = λ holding names. IsNotRun options holding names why in
       let Rests : Holding → List (List ℕ) → Type 0 = λ holding names. RestsNotRun options holding names new.told in
       if_told old.told (λ holding. IsRunRefused options holding names old new why) (λ holding told. record {
-        not_run = subst (NotRun holding) same (record {
+        not_run = record {
           geometry = sizes;
           page_is = page_is;
           entries_are = entries_are;
-          not_opened = told_at old.told (λ holding. IsNotOpened holding.parts sizes wanted why) holding told refused;
-        });
+          not_opened = subst (λ (names : List (List ℕ)). IsNotOpened holding.parts sizes names why) same (told_at old.told (λ holding. IsNotOpened holding.parts sizes wanted why) holding told refused);
+        };
         unwritten = unwritten;
         rests = λ many. subst (Rests holding) same (record {
           geometry = sizes;
@@ -482,10 +482,18 @@ module _ (options : RunOptions) (wanted names : List (List ℕ)) (old new : Benc
   -- and the files stand as before
   pub refused_life : (Tells : Basis → Traced → (shown later : List PlacedCall) → Type 0) (trace : Traced) → names ≡ trace.names → (sizes : Geometry) → sizes.page ≡ options.page → sizes.entries ≡ options.entries
       → IfSome old.told (λ was. StandForFiles was.parts → TellsOf (StandsUnopened was sizes wanted) new.told)
-      → IfSome old.told (λ was. is_blank was.parts ≡ false → ¬ (IsGood was.parts) → TellsOf (IsUntouched was) new.told) → IfSome old.told (λ was. LeavesRun Tells options was trace [] new.told)
+      → IfSome old.told (λ was. is_blank was.parts ≡ false → ¬ (IsGood was.parts) → TellsOf (StaysUntouched sizes was) new.told) → IfSome old.told (λ was. LeavesRun Tells options was trace [] new.told)
   refused_life Tells trace are sizes page_is entries_are standing untouched =
       if_told old.told (λ was. LeavesRun Tells options was trace [] new.told) (λ was told. record {
-        untouched = λ kept bad. (refl, told_at old.told (λ was. is_blank was.parts ≡ false → ¬ (IsGood was.parts) → TellsOf (IsUntouched was) new.told) was told untouched kept bad);
+        untouched = λ kept bad. (
+          refl,
+          inr (record {
+            geometry = sizes;
+            page_is = page_is;
+            entries_are = entries_are;
+            left = told_at old.told (λ was. is_blank was.parts ≡ false → ¬ (IsGood was.parts) → TellsOf (StaysUntouched sizes was) new.told) was told untouched kept bad;
+          }),
+        );
         stands = λ stand.
             let left = told_at old.told (λ was. StandForFiles was.parts → TellsOf (StandsUnopened was sizes wanted) new.told) was told standing stand in
             let Unrun : List (List ℕ) → Type 0 = λ names. HasMadeNoCall options was names new.told in

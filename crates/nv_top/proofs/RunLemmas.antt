@@ -297,7 +297,7 @@ module _ {L B : Type 0} (device : L → ℕ) (history : L → PartHistory) (faul
     record {
       report = report;
       faithful = is_faithful;
-      plain = names_plain mount_layout.name_limit basis.names (files_of store_states.states).contents (each_allowed basis.names allowed);
+      plain = names_plain mount_layout.name_limit basis.names (files_of store_states.states).contents (each_allowed mount_layout basis.names allowed);
       text_is = text_of store_states.states store_states.are;
       left = record {
         page = sizes.page;

@@ -5,7 +5,7 @@ use Rattle.std.specs.Result.{IsErrAnd}
 use Rattle.std.specs.List.Sorted.{IsStrictlyIncreasing}
 use Rattle.std.proofs.lemmas.List.{append-nil}
 use Rattle.nv_plain.specs.Files.{Files}
-use Rattle.nv_plain.specs.Images.{header_of}
+use Rattle.nv_plain.specs.Images.{header_of, version_in}
 use Rattle.nv_plain.specs.Layouts.{mount_layout}
 use Rattle.nv_pmem.specs.Rows.{row_words}
 use Rattle.nv_pmem.specs.Steps as lines
@@ -58,8 +58,8 @@ use Rattle.nv_top.specs.declared.ending.Stop.{Stop}
 use Rattle.nv_top.specs.declared.ending.Stop.TheVariants as stops
 use Rattle.nv_words.specs.declared.words.RunOptions.{RunOptions}
 use Rattle.nv_top.proofs.FollowedLemmas.{files_are, is_faithful, of_report, schedule_more}
-use Rattle.nv_top.proofs.NameLemmas.{names_plain}
-use Rattle.nv_top.proofs.StoppingLemmas.{HasClosedOver, each_allowed, lost_power, names_read}
+use Rattle.nv_top.proofs.NameLemmas.{each_allowed, names_plain}
+use Rattle.nv_top.proofs.StoppingLemmas.{HasClosedOver, lost_power, names_read}
 
 -- the mount that a run began with
 opened_for : (basis : Basis) (trace : Traced) (mount : MountState) (pass : PassState) (cache : ℕ) → BeginsMount basis trace mount pass → HasCache cache mount → IsOpenedFor basis trace cache mount.board.opened
@@ -85,7 +85,7 @@ module _ (basis : Basis) (trace : Traced) (mount : MountState) (pass zero : Pass
   begun = map (λ call. call.now) shows_so.calls.unanswered.items
 
   names_so : header_names after_power.parts ≡ basis.names
-  names_so = names_read after_power.parts ∙ left.header.names_are
+  names_so = names_read after_power.parts left.header.readable ∙ left.header.names_are
 
   pub has_scheduled : HasScheduledOn failed options before basis trace many others bench text
   has_scheduled =
@@ -115,7 +115,7 @@ module _ (basis : Basis) (trace : Traced) (mount : MountState) (pass zero : Pass
             formed few rise no_rounds is_mount begin_so told_so legal_so faithful_so files_so kept_so stand_so after_power left found shows_so.shown.log shown.open_calls shown.are_open);
         ran = of_report basis trace mount pass zero part_values store_values parts held faults placed tail over options.batch followed.told.0 shows_so.calls shows_so.sorted followed.told.1 followed.told.2 shows_so.sorted_out
             formed few rise no_rounds is_mount begin_so told_so legal_so faithful_so files_so kept_so stand_so after_power left found shows_so.shown.log shown.open_calls shown.are_open;
-        plain = names_plain mount_layout.name_limit basis.names (files basis.names).contents (each_allowed basis.names allowed);
+        plain = names_plain mount_layout.name_limit basis.names (files basis.names).contents (each_allowed mount_layout basis.names allowed);
         text_is = shown.text_is ∙ ap (λ names. report_text (shown_report shows_so.sorted shown.open_calls names (files names))) names_so;
         left = record {
           lost = lost_power basis trace mount pass zero part_values store_values parts held faults placed tail over stand_so options.image before bench after_power found.next power_left picked many many_so others others_so left
@@ -144,14 +144,14 @@ module _ (basis : Basis) (trace : Traced) (mount : MountState) (pass zero : Pass
     (arms : bench.arms ≡ armed.arms) (armed_so : bench.armed ≡ armed.armed)
     (left : LeavesWholeWrites zero.view basis.files basis.names (row_words power.parts) (files_of (stores_named basis.names power.stores))) where
   -- the region rests as the recovery left it
-  rests_recovered : RestsWith (header_of (head_image power.parts)).page (header_of (head_image power.parts)).entries (header_names power.parts) (recovery_of power).next
+  rests_recovered : RestsWith (version_in (head_image power.parts)) (header_of (head_image power.parts)).page (header_of (head_image power.parts)).entries (header_names power.parts) (recovery_of power).next
       (files_named power.parts (header_names power.parts) power.stores) (length power.parts) (without_stores (header_names power.parts) power.stores) bench.told
   rests_recovered =
       let now = recovered_so.left in
       let names = header_names power.parts in
       let files = files_named power.parts names power.stores in
       let others = without_stores names power.stores in
-      let Sized : ℕ → ℕ → ℕ → Type 0 = λ page entries next. RestsWith page entries names next files (length power.parts) others bench.told in
+      let Sized : ℕ → ℕ → ℕ → Type 0 = λ page entries next. RestsWith (version_in (head_image power.parts)) page entries names next files (length power.parts) others bench.told in
       subst (λ page. Sized page (header_of (head_image power.parts)).entries (recovery_of power).next) recovered_so.page_is
       (subst (λ entries. Sized now.left.page entries (recovery_of power).next) recovered_so.entries_is (subst (λ next. Sized now.left.page now.left.entries next) recovered_so.next_is (record {
         now = now.now;

@@ -5,7 +5,10 @@ use Rattle.std.proofs.lemmas.List.{length-map}
 use Rattle.std.proofs.lemmas.List.FromFn.{length-range_with_len}
 use Rattle.nv_plain.specs.Images.{Image, header_of, name_of}
 use Rattle.nv_plain.specs.Faults.{Rose}
-use Rattle.nv_plain.specs.Layouts.{mount_layout}
+use Rattle.nv_plain.specs.Layouts.{Layout, mount_layout}
+use Rattle.nv_plain.proofs.OwnLayouts.{layout_is}
+use Rattle.nv_open.specs.Looking.{ShowsRegion}
+use Rattle.nv_open.specs.Refusals.{CanBeRead, head_image, header_part}
 use Rattle.nv_pmem.specs.Part.{Part}
 use Rattle.nv_pmem.specs.Rows.{row_words}
 use Rattle.nv_pmem.specs.declared.geometry.Geometry.{Geometry}
@@ -14,8 +17,8 @@ use Rattle.nv_pmem.specs.declared.picker.Pick.{Pick}
 use Rattle.nv_bench.specs.Benches.{BenchState}
 use Rattle.nv_bench.specs.Holding.{Holding}
 use Rattle.nv_bench.specs.Opening.{is_blank}
-use Rattle.nv_header.specs.Heads.{first_names}
-use Rattle.nv_header.specs.Refusals.{ReadIsNotRefused}
+use Rattle.nv_header.specs.Heads.{IsHead, first_names}
+use Rattle.nv_header.specs.Unread.{HeadIsNotUnread}
 use Rattle.nv_header.specs.Regions.{IsAtRest}
 use Rattle.nv_recover.specs.Groups.{FittingHasNoBad}
 use Rattle.nv_open.specs.Adding.{all_names}
@@ -63,7 +66,7 @@ begun_known : {one two : Geometry} {page entries next page_too entries_too next_
 begun_known parts known other true is first second = (first.formatted is).names_are ∙ sym (second.formatted is).names_are
 begun_known parts known other false is first second = (first.kept is).recovered.names_are ∙ sym (second.kept is).recovered.names_are
 
-module _ (good_so : FittingHasNoBad) (read_so : ReadIsNotRefused) where
+module _ (good_so : FittingHasNoBad) (read_so : HeadIsNotUnread) where
   -- a run that began, with no more names than a header may have, wasn't refused
   begun_allowed : (options : RunOptions) (holding : Holding) (wanted : List (List ℕ)) (basis : Basis) → IsBasis options holding wanted basis → length basis.names ≤ mount_layout.file_limit
       → (why : Refusal) → ¬ (IsNotRun options holding wanted why)
@@ -113,9 +116,15 @@ module _ (good_so : FittingHasNoBad) (read_so : ReadIsNotRefused) where
 
   -- ---- a look
 
+  -- the header of a region that is shown can be read, as one of its own version
+  shown_readable : (parts : List Part) (files : List (List ℕ)) (text : List ℕ) → ShowsRegion parts files text → CanBeRead parts
+  shown_readable parts files text shown =
+      subst (λ (layout : Layout). IsHead layout (length (header_part parts)) (head_image parts))
+      (sym (layout_is shown.head.version (head_image parts) shown.says.readable.fields.version_is)) shown.says.readable
+
   look_allowed : (files : Bool) (holding : Holding) (text : List ℕ) → HasLooked files holding text → (why : Refusal) → ¬ (IsNotShown files holding why)
-  look_allowed false holding text shown why refused = header_allowed read_so holding.parts shown.says.readable shown.long why refused.1 refused.0
-  look_allowed true holding text shown why refused = region_allowed read_so holding.parts shown.shown.says.readable shown.shown.long good_so shown.fits why refused
+  look_allowed false holding text shown why refused = header_allowed read_so holding.parts (shown_readable holding.parts [] text shown) shown.long why refused.1 refused.0
+  look_allowed true holding text shown why refused = region_allowed read_so holding.parts (shown_readable holding.parts _ text shown.shown) shown.shown.long good_so shown.fits why refused
 
   -- ---- a command
 

@@ -1,16 +1,17 @@
 -- A run that was stopped, after power went off and the region was recovered: its report is faithful.
-use Rattle.std.proofs.Common.{◌<◌, ◌≡◌, ◌^◌, ℕ, ◌+◌, ◌≤◌, All, List, [], ◌∷◌, ◌++◌, get_or, Option, Some, None, IfSome, Result, Ok, Err, option_map, map, length, sum_by, true, refl, sym, ap, subst, ◌∙◌, arith, IsPermutation}
+use Rattle.std.proofs.Common.{◌<◌, ◌≡◌, ◌^◌, ℕ, ◌+◌, ◌≤◌, All, List, [], ◌∷◌, ◌++◌, get_or, Option, Some, None, IfSome, Result, Ok, Err, option_map, map, length, sum_by, refl, sym, ap, subst, ◌∙◌, arith, IsPermutation}
 use Rattle.std.specs.List.{flat_map}
 use Rattle.std.specs.List.Sorted.{IsStrictlyIncreasing}
-use Rattle.std.proofs.lemmas.List.{get_or_default, length-map}
+use Rattle.std.proofs.lemmas.List.{length-map}
 use Rattle.std.proofs.lemmas.List.Elements.{All-nil, All-cons, All-head, All-tail}
 use Rattle.std.proofs.lemmas.List.Sorted.{All-permutation}
 use Rattle.nv_plain.specs.Faults.{Rose, saturated}
 use Rattle.nv_plain.specs.Files.{Files}
 use Rattle.nv_plain.specs.Histories.{after}
-use Rattle.nv_plain.specs.Images.{Image, header_of}
-use Rattle.nv_plain.specs.Layouts.{mount_layout}
-use Rattle.nv_plain.specs.Names.{is_name}
+use Rattle.nv_plain.specs.Images.{Image, header_of, version_in}
+use Rattle.nv_plain.specs.Layouts.{layout_of, mount_layout, mount_version}
+use Rattle.nv_plain.specs.declared.limits.Version.{Version}
+use Rattle.nv_open.proofs.Versions.{version_is}
 use Rattle.nv_plain.specs.Recovered.{recovered}
 use Rattle.nv_plain.specs.Made.{after_calls}
 use Rattle.nv_pmem.specs.Part.{Part}
@@ -27,7 +28,7 @@ use Rattle.nv_bench.specs.Holding.{Holding, IsQuietHolding, NamedStore, named_st
 use Rattle.nv_bench.specs.Laws.{AreWholeStores, PowerLeavesAnImage}
 use Rattle.nv_bench.specs.Powered.{powered, powered_parts}
 use Rattle.nv_header.specs.FileNames.{AreFileNames}
-use Rattle.nv_header.specs.Heads.{first_names}
+use Rattle.nv_header.specs.Heads.{IsHead, first_names}
 use Rattle.nv_header.specs.Regions.{IsAtRest}
 use Rattle.nv_open.specs.Held.{HoldFiles, IsRecovered, files_named, header_names}
 use Rattle.nv_open.specs.Lending.{all_lent, stores_named, without_named, without_stores}
@@ -84,7 +85,8 @@ use Rattle.nv_top.proofs.FateLemmas.{after_fates, numbers_low, open_write, open_
 use Rattle.nv_top.proofs.StoppedLemmas.{left_fates, left_low, left_writes, nothing_flies}
 use Rattle.nv_top.proofs.HomeLemmas.{images_again}
 use Rattle.nv_top.proofs.PoweredHomes.{others_left, powered_many}
-use Rattle.nv_top.proofs.NameLemmas.{names_plain}
+use Rattle.nv_open.proofs.Stands.{names_read as names_said}
+use Rattle.nv_top.proofs.NameLemmas.{each_allowed, mount_names, names_plain}
 use Rattle.nv_top.proofs.RowLemmas.{present}
 use Rattle.nv_store.proofs.RowReads.{length_now, now_at}
 
@@ -120,23 +122,23 @@ told_again old lent holding names now disks told_is home lent_is =
     ∙ ap (λ (lent : List (List ℕ)). Some (record { parts = now; stores = without_stores names holding.stores ++ named_stores (lent ++ names) disks })) home
 
 -- a recovery's report shows what the bench stood for
-pub shows : (old lent : BenchState) (new_told : Option Holding) (holding : Holding) (sorted : SortedCalls) (begun : List TracedCall) (text : List ℕ) (found : recover.Recovered) (page entries next : ℕ) (names shown : List (List ℕ))
+pub shows : (old lent : BenchState) (new_told : Option Holding) (holding : Holding) (sorted : SortedCalls) (begun : List TracedCall) (text : List ℕ) (found : recover.Recovered) (version : Version) (page entries next : ℕ) (names shown : List (List ℕ))
     (parts_row : List lines.PartHistory) (row : List stores.StoreHistory)
     → old.told ≡ Some holding → length parts_row ≡ length holding.parts → old.lent ≡ [] → lent ≡ with_faults lent.faults (all_lent names old) → names ≡ shown
     → ((now : List Store) → AreNow row now → ShowsOpen sorted begun found shown (files_of now) text)
-    → IsRecovered holding.parts page entries names next found
+    → version ≡ version_in (head_image holding.parts) → IsRecovered holding.parts page entries names next found
     → HoldFiles row (files_named holding.parts names holding.stores)
-    → All (λ history. 0 < length history) parts_row → RowTells parts_row (IsAtRest mount_layout page entries names next)
-    → ((now : List Part) → AreNow parts_row now → HasLines mount_layout page entries (rooms_of now))
+    → All (λ history. 0 < length history) parts_row → RowTells parts_row (IsAtRest (layout_of version) page entries names next)
+    → ((now : List Part) → AreNow parts_row now → HasLines (layout_of version) page entries (rooms_of now))
     → ((now : List Part) (disks : List Store) → AreNow parts_row now → AreNow row disks → new_told ≡ told_back now disks lent)
     → ShowsRecovered holding sorted begun new_told text
-shows old lent new_told holding sorted begun text found page entries next names shown parts_row row told_is many home lent_is same text_of recovered holds tell rest long gives =
+shows old lent new_told holding sorted begun text found version page entries next names shown parts_row row told_is many home lent_is same text_of own recovered holds tell rest long gives =
     let now = present parts_row tell in
     let header = header_of (head_image holding.parts) in
-    let Rests : List (List ℕ) → Type 0 = λ names. RestsWith header.page header.entries names found.next (files_named holding.parts names holding.stores) (length holding.parts) (without_stores names holding.stores) new_told in
+    let Rests : List (List ℕ) → Type 0 = λ names. RestsWith (version_in (head_image holding.parts)) header.page header.entries names found.next (files_named holding.parts names holding.stores) (length holding.parts) (without_stores names holding.stores) new_told in
     let files = files_named holding.parts names holding.stores in
     let others = without_stores names holding.stores in
-    let Sized : ℕ → ℕ → ℕ → Type 0 = λ page entries next. RestsWith page entries names next files (length holding.parts) others new_told in
+    let Sized : Version → ℕ → ℕ → ℕ → Type 0 = λ version page entries next. RestsWith version page entries names next files (length holding.parts) others new_told in
     record {
       found = found;
       log = recovered.log;
@@ -144,11 +146,11 @@ shows old lent new_told holding sorted begun text found page entries next names 
           (subst (λ files. ShowsOpen sorted begun found names files text) holds.files_are
           (subst (λ names. ShowsOpen sorted begun found names (files_of holds.held) text) (sym same) (text_of holds.held holds.are)));
       left = subst Rests recovered.names_are
-          (subst (λ page. Sized page header.entries found.next) recovered.page_is (subst (λ entries. Sized page entries found.next) recovered.entries_is (subst (λ next. Sized page entries next) recovered.next_is (record {
+          (subst (λ version. Sized version header.page header.entries found.next) own (subst (λ page. Sized version page header.entries found.next) recovered.page_is (subst (λ entries. Sized version page entries found.next) recovered.entries_is (subst (λ next. Sized version page entries next) recovered.next_is (record {
             now = record { parts = now.states; stores = others ++ named_stores names holds.held };
             told_is = gives now.states holds.held now.are holds.are ∙ told_again old lent holding names now.states holds.held told_is home lent_is;
             rests = record {
-              rest = row_tells_at parts_row (IsAtRest mount_layout page entries names next) now.states now.are rest;
+              rest = row_tells_at parts_row (IsAtRest (layout_of version) page entries names next) now.states now.are rest;
               held = holds.held;
               stores_are = refl;
               files_are = holds.files_are;
@@ -156,7 +158,7 @@ shows old lent new_told holding sorted begun text found page entries next names 
             };
             long = long now.states now.are;
             many_are = length_now parts_row now.states now.are ∙ many;
-          }))));
+          })))));
     }
 
 -- ---- lists
@@ -181,15 +183,9 @@ calls_again : (first : ℕ) (groups : List ℕ) (open_calls : List Open) → map
 calls_again first groups [] = refl
 calls_again first groups (one ∷ later) = ap (λ calls. one.call.now ∷ calls) (calls_again first groups later)
 
-pub each_allowed : (names : List (List ℕ)) → AreFileNames mount_layout names → All (λ name. is_name mount_layout.name_limit name ≡ true) names
-each_allowed names are k d inside =
-    let May : List ℕ → Type 0 = λ name. is_name mount_layout.name_limit name ≡ true in
-    subst May (get_or_default names k [] d inside) (are.allowed k inside)
-
--- the names that the header says of parts are those that their words say
-pub names_read : (parts : List Part) → header_names parts ≡ first_names mount_layout (row_words parts) (header_of (row_words parts)).files
-unfolding first_names
-names_read parts = refl
+-- the names that a mount's header says of parts are those that their words say
+pub names_read : (parts : List Part) → IsHead mount_layout mount_layout.header_lines (row_words parts) → header_names parts ≡ first_names mount_layout (row_words parts) (header_of (row_words parts)).files
+names_read parts readable = names_said parts ∙ mount_names (row_words parts) readable
 
 -- ---- what a mount tells that was closed
 
@@ -232,7 +228,7 @@ module _ (basis : Basis) (trace : Traced) (mount : MountState) (pass zero : Pass
   abbrev pub lost_power : ReadableStandsForRecovered → (pick : Pick) (before : List Pick) (bench : BenchState) (power : Holding) (next : ℕ) → bench.left ≡ Some power → bench.picked ≡ pick ∷ before
       → (many : ℕ) → length power.parts ≡ many → (others : List NamedStore) → without_stores basis.names power.stores ≡ others
       → LeavesWholeWrites zero.view basis.files basis.names (row_words power.parts) (files_of (stores_named basis.names power.stores)) → next ≡ next_in power.parts basis.files
-      → RestsWith (header_of (head_image power.parts)).page (header_of (head_image power.parts)).entries (header_names power.parts) next (files_named power.parts (header_names power.parts) power.stores)
+      → RestsWith (version_in (head_image power.parts)) (header_of (head_image power.parts)).page (header_of (head_image power.parts)).entries (header_names power.parts) next (files_named power.parts (header_names power.parts) power.stores)
       (length power.parts) (without_stores (header_names power.parts) power.stores) bench.told
       → HasLostPower pick before basis many others bench
   lost_power stand_so pick before bench power next power_left picked many many_so others others_so left next_so rests =
@@ -244,7 +240,10 @@ module _ (basis : Basis) (trace : Traced) (mount : MountState) (pass zero : Pass
       let ends = next_in power.parts basis.files in
       let page_so : header.page ≡ page = left.header.page_is ∙ ap (λ (o : Opened). o.sizes.page) still_opened ∙ sym over.begins.is_mount.page in
       let entries_so : header.entries ≡ entries = left.header.entries_is ∙ ap (λ (o : Opened). o.sizes.entries) still_opened ∙ sym over.begins.is_mount.entries in
-      let Rests : (page entries : ℕ) → List (List ℕ) → (next : ℕ) → (many : ℕ) → List NamedStore → Type 0 = λ page entries names next many others. RestsWith page entries names next (files names) many others bench.told in
+      let rested =
+      subst (λ version. RestsWith version header.page header.entries (header_names power.parts) next (files (header_names power.parts)) (length power.parts) (without_stores (header_names power.parts) power.stores) bench.told)
+      (version_is mount_version (row_words power.parts) left.header.readable.fields.version_is) rests in
+      let Rests : (page entries : ℕ) → List (List ℕ) → (next : ℕ) → (many : ℕ) → List NamedStore → Type 0 = λ page entries names next many others. RestsWith mount_version page entries names next (files names) many others bench.told in
       record {
         picked = picked;
         power = power;
@@ -255,7 +254,7 @@ module _ (basis : Basis) (trace : Traced) (mount : MountState) (pass zero : Pass
             (subst (λ page. Rests page entries basis.names ends (length power.parts) (without_stores basis.names power.stores)) page_so
             (subst (λ entries. Rests header.page entries basis.names ends (length power.parts) (without_stores basis.names power.stores)) entries_so
             (subst (λ next. Rests header.page header.entries basis.names next (length power.parts) (without_stores basis.names power.stores)) next_so
-            (subst (λ names. Rests header.page header.entries names next (length power.parts) (without_stores names power.stores)) (names_read power.parts ∙ left.header.names_are) rests)))));
+            (subst (λ names. Rests header.page header.entries names next (length power.parts) (without_stores names power.stores)) (names_read power.parts left.header.readable ∙ left.header.names_are) rested)))));
       }
 
 -- ---- what a run tells whose mount was closed
@@ -364,7 +363,7 @@ module _ (basis : Basis) (trace : Traced) (mount : MountState) (pass zero : Pass
       report = fated_report sorted found basis.names shown_files
 
       names_so : header_names after_power.parts ≡ basis.names
-      names_so = names_read after_power.parts ∙ left.header.names_are
+      names_so = names_read after_power.parts left.header.readable ∙ left.header.names_are
 
       files_are : shown_files ≡ files_shown basis trace report
       files_are =
@@ -417,7 +416,7 @@ module _ (basis : Basis) (trace : Traced) (mount : MountState) (pass zero : Pass
           last = zero.view;
           faithful = is_faithful;
           stopped = saw;
-          plain = names_plain mount_layout.name_limit basis.names shown_files.contents (each_allowed basis.names allowed);
+          plain = names_plain mount_layout.name_limit basis.names shown_files.contents (each_allowed mount_layout basis.names allowed);
           text_is =
               shows_so.shown.text_is
               ∙ ap (λ open_calls. report_text (shown_report sorted open_calls (header_names after_power.parts) shown_files)) (shows_so.shown.are_open.none refl)

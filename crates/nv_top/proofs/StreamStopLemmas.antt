@@ -20,7 +20,7 @@ use Rattle.nv_bench.specs.Holding.{Holding, IsQuietHolding, named_stores}
 use Rattle.nv_bench.specs.Laws.{AreWholeStores, PowerLeavesAnImage}
 use Rattle.nv_bench.specs.Powered.{powered}
 use Rattle.nv_header.specs.FileNames.{AreFileNames}
-use Rattle.nv_header.specs.Refusals.{ReadIsNotRefused}
+use Rattle.nv_header.specs.Unread.{HeadIsNotUnread}
 use Rattle.nv_open.specs.Refusals.{IsRefusedFor}
 use Rattle.nv_open.specs.Unopened.{HasHeader, StandsAsBefore, TellsOf}
 use Rattle.nv_open.specs.declared.error.Refusal.{Refusal}
@@ -237,7 +237,7 @@ module _ {L B : Type 0} (device : L → ℕ) (history : L → lines.PartHistory)
   powers = ap (λ (s : BenchState). s.told) off_is
 
   -- no recovery refuses what power left
-  pub never_told : FittingHasNoBad → ReadIsNotRefused → (why : Refusal) → IfSome off.told (λ holding. IsRefusedFor holding.parts why) → start.told ≡ None
+  pub never_told : FittingHasNoBad → HeadIsNotUnread → (why : Refusal) → IfSome off.told (λ holding. IsRefusedFor holding.parts why) → start.told ≡ None
   never_told good_so read_so why refused =
       none_unless start.told (λ left told_is.
       never_refused basis all mount pass zero part_values store_values (map history parts) (map held backing) sums placed tail over power_so good_so read_so many plan.image left home.told off.told (gives_home left told_is) powers whole why refused)

@@ -1,8 +1,10 @@
 -- Regions that aren't refused: the header can be read, the lines are there, and the groups are whole. So it is with one that power was lost of.
 use Rattle.std.proofs.Common.{◌≡◌, ℕ, ◌≤◌, All, List, [], ◌∷◌, Option, Some, IfSome, option_map, length, map, sym, ap, subst, ◌∙◌, inl, inr, arith}
 use Rattle.std.proofs.lemmas.List.Elements.{All-nil, All-cons, All-head, All-tail}
-use Rattle.nv_plain.specs.Images.{header_of, layout_in}
-use Rattle.nv_plain.specs.Layouts.{mount_layout, mount_version}
+use Rattle.nv_plain.specs.Images.{header_of, layout_in, version_in}
+use Rattle.nv_plain.specs.Layouts.{Layout, mount_layout, mount_version}
+use Rattle.nv_plain.proofs.OwnLayouts.{layout_is}
+use Rattle.nv_header.specs.Heads.{IsHead}
 use Rattle.nv_plain.specs.Recovered.{Fits}
 use Rattle.nv_pmem.specs.Draws.{draws_of}
 use Rattle.nv_pmem.specs.Part.{Part}
@@ -17,7 +19,8 @@ use Rattle.nv_bench.specs.Holding.{Holding, NamedStore, named_stores}
 use Rattle.nv_bench.specs.Laws.{AreWholeStores, PowerLeavesAnImage}
 use Rattle.nv_bench.specs.Powered.{powered}
 use Rattle.nv_header.specs.Needs.{HasLines, header_lines_in}
-use Rattle.nv_header.specs.Refusals.{ReadIsNotRefused, SpeaksOfImage}
+use Rattle.nv_header.specs.Refusals.{SpeaksOfImage}
+use Rattle.nv_header.specs.Unread.{HeadIsNotUnread}
 use Rattle.nv_header.specs.Regions.{ReadsAs}
 use Rattle.nv_header.specs.declared.head.HeadError.{HeadError}
 use Rattle.nv_header.specs.declared.head.HeadError.TheVariants as head
@@ -29,22 +32,26 @@ use Rattle.nv_table.specs.state.Opened.{Opened, mount_of}
 use Rattle.nv_table.specs.state.States.{PassState}
 use Rattle.nv_mount.specs.Mounts.{MountState}
 use Rattle.nv_mount.specs.Telling.{HasLongParts}
-use Rattle.nv_open.specs.Refusals.{AreLong, CanBeRead, IsBadHeader, IsHeadRefused, IsRefusedFor, head_image, header_part, rooms_of}
+use Rattle.nv_open.specs.Refusals.{AreLong, CanBeRead, IsBadHeader, IsHeadRefused, IsRefusedFor, head_image, head_layout, header_part, rooms_of}
 use Rattle.nv_open.specs.declared.error.Refusal.{Refusal}
 use Rattle.nv_open.specs.declared.error.Refusal.TheVariants.{Truncated, BadMagic, BadVersion, BadGeometry, BadName, BadEntry, TooManyFiles}
 use Rattle.nv_trace.specs.Traced.{Traced}
 use Rattle.nv_runner.specs.Faithful.{Basis}
 use Rattle.nv_open.proofs.LineCounts.{long_alike}
-use Rattle.nv_top.proofs.LineLemmas.{kept_long}
+use Rattle.nv_open.proofs.Versions.{own_layout}
+use Rattle.nv_top.proofs.LineLemmas.{head_layout_is, kept_long}
 use Rattle.nv_top.proofs.PoweredHomes.{powered_lines}
 use Rattle.nv_top.proofs.RowLemmas.{present}
 use Rattle.nv_top.proofs.StoppingLemmas.{HasClosedOver, all_right, at_some, devices_tell, home_with, power_leaves, still_opened}
 
 -- ---- a region that can be read, and has its lines
 
-module _ (read_so : ReadIsNotRefused) (parts : List Part) (readable : CanBeRead parts) (long : AreLong parts) where
+module _ (read_so : HeadIsNotUnread) (parts : List Part) (readable : CanBeRead parts) (long : AreLong parts) where
   good_head : (refusal : HeadError) → SpeaksOfImage refusal → ¬ (IsHeadRefused parts refusal)
-  good_head refusal speaks = read_so mount_layout (length (header_part parts)) (head_image parts) refusal readable speaks
+  good_head refusal speaks =
+      let lines = length (header_part parts) in
+      let image = head_image parts in
+      read_so (version_in image) lines image refusal (subst (λ (layout : Layout). IsHead layout lines image) (own_layout image) readable) speaks
 
   -- it isn't refused for its header
   pub header_allowed : (why : Refusal) → IsBadHeader why → ¬ (IsRefusedFor parts why)
@@ -71,24 +78,30 @@ module _ (read_so : ReadIsNotRefused) (parts : List Part) (readable : CanBeRead 
 
 -- ---- one that power was lost of
 
-module _ (good_so : FittingHasNoBad) (read_so : ReadIsNotRefused) (page entries first : ℕ) (names : List (List ℕ)) (parts : List Part)
+module _ (good_so : FittingHasNoBad) (read_so : HeadIsNotUnread) (page entries first : ℕ) (names : List (List ℕ)) (parts : List Part)
     (header : ReadsAs mount_layout page entries names first (row_words parts)) (fits : Fits mount_layout (row_words parts)) (long : HasLines mount_layout page entries (rooms_of parts)) where
   long_first : (parts : List Part) → mount_layout.header_lines ≤ header_lines_in (rooms_of parts) → mount_layout.header_lines ≤ length (header_part parts)
   long_first [] enough = enough
   long_first (part ∷ parts) enough = enough
 
+  own : head_layout parts ≡ mount_layout
+  own = head_layout_is parts ∙ layout_is mount_version (row_words parts) header.readable.fields.version_is
+
   can_be_read : CanBeRead parts
-  can_be_read = record {
-    long_enough = long_first parts long.header;
-    fields = header.readable.fields;
-    names = λ i below. let good = header.readable.names i below in record { whole = good.whole; new = good.new };
-  }
+  can_be_read =
+      let read : IsHead mount_layout (length (header_part parts)) (head_image parts) =
+      record {
+        long_enough = long_first parts long.header;
+        fields = header.readable.fields;
+        names = λ i below. let good = header.readable.names i below in record { whole = good.whole; new = good.new };
+      } in
+      subst (λ (layout : Layout). IsHead layout (length (header_part parts)) (head_image parts)) (sym own) read
 
   are_long : AreLong parts
   are_long =
-      let Long : ℕ → ℕ → Type 0 = λ page entries. HasLines mount_layout page entries (rooms_of parts) in
+      let Long : ℕ → ℕ → Type 0 = λ page entries. HasLines (head_layout parts) page entries (rooms_of parts) in
       let Of : ℕ → Type 0 = λ page. Long page (header_of (head_image parts)).entries in
-      subst Of (sym header.page_is) (subst (Long page) (sym header.entries_is) long)
+      subst Of (sym header.page_is) (subst (Long page) (sym header.entries_is) (subst (λ (layout : Layout). HasLines layout page entries (rooms_of parts)) (sym own) long))
 
   pub not_refused : (why : Refusal) → ¬ (IsRefusedFor parts why)
   not_refused = region_allowed read_so parts can_be_read are_long good_so (fits_own mount_version (row_words parts) header.readable.fields.version_is fits)
@@ -108,7 +121,7 @@ whole_named (name ∷ names) (store ∷ disks) long all =
 module _ (basis : Basis) (trace : Traced) (mount : MountState) (pass zero : PassState) (part_values store_values : List Value)
     (parts : List lines.PartHistory) (held : List stores.StoreHistory) (faults placed tail : ℕ)
     (over : HasClosedOver basis trace mount pass zero part_values store_values parts held faults placed tail)
-    (power_so : PowerLeavesAnImage) (good_so : FittingHasNoBad) (read_so : ReadIsNotRefused)
+    (power_so : PowerLeavesAnImage) (good_so : FittingHasNoBad) (read_so : HeadIsNotUnread)
     (many : length held ≡ mount.board.opened.sizes.files) (pick : Pick) (left : Holding) (given off : Option Holding)
     (gives : (now : List Part) (disks : List Store) → AreNow parts now → AreNow held disks → given ≡ Some (home_with left basis.names now disks))
     (powers : off ≡ option_map (powered pick) given) (whole : (holding : Holding) → given ≡ Some holding → AreWholeStores holding) where

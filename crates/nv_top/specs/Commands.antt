@@ -1,6 +1,7 @@
 -- Commands: what each makes of a bench.
 use Rattle.std.specs.Prelude.{◌≡◌, ℕ, Bool, true, false, List, [], ◌++◌, length, Option, Some, None}
-use Rattle.nv_plain.specs.Images.{header_of, layout_in}
+use Rattle.nv_plain.specs.Images.{header_of, layout_in, version_in}
+use Rattle.nv_plain.specs.Layouts.{mount_version}
 use Rattle.nv_plain.specs.Recovered.{Fits, recovered}
 use Rattle.nv_pmem.specs.Rows.{row_words}
 use Rattle.nv_pmem.specs.declared.geometry.Geometry.{Geometry}
@@ -61,7 +62,7 @@ pub record RestsNotRun (options : RunOptions) (was : Holding) (wanted : List (Li
   pub entries_are : geometry.entries ≡ options.entries
   pub rests : TellsOf (RestsUnopened was geometry wanted) told
 
--- The text shows a faithful report of a run of the trace, as itself or by its summary, and the bench is left with the files of the report: its region has the sizes that it began with, and its log goes on
+-- The text shows a faithful report of a run of the trace, as itself or by its summary, and the bench is left with the files of the report: its region is of the version of a mount, and has the sizes that it began with, and its log goes on
 -- behind what was drawn.
 pub record HasRunOn (show : Show) (options : RunOptions) (holding : Holding) (told : Option Holding) (trace : Traced) (text : List ℕ) : Type 0 where
   pub basis : Basis
@@ -70,7 +71,7 @@ pub record HasRunOn (show : Show) (options : RunOptions) (holding : Holding) (to
   pub faithful : IsFaithful ⊥ options.worker basis trace report
   pub plain : HavePlainNames report.files
   pub text_is : text ≡ text_as show report
-  pub left : Leaves (Some begun.geometry) basis.names (files_shown basis trace report) holding told
+  pub left : Leaves mount_version (Some begun.geometry) basis.names (files_shown basis trace report) holding told
   pub page_is : left.left.page ≡ basis.sizes.page
   pub entries_is : left.left.entries ≡ basis.sizes.entries
   pub next_is : left.left.next ≡ next_behind basis report
@@ -95,14 +96,14 @@ recovery_of holding =
     }
 
 -- The region of a bench that held this could be recovered: the text is that of the report, and the bench is left with the files that
--- it shows. The region has the sizes that its header said, and its log goes on with the number that is shown.
+-- it shows. The region has the version and the sizes that its header said, and its log goes on with the number that is shown.
 pub record HasRecovered (holding : Holding) (told : Option Holding) (text : List ℕ) : Type 0 where
   pub readable : CanBeRead holding.parts
   pub long : AreLong holding.parts
   pub fits : Fits (layout_in (row_words holding.parts)) (row_words holding.parts)
   pub plain : HavePlainNames (recovery_of holding).files
   pub text_is : text ≡ recovery_text (recovery_of holding)
-  pub left : Leaves None (header_names holding.parts) (files_named holding.parts (header_names holding.parts) holding.stores) holding told
+  pub left : Leaves (version_in (head_image holding.parts)) None (header_names holding.parts) (files_named holding.parts (header_names holding.parts) holding.stores) holding told
   pub page_is : left.left.page ≡ (header_of (head_image holding.parts)).page
   pub entries_is : left.left.entries ≡ (header_of (head_image holding.parts)).entries
   pub next_is : left.left.next ≡ (recovery_of holding).next

@@ -1,5 +1,5 @@
 -- The top call: what each command makes of a bench, and what it shows.
-use Rattle.std.specs.Prelude.{◌≡◌, ◌⊎◌, ◌≤◌, ℕ, Bool, List, length, true, if◌then◌else◌, Option, Some, None, IfSome, max}
+use Rattle.std.specs.Prelude.{◌≡◌, ◌⊎◌, ◌≤◌, ℕ, Bool, List, length, true, if◌then◌else◌, Option, Some, None, IfSome, option_map, max}
 use Rattle.std.specs.Option.{option_and_then}
 use Rattle.nv_plain.specs.Faults.{Rose}
 use Rattle.nv_plain.specs.Layouts.{mount_layout}
@@ -11,7 +11,7 @@ use Rattle.nv_bench.specs.Opening.{is_blank, opened}
 use Rattle.nv_open.specs.Held.{told_after}
 use Rattle.nv_open.specs.Lending.{without_stores}
 use Rattle.nv_open.specs.Refusals.{IsRefusedFor}
-use Rattle.nv_open.specs.Unopened.{IsGood}
+use Rattle.nv_open.specs.Unopened.{IsGood, as_opened}
 use Rattle.nv_open.specs.declared.error.Refusal.{Refusal}
 use Rattle.nv_open.specs.declared.error.Refusal.TheVariants as refusals
 use Rattle.nv_trace.specs.Reading.{ending_of, Whole}
@@ -171,7 +171,7 @@ pub record IsUnhindered (command : Command) (input : Option (List ℕ)) (holding
   pub read : ¬ read_failed
   pub devices : ¬ device_failed
 
--- Nothing stands in the way of a run of any trace of at most 16 files over a blank region, whatever its options, where neither count rose.
+-- Nothing stands in the way of a run of any trace of no more files than a mount has over a blank region, whatever its options, where neither count rose.
 abbrev pub PlainIsUnhindered : Type 0
 PlainIsUnhindered =
     (options : RunOptions) (input : List ℕ) (trace : Traced) (holding : Holding) → ending_of forms.Run input ≡ Whole trace → is_blank holding.parts ≡ true → length trace.names ≤ mount_layout.file_limit
@@ -188,19 +188,19 @@ abbrev pub RefusedIsNotGood : Type 0
 RefusedIsNotGood = (parts : List Part) (why : Refusal) → IsRefusedFor parts why → ¬ (IsGood parts)
 
 -- A region that was refused is as it was, unless it was refused for its files.
-abbrev pub IsRegionUnwritten : (old new : BenchState) → Refusal → Type 0
-IsRegionUnwritten old new why = ¬ (why ≡ refusals.TooManyFiles) → new.told ≡ told_after why old.told
+abbrev pub IsRegionUnwritten : (old new : Option Holding) → Refusal → Type 0
+IsRegionUnwritten old new why = ¬ (why ≡ refusals.TooManyFiles) → new ≡ told_after why old
 
--- A run of a trace that names these files isn't made on a bench that held that, for this refusal: a region that was refused is left as it is, and at rest one of too many files.
+-- A run of a trace that names these files isn't made on a bench that held that, for this refusal: a region that was refused is left as the bench opened it, and at rest one of too many files.
 pub record IsRunRefused (options : RunOptions) (was : Holding) (wanted : List (List ℕ)) (old new : BenchState) (why : Refusal) : Type 0 where
   pub not_run : IsNotRun options was wanted why
-  pub unwritten : IsRegionUnwritten old new why
+  pub unwritten : IsRegionUnwritten (option_map (as_opened not_run.geometry) old.told) new.told why
   pub rests : why ≡ refusals.TooManyFiles → RestsNotRun options was wanted new.told
 
 -- why a command is refused by the region of a bench that held this, and what it leaves of it; a schedule is refused before power goes off
 abbrev pub IsCommandRefused : Command → (input : Option (List ℕ)) → (old new : BenchState) → Holding → Refusal → Type 0
 IsCommandRefused (Run options) input old new holding why = OfReadSoFar input (λ trace. IsRunRefused options holding trace.names old new why)
 IsCommandRefused (Sched options) input old new holding why = OfRead forms.Sched input (λ trace. IsRunRefused options holding trace.names old new why) × (new.picked ≡ old.picked)
-IsCommandRefused Recover input old new holding why = IsRefusedFor holding.parts why × IsRegionUnwritten old new why
+IsCommandRefused Recover input old new holding why = IsRefusedFor holding.parts why × IsRegionUnwritten old.told new.told why
 IsCommandRefused (Look files) input old new holding why = IsNotShown files holding why
 IsCommandRefused (Gen load) input old new holding why = IsRunRefused load_options holding (generated load).names old new why

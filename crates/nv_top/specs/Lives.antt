@@ -6,7 +6,7 @@ use Rattle.nv_store.specs.Steps as stores
 use Rattle.nv_pmem.specs.declared.geometry.Geometry.{Geometry}
 use Rattle.nv_bench.specs.Holding.{Holding, NamedStore}
 use Rattle.nv_bench.specs.Opening.{is_blank, opened}
-use Rattle.nv_open.specs.Unopened.{HasHeader, HasRest, InEachImage, IsGood, IsUntouched, StandForFiles, StandsAsBefore, StandsOpening, TellsOf, line_counts}
+use Rattle.nv_open.specs.Unopened.{HasHeader, HasRest, InEachImage, IsGood, IsUntouched, StandForFiles, StandsAsBefore, StandsOpening, StaysUntouched, TellsOf, line_counts}
 use Rattle.nv_recover.specs.Telling.{AllTell}
 use Rattle.nv_core.specs.invariant.OneHistory.{IsPrefix}
 use Rattle.nv_runner.specs.Faithful.{Basis}
@@ -66,11 +66,18 @@ pub record HasMadeParts (options : RunOptions) (was : Holding) (wanted : List (L
 abbrev pub HasMadeNoCall : RunOptions → (was : Holding) → (wanted : List (List ℕ)) → (told : Option Holding) → Type 0
 HasMadeNoCall options was wanted told = (told ≡ Some was) ⊎ HasMadeParts options was wanted told
 
+-- The bench holds what it did, or that with the lines that it gave the header when it opened the region with the sizes that a run asks for.
+pub record StaysAsOpened (options : RunOptions) (was : Holding) (told : Option Holding) : Type 0 where
+  pub geometry : Geometry
+  pub page_is : geometry.page ≡ options.page
+  pub entries_are : geometry.entries ≡ options.entries
+  pub left : TellsOf (StaysUntouched geometry was) told
+
 -- What a run of a trace, or a schedule of it, leaves of a bench, of which it has shown these calls before its end, and tells so of its rounds. Where that stood for files, no call has its place, nor was one shown, or calls were made; and its other stores are as they
--- were. A region that isn't good, nor blank, is untouched, and no call was shown.
+-- were. A region that isn't good, nor blank, is untouched, but for lines of zeros that the bench may have given its header, and no call was shown.
 pub record LeavesRun (Tells : Basis → Traced → (shown later : List PlacedCall) → Type 0) (options : RunOptions) (was : Holding) (trace : Traced) (shown : List PlacedCall) (told : Option Holding) : Type 0 where
   pub stands : StandForFiles was.parts → ((shown ≡ []) × HasMadeNoCall options was trace.names told) ⊎ HasLivedOn Tells options was trace shown told
-  pub untouched : is_blank was.parts ≡ false → ¬ (IsGood was.parts) → (shown ≡ []) × TellsOf (IsUntouched was) told
+  pub untouched : is_blank was.parts ≡ false → ¬ (IsGood was.parts) → (shown ≡ []) × (TellsOf (IsUntouched was) told ⊎ StaysAsOpened options was told)
 
 -- What a recovery leaves of a bench that had a header: it can be made again, and comes to the same. A region that isn't good is untouched.
 pub record LeavesRecovery (was : Holding) (told : Option Holding) : Type 0 where

@@ -6,6 +6,7 @@ use Rattle.nv_pmem.specs.Steps as lines
 use Rattle.nv_store.specs.Steps as stores
 use Rattle.nv_header.specs.declared.region.Region.{Region}
 use Rattle.nv_plain.specs.Files.{Files}
+use Rattle.nv_plain.specs.Layouts.{mount_version}
 use Rattle.nv_core.specs.crash.CrashImages.{OpensRegion}
 use Rattle.nv_core.specs.log.Written.{IsPart}
 use Rattle.nv_core.specs.state.Values.{Value}
@@ -60,7 +61,7 @@ pub record HasRunOver {X Y : Type 0} (history : X → lines.PartHistory) (held :
   pub faithful : IsFaithful ⊥ worker basis trace report
   pub plain : HavePlainNames report.files
   pub text_is : text ≡ text_as show report
-  pub left : AreLeft history held basis.names (files_shown basis trace report) parts backing
+  pub left : AreLeft mount_version history held basis.names (files_shown basis trace report) parts backing
   pub page_is : left.page ≡ basis.sizes.page
   pub entries_is : left.entries ≡ basis.sizes.entries
   pub next_is : left.next ≡ next_behind basis report

@@ -2,8 +2,9 @@
 use Rattle.std.specs.Prelude.{◌≡◌, ◌⊎◌, ℕ, ◌+◌, ◌≤◌, false, List, [], ◌∷◌, length, All, Option, Some, Result, Ok, Err}
 use Rattle.nv_plain.specs.Faults.{Rose}
 use Rattle.nv_plain.specs.Files.{Files}
-use Rattle.nv_plain.specs.Images.{header_of}
-use Rattle.nv_plain.specs.Layouts.{mount_layout}
+use Rattle.nv_plain.specs.Images.{header_of, version_in}
+use Rattle.nv_plain.specs.Layouts.{layout_of, mount_version}
+use Rattle.nv_plain.specs.declared.limits.Version.{Version}
 use Rattle.nv_plain.specs.Recovered.{recovered}
 use Rattle.nv_pmem.specs.Part.{Part}
 use Rattle.nv_pmem.specs.Rows.{row_words}
@@ -68,13 +69,13 @@ IsSettledStop settled now (Err stop) = StopSettles settled now stop
 abbrev pub IsAway : List (List ℕ) → Holding → Type 0
 IsAway names holding = All (λ name. All (λ named. is_named name named ≡ false) holding.stores) names
 
--- A bench tells that it holds a region of these sizes with these names, in so many parts with its lines, at rest with an empty log that goes on with
+-- A bench tells that it holds a region of this version and these sizes with these names, in so many parts with its lines, at rest with an empty log that goes on with
 -- this number; and behind these other stores those of its names, which hold these files, durable.
-pub record RestsWith (page entries : ℕ) (names : List (List ℕ)) (next : ℕ) (files : Files) (many : ℕ) (others : List NamedStore) (told : Option Holding) : Type 0 where
+pub record RestsWith (version : Version) (page entries : ℕ) (names : List (List ℕ)) (next : ℕ) (files : Files) (many : ℕ) (others : List NamedStore) (told : Option Holding) : Type 0 where
   pub now : Holding
   pub told_is : told ≡ Some now
-  pub rests : IsAtRestWith page entries names next files others now
-  pub long : HasLines mount_layout page entries (rooms_of now.parts)
+  pub rests : IsAtRestWith version page entries names next files others now
+  pub long : HasLines (layout_of version) page entries (rooms_of now.parts)
   pub many_are : length now.parts ≡ many
 
 -- The text is that of the report of the sorted calls, with these files, and with what became of those that were left open.
@@ -83,14 +84,14 @@ pub record ShowsOpen (sorted : SortedCalls) (begun : List TracedCall) (found : r
   pub are_open : AreShownOpen found.first found.groups sorted.open_calls.items begun open_calls
   pub text_is : text ≡ report_text (shown_report sorted open_calls names files)
 
--- The text is that of a report of what a recovery made of a bench that held this, and the bench rests with the files shown, and with the sizes that the header said; the log goes on where it was found to end. It has as many parts as
+-- The text is that of a report of what a recovery made of a bench that held this, and the bench rests with the files shown, and with the version and the sizes that the header said; the log goes on where it was found to end. It has as many parts as
 -- before, and the stores of other names are as they were.
 -- Beside the calls that were sorted out, these were begun and drew no number.
 pub record ShowsRecovered (holding : Holding) (sorted : SortedCalls) (begun : List TracedCall) (told : Option Holding) (text : List ℕ) : Type 0 where
   pub found : recover.Recovered
   pub log : HasFoundAll (row_words holding.parts) found
   pub shown : ShowsOpen sorted begun found (header_names holding.parts) (files_named holding.parts (header_names holding.parts) holding.stores) text
-  pub left : RestsWith (header_of (head_image holding.parts)).page (header_of (head_image holding.parts)).entries (header_names holding.parts) found.next
+  pub left : RestsWith (version_in (head_image holding.parts)) (header_of (head_image holding.parts)).page (header_of (head_image holding.parts)).entries (header_names holding.parts) found.next
       (files_named holding.parts (header_names holding.parts) holding.stores) (length holding.parts) (without_stores (header_names holding.parts) holding.stores) told
 
 -- the number behind the log that stands in these parts
@@ -104,4 +105,4 @@ pub record HasLostPower (pick : Pick) (before : List Pick) (basis : Basis) (many
   pub power : Holding
   pub power_left : bench.left ≡ Some power
   pub stands : files_named power.parts basis.names power.stores ≡ (recovered (row_words power.parts) (files_of (stores_named basis.names power.stores))).files
-  pub rests : RestsWith basis.sizes.page basis.sizes.entries basis.names (next_in power.parts basis.files) (files_named power.parts basis.names power.stores) many others bench.told
+  pub rests : RestsWith mount_version basis.sizes.page basis.sizes.entries basis.names (next_in power.parts basis.files) (files_named power.parts basis.names power.stores) many others bench.told

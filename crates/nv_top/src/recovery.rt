@@ -1,6 +1,6 @@
 //! The recovery of a region, and its report.
 ghost use Rattle.std.specs.Prelude.{◌≡◌, ℕ, List, length, map, sum_by, Err, IfOk, IfSome};
-ghost use Rattle.nv_plain.specs.Layouts.{mount_layout};
+ghost use Rattle.nv_plain.specs.Layouts.{Layout};
 ghost use Rattle.nv_pmem.specs.Part.{Part};
 ghost use Rattle.nv_pmem.specs.RowStates.{AreNow};
 ghost use Rattle.nv_store.specs.Store.{Store};
@@ -22,7 +22,7 @@ use crate::files::read_files;
 use crate::text::recovery_text_of;
 use nv_bench::Bench;
 use nv_header::Names;
-use nv_open::{Opened, recover_region};
+use nv_open::{Restored, recover_region};
 use nv_pmem::Lines;
 use nv_recover::{Recovered, images_stand_for_files};
 use nv_store::Backing;
@@ -41,9 +41,12 @@ pub(crate) fn recover<T: Bench>(alloc: Global, bench: &mut T) -> Result<Vec<u8>,
     ensures cause { CountHasCause (T.state bench.old).faults (T.state bench.new).faults result }
 {
     images_stand_for_files();
-    let (opened, found) = recover_region(alloc, bench)?;
-    let Opened { region, stores } = opened;
-    let mut stores = stores;
+    let restored = recover_region(alloc, bench)?;
+    let Restored {
+        region,
+        mut stores,
+        found,
+    } = restored;
     let report = show(alloc, &found, region.names(), &mut stores);
     let parts = region.into_parts();
     parts_have_lines(&parts);
@@ -53,8 +56,8 @@ pub(crate) fn recover<T: Bench>(alloc: Global, bench: &mut T) -> Result<Vec<u8>,
 
 /// The parts of a region that tell have the lines of its layout, as their rooms have.
 pub(crate) fn parts_have_lines<L: Lines>(parts: &Vec<L>)
-    ensures { (page entries : ℕ) (now : List Part) → HasParts mount_layout page entries (map L.room parts.now.items) → AreNow (map L.history parts.now.items) now
-        → HasLines mount_layout page entries (rooms_of now) }
+    ensures { (layout : Layout) (page entries : ℕ) (now : List Part) → HasParts layout page entries (map L.room parts.now.items)
+        → AreNow (map L.history parts.now.items) now → HasLines layout page entries (rooms_of now) }
 {
     let _parts = parts;
 }

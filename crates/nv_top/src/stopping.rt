@@ -45,7 +45,7 @@ use crate::text::rest_of;
 use nv_bench::{Bench, power_leaves_an_image};
 use nv_header::{Names, a_header_has_one_answer};
 use nv_mount::Mount;
-use nv_open::{Opened, open, recover_region};
+use nv_open::{Opened, Restored, open, recover_region};
 use nv_plain::{Bytes, NoMemory};
 use nv_pmem::{Geometry, images_follow_calls};
 use nv_recover::{Recovered, images_stand_for_files};
@@ -250,9 +250,12 @@ pub(crate) fn show_recovered<T: Bench>(
     ensures never_falls { (T.state bench.old).faults ≤ (T.state bench.new).faults }
 {
     images_stand_for_files();
-    let (opened, found) = recover_region(alloc, bench)?;
-    let Opened { region, stores } = opened;
-    let mut stores = stores;
+    let restored = recover_region(alloc, bench)?;
+    let Restored {
+        region,
+        mut stores,
+        found,
+    } = restored;
     let report = show_fates(alloc, kept, begun, region.names(), &found, &mut stores);
     let parts = region.into_parts();
     parts_have_lines(&parts);

@@ -1,12 +1,13 @@
 use Rattle.std.proofs.Common.{◌≡◌, ◌∙◌, ℕ, List, None, length, map, refl, sym, ap, subst}
 use Rattle.std.proofs.Common.{◌++◌, ◌<◌, All}
-use Rattle.nv_header.proofs.InRow.{region_as}
 use Rattle.nv_bench.specs.Holding.{named_stores}
 use Rattle.nv_open.specs.Lending.{without_stores}
 use Rattle.std.specs.Prelude.{IfSome}
 use Rattle.std.proofs.lemmas.Result.{IfOk-weaker}
 use Rattle.nv_plain.specs.Files.{Files}
-use Rattle.nv_plain.specs.Layouts.{mount_layout}
+use Rattle.nv_plain.specs.Images.{version_in}
+use Rattle.nv_plain.specs.Layouts.{layout_of}
+use Rattle.nv_open.specs.Refusals.{head_image}
 use Rattle.nv_plain.specs.Recovered.{recovered}
 use Rattle.nv_pmem.specs.Rows.{RowTells, row_words}
 use Rattle.nv_pmem.specs.RowStates.{AreNow, row_tells_at}
@@ -39,14 +40,14 @@ returns-clause-recovered g c =
     let held = g.T.Store.Backing.history in
     let old = g.T.Bench.state c.args.bench.now in
     let mid = g.T.Bench.state c.recover_region.new.bench in
-    let made = c.in_ok-opened.ensures in
-    let region = c.in_ok-opened.opened.region in
-    let found = c.in_ok-opened.found in
+    let made = c.in_ok-restored.ensures in
+    let region = c.in_ok-restored.restored.region in
+    let found = c.in_ok-restored.restored.found in
     let parts_back = c.into_parts-parts.result.items in
     let stores_back = c.show-report.new.stores.items in
     let shown : (names : List (List ℕ)) (files : Files) → List ℕ = λ names files. recovery_text (record { first = found.first; next = found.next; groups = length found.groups; files = named names files }) in
     IfOk-weaker c.show-report.result
-    (λ text. (now : List Store) → AreNow (map held c.in_ok-opened.opened.stores.items) now → text.items ≡ shown c.names.result.now (files_of now))
+    (λ text. (now : List Store) → AreNow (map held c.in_ok-restored.restored.stores.items) now → text.items ≡ shown c.names.result.now (files_of now))
     (λ text. IfSome old.told (λ holding. HasRecovered holding _ text.items))
     (λ text told_text.
     if_told old.told (λ holding. HasRecovered holding _ text.items) (λ holding told.
@@ -58,14 +59,14 @@ returns-clause-recovered g c =
     let PartsAre : List _ → Type 0 = λ parts. AreNow (map history parts) now.states in
     let StoresAre : List stores.StoreHistory → Type 0 = λ row. AreNow row files.held in
     let now_are = subst PartsAre (sym same_parts) now.are in
-    let left : AreLeft history held region.names (files_named holding.parts region.names holding.stores) parts_back stores_back = record {
+    let left : AreLeft region.version history held region.names (files_named holding.parts region.names holding.stores) parts_back stores_back = record {
       page = region.geometry.page;
       entries = region.geometry.entries;
       next = region.next;
       now = now.states;
       now_are = now_are;
-      rest = row_tells_at (map history parts_back) (IsAtRest mount_layout region.geometry.page region.geometry.entries region.names region.next) now.states now_are (region_as c.in_ok-opened.opened.version c.into_parts-parts.ensures.region).tells;
-      long = c.parts_have_lines.ensures region.geometry.page region.geometry.entries now.states (region_as c.in_ok-opened.opened.version c.into_parts-parts.ensures.region).parts now_are;
+      rest = row_tells_at (map history parts_back) (IsAtRest (layout_of region.version) region.geometry.page region.geometry.entries region.names region.next) now.states now_are c.into_parts-parts.ensures.region.tells;
+      long = c.parts_have_lines.ensures (layout_of region.version) region.geometry.page region.geometry.entries now.states c.into_parts-parts.ensures.region.parts now_are;
       disks = files.held;
       disks_are = subst StoresAre (sym c.show-report.ensures.histories) files.are;
       files_are = files.files_are;
@@ -75,16 +76,17 @@ returns-clause-recovered g c =
     let base = files_of (stores_named names holding.stores) in
     let log = recovered (row_words holding.parts) base in
     let shown_names = named names (files_named holding.parts names holding.stores) in
+    let own : region.version ≡ version_in (head_image holding.parts) = told_at old.told _ holding told made.version in
     let leaving =
-    leaves old mid region.names holding made.lent c.requires.at_home.home told None history held (files_named holding.parts region.names holding.stores) parts_back stores_back _ (ap length same_parts ∙ made_many history region.parts.items _ now (told_at old.told _ holding told made.lines)) left c.give_back.ensures.told in
+    leaves old mid region.names holding made.lent c.requires.at_home.home told region.version None history held (files_named holding.parts region.names holding.stores) parts_back stores_back _ (ap length same_parts ∙ made_many history region.parts.items _ now (told_at old.told _ holding told made.lines)) left c.give_back.ensures.told in
     let left_so =
-    leaves_by holding.parts holding.stores region.geometry.page region.geometry.entries region.next recovery.names_are (leaving, refl, refl, refl) in
+    leaves_by holding.parts holding.stores region.geometry.page region.geometry.entries region.next own recovery.names_are (leaving, refl, refl, refl) in
     record {
       readable = recovery.readable;
       long = recovery.long;
       fits = recovery.log.fits;
       plain = subst Plain recovery.names_are
-          (names_plain mount_layout.name_limit region.names (files_named holding.parts region.names holding.stores).contents (each_allowed region.names (region_as c.in_ok-opened.opened.version c.into_parts-parts.ensures.region).names_are));
+          (names_plain (layout_of region.version).name_limit region.names (files_named holding.parts region.names holding.stores).contents (each_allowed (layout_of region.version) region.names c.into_parts-parts.ensures.region.names_are));
       text_is =
           told_text files.held files.are
           ∙ ap (shown c.names.result.now) files.files_are
@@ -104,9 +106,9 @@ pub returns-clause-untouched : goal.returns-clause-untouched
 returns-clause-untouched g c =
     let old = g.T.Bench.state c.args.bench.now in
     let then = (g.T.Bench.state c.give_back.new.self).told in
-    let region = c.in_ok-opened.opened.region in
+    let region = c.in_ok-restored.restored.region in
     if_told old.told (λ was. ¬ (IsGood was.parts) → TellsOf (IsUntouched was) then) (λ was told bad.
-    let recovery = told_at old.told (λ holding. IsRecovered holding.parts region.geometry.page region.geometry.entries region.names region.next c.in_ok-opened.found) was told c.in_ok-opened.ensures.recovered in
+    let recovery = told_at old.told (λ holding. IsRecovered holding.parts region.geometry.page region.geometry.entries region.names region.next c.in_ok-restored.restored.found) was told c.in_ok-restored.ensures.recovered in
     absurd (bad (record { readable = recovery.readable; long = recovery.long; fits = recovery.log.fits })))
 
 pub returns-clause-standing : goal.returns-clause-standing
@@ -116,13 +118,13 @@ returns-clause-standing g c =
     let old = g.T.Bench.state c.args.bench.now in
     let mid = g.T.Bench.state c.recover_region.new.bench in
     let then = (g.T.Bench.state c.give_back.new.self).told in
-    let made = c.in_ok-opened.ensures in
-    let region = c.in_ok-opened.opened.region in
-    let backing = c.in_ok-opened.opened.stores.items in
+    let made = c.in_ok-restored.ensures in
+    let region = c.in_ok-restored.restored.region in
+    let backing = c.in_ok-restored.restored.stores.items in
     let back = c.into_parts-parts.result.items in
     let same : map history back ≡ map history region.parts.items = ap (λ parts. map history parts.items) c.into_parts-parts.ensures.parts in
     if_told old.told (λ was. HasHeader was.parts → TellsOf (StandsAsBefore was) then) (λ was told readable.
-    let recovery = told_at old.told (λ holding. IsRecovered holding.parts region.geometry.page region.geometry.entries region.names region.next c.in_ok-opened.found) was told made.recovered in
+    let recovery = told_at old.told (λ holding. IsRecovered holding.parts region.geometry.page region.geometry.entries region.names region.next c.in_ok-restored.restored.found) was told made.recovered in
     let files = told_at old.told (λ holding. HoldFiles (map held backing) (files_named holding.parts region.names holding.stores)) was told made.files in
     let now = present (map history region.parts.items) (told_at old.told (λ holding. All (λ h. 0 < length h) (map history region.parts.items)) was told made.tell) in
     let now_are = subst (λ row. AreNow row now.states) (sym same) now.are in
@@ -132,8 +134,9 @@ returns-clause-standing g c =
           c.give_back.ensures.told now.states files.held now_are (subst (λ row. AreNow row files.held) (sym c.show-report.ensures.histories) files.are)
           ∙ back_is old mid region.names was made.lent c.requires.at_home.home told now.states files.held;
       is_so =
-          recovered_stands c.images_stand_for_files.ensures.files was region.geometry.page region.geometry.entries region.next region.names c.in_ok-opened.found now.states files.held recovery
-          (row_tells_at (map history back) (IsAtRest mount_layout region.geometry.page region.geometry.entries region.names region.next) now.states now_are (region_as c.in_ok-opened.opened.version c.into_parts-parts.ensures.region).tells) files.files_are files.quiet
+          recovered_stands c.images_stand_for_files.ensures.files was region.geometry.page region.geometry.entries region.next region.names c.in_ok-restored.restored.found now.states files.held region.version
+          (told_at old.told (λ holding. region.version ≡ version_in (head_image holding.parts)) was told made.version) recovery
+          (row_tells_at (map history back) (IsAtRest (layout_of region.version) region.geometry.page region.geometry.entries region.names region.next) now.states now_are c.into_parts-parts.ensures.region.tells) files.files_are files.quiet
           (home_distinct old was (g.met.T.Bench.named c.args.bench.now) told c.requires.at_home.home)
           (row_tells_at (map history region.parts.items) (λ now. line_counts now ≡ line_counts was.parts) now.states now.are (told_at old.told (λ holding. RowTells (map history region.parts.items) (λ now. line_counts now ≡ line_counts holding.parts)) was told made.lines))
           (sym (states_many (map held backing) files.held files.are ∙ length-map backing held ∙ made.one_each))

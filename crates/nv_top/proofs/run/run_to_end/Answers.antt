@@ -1,6 +1,7 @@
 use Rattle.std.proofs.Common.{arith, ◌+◌, ◌≡◌, ◌<◌, ◌∙◌, ℕ, List, All, Some, length, map, refl, sym, ap, subst}
 use Rattle.std.specs.Prelude.{IfOk, IfSome, IsErr, sum_by}
 use Rattle.nv_top.proofs.RanLemmas.{told_as_failed}
+use Rattle.nv_plain.specs.Layouts.{mount_version}
 use Rattle.nv_plain.specs.Faults.{Rose}
 use Rattle.nv_plain.specs.Faults.{saturated}
 use Rattle.nv_bench.specs.Benches.{BenchState}
@@ -165,7 +166,7 @@ returns-clause-ran g c =
                 faithful = over.faithful;
                 plain = over.plain;
                 text_is = over.text_is;
-                left = leaves old mid region.names holding made.lent c.requires.at_home.home is (Some _) history held _ came.parts.items came.stores.items after_it.told (c.run_region-parts.ensures.many ∙ made_many history region.parts.items _ parts (told_at old.told _ holding is made.lines)) over.left c.give_back.ensures.told;
+                left = leaves old mid region.names holding made.lent c.requires.at_home.home is mount_version (Some _) history held _ came.parts.items came.stores.items after_it.told (c.run_region-parts.ensures.many ∙ made_many history region.parts.items _ parts (told_at old.told _ holding is made.lines)) over.left c.give_back.ensures.told;
                 page_is = over.page_is;
                 entries_is = over.entries_is;
                 next_is = over.next_is;

@@ -134,7 +134,7 @@ returns-clause-never g c why is basis begins named =
       closed = ran.3;
     } in
     never_refused basis trace mount pass zero _ _ parts held sums came.placed came.tail over c.power_leaves_an_image.ensures c.images_stand_for_files.ensures.good
-    c.a_header_has_one_answer.ensures.read many c.args.options.image left home.told off.told
+    c.a_header_has_one_answer.ensures.not_unread many c.args.options.image left home.told off.told
     (λ now disks now_are disks_are. c.give_back.ensures.told now disks now_are disks_are
     ∙ ap (λ (s : BenchState). told_back now disks s) c.run_schedule-closed.ensures.armed
     ∙ ap (λ (told : _). option_map (λ (holding : Holding). home_with holding start.lent now disks) told) told_is

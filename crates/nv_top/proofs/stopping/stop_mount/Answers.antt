@@ -232,7 +232,7 @@ returns-clause-ran g c =
       turns = recovery.turns;
       settled = λ armed. subst (λ settled. IsSettledStop settled last.faults told) at_last (counted_settled off.faults last.faults last.settled told (omega (arith, same)) recovery.cause);
       cause = λ same. absurd (omega (arith, same, ap (λ (s : BenchState). s.arms) recovery.back, ap (λ (s : BenchState). s.arms) power, ap (λ (s : BenchState). s.arms) taken, ap (λ (s : BenchState). s.arms) c.arm.ensures));
-      never = λ why is basis counts begun. never basis counts begun c.images_stand_for_files.ensures.good c.a_header_has_one_answer.ensures.read why (recovery.refused why is);
+      never = λ why is basis counts begun. never basis counts begun c.images_stand_for_files.ensures.good c.a_header_has_one_answer.ensures.not_unread why (recovery.refused why is);
       life = λ basis counts begun. stopped_recovered (TellsRounds failed c.args.plan.worker) basis stream.all stream.shown counts start.told off.told last.told c.images_follow_calls.ensures.quiet
           (subst (λ told. IfSome told IsQuietHolding) (sym powers) (quiet_after c.args.plan.image home.told c.power_leaves_an_image.ensures whole)) recovery.standing (at_off basis counts begun);
       ran = IfOk-weaker told
