@@ -1,13 +1,14 @@
 //! Tests of openings.
 ghost use Rattle.std.specs.Prelude.{◌≡◌, [], false, true, length, IfOk, IfSome, OnOk};
-ghost use Rattle.nv_plain.specs.Layouts.{version_1};
+ghost use Rattle.nv_plain.specs.Layouts.{mount_layout};
 ghost use Rattle.nv_open.specs.Adding.{AreWanted};
 ghost use Rattle.nv_bench.specs.Holding.{IsQuietHolding};
 ghost use Rattle.nv_bench.specs.MemBench.{mem_state};
 
 use nv_bench::{Bench, MemBench, power_leaves_an_image};
 use nv_header::Names;
-use nv_open::{Opened, open, recover_region};
+use nv_open::{Opened, Restored, open, recover_region};
+use nv_plain::limits::Version;
 use nv_plain::{Bytes, NoMemory};
 use nv_pmem::{Geometry, MemPart, Pick};
 use nv_store::{Backing, MemStore, StoreFault};
@@ -26,7 +27,7 @@ fn line(words: [u64; 6]) -> [u8; 64] {
     line
 }
 
-// The header's part of a region with a page of 64 bytes, two entries, the file `a` and tail 0.
+// The header's part of a region of version 1 with a page of 64 bytes, two entries, the file `a` and tail 0.
 fn header(magic: u64) -> [u8; 1152] {
     let mut part = [0; 1152];
     part[..64].copy_from_slice(&line([magic, 1, 64, 2, 1, 0]));
@@ -44,7 +45,7 @@ fn entry(words: [u64; 6], data: [u8; 3]) -> [u8; 128] {
 
 // The names `b` and `a`.
 fn wanted_names(alloc: Global) -> Result<Names, NoMemory>
-    ensures { IfOk result (AreWanted version_1) }
+    ensures { IfOk result (AreWanted mount_layout) }
 {
     let mut names = Names::new(alloc);
     names.push(Bytes::from_vec(Vec::from_slice(alloc, b"b")?))?;
@@ -59,19 +60,29 @@ fn contents(store: &mut MemStore) -> Result<[u8; 8], StoreFault> {
     Ok(bytes)
 }
 
-#[test]
-fn recovers_two_groups(rt: HostRuntime) -> Result<(), Fail> {
+// A bench of a region of version 1 with two groups, which write `abcde` over the dots of the file `a`.
+fn with_two_groups(alloc: Global) -> Result<MemBench, NoMemory>
+    ensures closed { IfOk result (λ bench. (mem_state bench).is_open ≡ false) }
+    ensures home { IfOk result (λ bench. (mem_state bench).lent ≡ []) }
+    ensures quiet { IfOk result (λ bench. IfSome (mem_state bench).told IsQuietHolding) }
+{
     let first = entry([1, 0, 0, 3, 1, 0], *b"abc");
     let second = entry([2, 0, 3, 2, 1, 1], *b"de.");
-    let mut bench = MemBench::of(
-        rt.alloc(),
-        &[&header(MAGIC)[..], &first[..], &second[..]],
-        &[("b", b"other"), ("a", b"......")],
-        &[],
-    )?;
-    let (opened, found) = recover_region(rt.alloc(), &mut bench)?;
-    let Opened { region, mut stores } = opened;
+    let parts = [&header(MAGIC)[..], &first[..], &second[..]];
+    MemBench::of(alloc, &parts, &[("b", b"other"), ("a", b"......")], &[])
+}
+
+// A recovery leaves the version.
+#[test]
+fn recovers_two_groups(rt: HostRuntime) -> Result<(), Fail> {
+    let mut bench = with_two_groups(rt.alloc())?;
+    let Restored {
+        region,
+        mut stores,
+        found,
+    } = recover_region(rt.alloc(), &mut bench)?;
     let geometry = region.geometry();
+    assert_eq!(rt; region.version(), Version::One);
     assert_eq!(rt;
         (
             (found.first, found.next, region.next()),
@@ -83,6 +94,38 @@ fn recovers_two_groups(rt: HostRuntime) -> Result<(), Fail> {
     );
     for store in &mut stores {
         assert_eq!(rt; contents(store), Ok(*b"abcde.##"));
+    }
+    Ok(())
+}
+
+// An opening carries it over, with its sizes, its names, the file that it stood for and the number that its log goes on with.
+#[test]
+fn carries_a_region_over(rt: HostRuntime) -> Result<(), Fail> {
+    let mut bench = with_two_groups(rt.alloc())?;
+    let mut first = opened(rt.alloc(), &mut bench)?;
+    let (region, geometry) = (&first.region, first.region.geometry());
+    assert_eq!(rt;
+        (
+            region.version(),
+            region.next(),
+            region.names().len(),
+            geometry.page,
+            geometry.entries
+        ),
+        (Version::Two, 2, 2, 64, 2)
+    );
+    let held = [*b"abcde.##", *b"other###"];
+    for (store, held) in first.stores.iter_mut().zip(held) {
+        assert_eq!(rt; contents(store), Ok(held));
+    }
+    close(&mut bench, first)?;
+    let mut again = opened(rt.alloc(), &mut bench)?;
+    assert_eq!(rt;
+        (again.region.version(), again.region.next()),
+        (Version::Two, 2)
+    );
+    for (store, held) in again.stores.iter_mut().zip(held) {
+        assert_eq!(rt; contents(store), Ok(held));
     }
     Ok(())
 }
