@@ -31,8 +31,8 @@ ONLY_READ = b"file a\nfd 0 a r\n0 pread 0 0 5\n"
 READ = b"0 0 pread 0 0 5 = 68656c6c6f\nfile a 5 68656c6c6f\nend 1 0 0\n"
 USAGE = (b"error usage\n", 1)
 DEVICE = (b"error device\n", 5)
-LOOKED = (b"region 1 64 16 1 1\nname 0 a\nend 0 0\n", 0)
-FILES_LOOKED = (b"region 1 64 16 1 1\nname 0 a\nfile a 5 68656c6c6f\nend 0 0\n", 0)
+LOOKED = (b"region 2 64 16 1 1\nname 0 a\nend 0 0\n", 0)
+FILES_LOOKED = (b"region 2 64 16 1 1\nname 0 a\nfile a 5 68656c6c6f\nend 0 0\n", 0)
 KEPT = (b"recovered 1 1 0\nfile a 5 68656c6c6f\n", 0)
 NO_HEADER = (b"error region truncated 0 18\n", 7)
 # Killed, or without room, before its region was formatted, a run leaves one with no magic or no parts.
@@ -62,7 +62,7 @@ def lives(program, folder):
     # A region of other sizes is another region; the files stay.
     os.rename(folder + "/region", folder + "/region.away")
     yield "other sizes", call(program, [folder, *RUN, "--page", "4096", "--entries", "2"], AGAIN), (READ, 0)
-    yield "their region", call(program, [folder, "look"]), (b"region 1 4096 2 1 0\nname 0 a\nend 0 0\n", 0)
+    yield "their region", call(program, [folder, "look"]), (b"region 2 4096 2 1 0\nname 0 a\nend 0 0\n", 0)
 
 
 def sizes(program, folder):
@@ -158,13 +158,13 @@ def obstacles(program, folder):
         ("a file that is a pipe", replaced(file, os.mkfifo), DEVICE),
         ("a region that another has", locked(folder + "/region"), DEVICE),
         ("a header of 17 lines and a part of one", resized(header, 1151), (b"error region truncated 17 18\n", 7)),
-        ("a part of one line and a part of one", resized(part, 125), (b"error region truncated 49 50\n", 7)),
+        ("a part of one line and a part of one", resized(part, 125), (b"error region truncated 305 306\n", 7)),
     ):
         with obstacle:
             yield f"{name}, a run", call(program, [folder, *RUN], HELLO), wanted
             yield f"{name}, a recovery", call(program, [folder, "recover"]), wanted
         yield f"{name}, taken away", call(program, [folder, "recover"]), KEPT
-    for name, path, size in ("header", header, 1159), ("part", part, 135):
+    for name, path, size in ("header", header, 17543), ("part", part, 135):
         with resized(path, size):
             yield f"a {name} with bytes behind its last line", call(program, [folder, "recover"]), KEPT
 
@@ -262,13 +262,13 @@ def guarded(program, folder):
 
 def remains(program, folder):
     """A header that is no region's: of some bytes a run leaves it, of zeros or of a header's fields without the magic it makes a region."""
-    fields = struct.pack("<8Q", 0, 1, 64, 16, 0, 0, 0, 0)
+    fields = struct.pack("<8Q", 0, 2, 64, 16, 0, 0, 0, 0)
     os.mkdir(folder + "/region")
     for name, held, wanted in (
         ("bytes and no line", b"notes", DEVICE),
         ("zeros and then a byte, and no line", bytes(62) + b"!", DEVICE),
         ("zeros and no line", bytes(63), (REPORT, 0)),
-        ("a header that was cut short while it was made", fields + bytes(1088), (REPORT, 0)),
+        ("a header that was cut short while it was made", fields + bytes(17472), (REPORT, 0)),
     ):
         for part in region_of(folder):
             os.unlink(f"{folder}/region/{part}")

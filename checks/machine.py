@@ -192,7 +192,7 @@ class Mount:
         self.batch = min(sizes["batch"], self.entries)
         self.buffers = min(sizes["cache"], self.all_pages)
         self.fuse = Fuse()
-        self.parts = [Part(self.fuse, 18), *[Part(self.fuse, 1 + self.page // 64) for _ in range(self.entries)]]
+        self.parts = [Part(self.fuse, 274), *[Part(self.fuse, 1 + self.page // 64) for _ in range(self.entries)]]
         self.stores = [Store(self.fuse) for _ in range(files)]
         self.words = [0] * self.page_word(self.all_pages)
         for buffer in range(self.buffers):
@@ -324,7 +324,7 @@ class Pass:
         if call.end > self.mount.page * self.mount.pages:
             raise Refused("too far")
         pages = self.mount.pages_of(call.file, call.at, call.end)
-        if len(pages) > min(16, self.mount.entries):
+        if len(pages) > min(64, self.mount.entries):
             raise Refused("too long")
         if not pages:
             yield from self.call_of_no_bytes(call)

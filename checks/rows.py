@@ -49,7 +49,10 @@ RUNS = [
     # Bytes 62 and 63 are the last ones of a page, and the next two lie behind it.
     ("run --noworker", A + "0 pwrite 0 62 01020304|0 pread 0 60 9|",
      f"0 0 pwrite 0 62 4 = 4|1 0 pread 0 60 9 = 000001020304|file a 66 {'00' * 62}01020304|end 2 0 0|"),
-    # Writes of 16 pages are made, and longer ones refused, whatever their page is that isn't whole.
+    # Writes of 64 pages are made, and longer ones refused.
+    ("run --noworker --entries 64 --pages 65", A + "0 pfill 0 0 4096 7|0 pfill 0 0 4097 7|",
+     f"0 0 pwrite 0 0 4096 = 4096|refused 0 pwrite 0 0 4097: too long|file a 4096 {'07' * 4096}|end 1 1 0|"),
+    # So are those of as many pages as the log has entries, whatever their page is that isn't whole.
     ("run --noworker", A + "0 pfill 0 0 1024 7|0 pfill 0 0 1025 7|0 pfill 0 1 1024 7|",
      "0 0 pwrite 0 0 1024 = 1024|refused 0 pwrite 0 0 1025: too long|refused 0 pwrite 0 1 1024: too long|"
      f"file a 1024 {'07' * 1024}|end 1 2 0|"),

@@ -38,7 +38,7 @@ BAD_FIELDS = [
     ("unknown", ["0 pfill 1 0 1 2", "0 fsync 1"]),
     ("number", ["0 fsync 00", "8 fsync 0"]),
     ("repeat", ["file a"]),
-    ("name", ["file A", "file .a", "file a/b", "file " + "a" * 57]),
+    ("name", ["file A", "file .a", "file a/b", "file " + "a" * 249]),
     ("number", ["fd 0 a rw", "fd 2 a rw", "fd 64 a rw", "fd 01 a rw", "fd x b y"]),
     ("name", ["fd 1 B y"]),
     ("unknown", ["fd 1 b y"]),
@@ -79,9 +79,9 @@ FORMS = [
     (SCHED, "steps 0", None),
 ]
 
-SIXTEEN_FILES = "".join(f"file f{k}\n" for k in range(16))
-ALL_FDS = "".join(f"fd {k} f{k % 16} r\n" for k in range(64))
-EACH_FILE = "".join(f"file f{k} 0 -\n" for k in range(16)) + "end 0 0 0\n"
+ALL_FILES = "".join(f"file f{k}\n" for k in range(64))
+ALL_FDS = "".join(f"fd {k} f{k} r\n" for k in range(64))
+EACH_FILE = "".join(f"file f{k} 0 -\n" for k in range(64)) + "end 0 0 0\n"
 
 # Lines in no form behind the head of a schedule.
 NO_SCHEDULE = [
@@ -111,7 +111,8 @@ REPORTS = [
      "0 0 pwrite 0 0 5 = 5\n1 0 pread 0 0 16 = 68656c6c6f\n2 0 pread 0 9 0 = -\n3 0 fsync 0 = 0\nfile a 5 68656c6c6f\nend 4 0 0\n"),
     ("a fill is a write", RUN, "file a\nfd 0 a w\n0 pfill 0 7 3 255\n",
      "0 0 pwrite 0 7 3 = 3\nfile a 10 00000000000000ffffff\nend 1 0 0\n"),
-    ("sixteen files and sixty-four descriptors", RUN, SIXTEEN_FILES + ALL_FDS, EACH_FILE),
+    ("the longest name", RUN, f"file {'a' * 248}\n", f"file {'a' * 248} 0 -\nend 0 0 0\n"),
+    ("sixty-four files and as many descriptors", RUN, ALL_FILES + ALL_FDS, EACH_FILE),
     ("the largest input", RUN, TWO_CALLS + "#" * (67_108_864 - len(TWO_CALLS)), TWO_ANSWERS),
     ("the longest schedule", SCHED, LONGEST, NOTHING),
 ]
@@ -128,8 +129,8 @@ def refusals():
     yield from (told(RUN, HEAD + line + behind, 3, why) for why, lines in BAD_FIELDS for line in lines)
     yield from (told(RUN, f"{HEAD}{third}\n{line}\n", 4, why) for third in ["0 fsync 0", "round"] for line, why in LATE)
     yield from (told(words, f"{HEAD}{line}\n", 3, why) for words, line, why in FORMS)
-    yield told(RUN, SIXTEEN_FILES + "file A\n", 17, "many")
-    yield told(RUN, SIXTEEN_FILES + ALL_FDS + "fd x B y\n", 81, "many")
+    yield told(RUN, ALL_FILES + "file A\n", 65, "many")
+    yield told(RUN, ALL_FILES + ALL_FDS + "fd x B y\n", 129, "many")
     yield from (told(SCHED, HEAD + line, 3, "form") for line in NO_SCHEDULE)
     for first, number in [("steps 0\n", 4), ("0 fsync 0\nsteps w:done\n", 5)]:
         yield from (told(SCHED, HEAD + first + line, number, why) for why, lines in BEHIND for line in lines)
