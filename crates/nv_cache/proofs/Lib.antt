@@ -1,4 +1,5 @@
 pub mod AdvanceLaws
+pub mod AskedLaws
 pub mod BufferLaws
 pub mod EndLaws
 pub mod KeepsLaws

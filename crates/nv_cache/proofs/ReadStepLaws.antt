@@ -25,21 +25,21 @@ use Rattle.nv_mirror.specs.Visits.{read_released}
 use Rattle.nv_mirror.proofs.AlteredCalls.{taken_same}
 use Rattle.nv_mirror.proofs.PartLaws.{device_faults, front_tells, load_tells, pageless_tells, release_tells}
 use Rattle.nv_mirror.proofs.StepLaws.{between_self, no_fault, taken_by}
-use Rattle.nv_op.specs.Ops.{opened_by}
+use Rattle.nv_plain.specs.declared.call.FileCall.{FileCall}
 use Rattle.nv_cache.specs.declared.read.RunningRead.{RunningRead}
 use Rattle.nv_cache.specs.declared.read.RunningRead.TheVariants.{Pageless, Front, Search, Load, TakePlace, Release, Over}
 use Rattle.nv_cache.specs.ReadSteps.{HasMadeOne, answer_at, read_answer, read_fault, read_place}
 
-pub front_one : (m next : FrontMachine) (start now new : PassState) (found : ℕ) → front.IsOpen m.control → front.IsUnderWay m start now
-    → Postcondition now (opened_by (front.front_opens m)) (core_op_of now.view (front.front_op m)) found new → next ≡ front.front_after now.view.opened.sizes m found → HasMadeOne (Front m) (Front next) now new
-front_one m next start now new found runs way is next_is =
+pub front_one : (m next : FrontMachine) {opens : Option FileCall} (start now new : PassState) (found : ℕ) → front.IsOpen m.control → front.IsUnderWay m start now
+    → Postcondition now opens (core_op_of now.view (front.front_op m)) found new → next ≡ front.front_after now.view.opened.sizes m found → HasMadeOne (Front m) (Front next) now new
+front_one m next {opens} start now new found runs way is next_is =
     let told = front_tells device_fault device_faults m next start now new found runs way is next_is in
     record { step = told.step; taken = told.taken; kind = told.kind; fault = told.fault; place = told.placed }
 
-pub pageless_one : (m next : PagelessMachine) (start now new : PassState) (found : ℕ) → pageless.IsOpen m.control → pageless.IsUnderWay m start now
-    → Postcondition now (opened_by (pageless.pageless_opens m)) (core_op_of now.view (pageless.pageless_op m.control)) found new → next.control ≡ pageless.pageless_after m.control found
+pub pageless_one : (m next : PagelessMachine) {opens : Option FileCall} (start now new : PassState) (found : ℕ) → pageless.IsOpen m.control → pageless.IsUnderWay m start now
+    → Postcondition now opens (core_op_of now.view (pageless.pageless_op m.control)) found new → next.control ≡ pageless.pageless_after m.control found
     → HasMadeOne (Pageless m) (Pageless next) now new
-pageless_one m next start now new found runs way is next_is =
+pageless_one m next {opens} start now new found runs way is next_is =
     let told = pageless_tells device_fault device_faults m next start now new found runs way is next_is in
     record { step = told.step; taken = told.taken; kind = told.kind; fault = told.fault; place = told.placed }
 

@@ -1,15 +1,17 @@
 -- Running reads: each part goes on with its call as it makes a step, and the next one goes on where it ends.
 use Rattle.std.proofs.Common.{◌≡◌, ℕ, nat_lt, List, [], length, refl, sym, ap, subst, ◌∙◌, arith}
 use Rattle.std.specs.Prelude.{Some, None, Result, Ok, Err}
+use Rattle.nv_plain.specs.Made.{reply_from}
 use Rattle.nv_plain.specs.declared.call.FileCall.{FileCall}
-use Rattle.nv_plain.specs.declared.call.FileCall.TheVariants.{Read}
+use Rattle.nv_plain.specs.declared.call.FileCall.TheVariants.{Read, Write, Readv, Writev, Sync}
 use Rattle.nv_plain.specs.declared.call.Reply.{Reply}
 use Rattle.nv_plain.specs.declared.call.Reply.TheVariants.{Bytes}
 use Rattle.nv_core.specs.invariant.ControlFacts.{IsPage}
-use Rattle.nv_core.specs.state.Passes.{at_of, file_of, len_of}
+use Rattle.nv_core.specs.state.Passes.{at_of, file_of, len_of, plain_call}
 use Rattle.nv_core.proofs.state.PageLaws.{read_within}
 use Rattle.nv_table.specs.state.Opened.{Opened}
 use Rattle.nv_table.specs.state.States.{PassState}
+use Rattle.nv_table.specs.state.Views.{pass_of}
 use Rattle.nv_table.specs.steps.StepContracts.{Postcondition}
 use Rattle.nv_op.specs.Ops.{call_asked, core_op_of}
 use Rattle.nv_mirror.specs.declared.answers.Refusal.{Refusal}
@@ -24,7 +26,7 @@ use Rattle.nv_mirror.specs.declared.release.ReleaseMachine.{ReleaseMachine}
 use Rattle.nv_mirror.specs.declared.release.ReleaseControl.TheVariants as releases
 use Rattle.nv_mirror.specs.declared.visit.VisitMachine.{VisitMachine}
 use Rattle.nv_mirror.specs.declared.visit.VisitControl.TheVariants as visits
-use Rattle.nv_mirror.specs.Answers.{IsPlacedAs, IsReadPlaced}
+use Rattle.nv_mirror.specs.Answers.{IsPlacedAs, IsListPlaced}
 use Rattle.nv_mirror.specs.Controls.{IsReplyTo, Told}
 use Rattle.nv_mirror.specs.Fronts as front
 use Rattle.nv_mirror.specs.Fronts.{front_after, front_call_of}
@@ -35,6 +37,7 @@ use Rattle.nv_mirror.specs.Releases as release
 use Rattle.nv_mirror.specs.Releases.{release_after, release_call_of, release_op}
 use Rattle.nv_mirror.specs.Visits as visit
 use Rattle.nv_mirror.specs.Visits.{Carries, IsLoadOf, load_of, visit_call_of}
+use Rattle.nv_mirror.proofs.AskedLaws.{asked_then}
 use Rattle.nv_mirror.proofs.EndsLaws.{call_over}
 use Rattle.nv_mirror.proofs.PartLaws.{front_keeps, release_gives}
 use Rattle.nv_mirror.proofs.ReadParts.{load_of_still, taken_opened, told_still}
@@ -112,13 +115,13 @@ load_goes of m next call list room room_then start was now stepped keeps goes wa
     }
 
 pub place_goes : (m : VisitMachine) (next : ReleaseMachine) (found : ℕ) (call : FileCall) (list room room_then : List ℕ) (start was now : PassState) → next ≡ visit.read_released m found → release.IsUnderWay next start now
-    → IsReadPlaced m.file m.at list start.view now.view record { place = next.place; len = m.copied } → IsUnderWay call (TakePlace m) list room start was → IsUnderWay call (Release next m.copied) list room_then start now
+    → IsListPlaced (pass_of now.view).asked list start.view now.view record { place = next.place; len = m.copied } → IsUnderWay call (TakePlace m) list room start was → IsUnderWay call (Release next m.copied) list room_then start now
 place_goes m next found call list room room_then start was now is goes placed way = record {
   asks = way.asks;
   stands = (
     ap release_call_of is ∙ way.stands.0,
     goes,
-    subst (λ c. IsReadPlaced (file_of c) (at_of c) list start.view now.view record { place = next.place; len = m.copied }) way.stands.0 placed,
+    placed,
   );
 }
 
@@ -130,8 +133,9 @@ release_goes m next copied found call list room room_then start was now runs ste
       stands = (
         ap release_call_of is ∙ way.stands.0,
         goes way.stands.1,
-        subst (λ (n : ReleaseMachine). IsReadPlaced (file_of call) (at_of call) list start.view now.view record { place = n.place; len = copied }) (sym is)
-            (told_still (file_of call) (at_of call) list start was now (record { place = m.place; len = copied }) gives.0 found (subst (λ op. Postcondition was None op found now) gives.1 step) way.stands.2),
+        subst (λ (n : ReleaseMachine). IsListPlaced (pass_of now.view).asked list start.view now.view record { place = n.place; len = copied }) (sym is)
+            (subst (λ asked. IsListPlaced asked list start.view now.view record { place = m.place; len = copied }) (sym (asked_then None _ found was now step))
+            (told_still (pass_of was.view).asked list start was now (record { place = m.place; len = copied }) gives.0 found (subst (λ op. Postcondition was None op found now) gives.1 step) way.stands.2)),
       );
     }
 
@@ -174,19 +178,22 @@ module _ (m : VisitMachine) (list room : List ℕ) (start now : PassState) (way 
 -- ---- where a part is over
 
 -- a read of no bytes is answered by none
-no_reply : (call : FileCall) (list : List ℕ) (start now : PassState) (place : ℕ) → call ≡ Read (file_of call) (at_of call) (length list) → len_of call ≡ 0 → Told call (Some place) start now
-    → IsReadPlaced (file_of call) (at_of call) list start.view now.view record { place = place; len = 0 }
-no_reply call list start now place asks none told = record {
+no_bytes : (asked : FileCall) (file at len : ℕ) (reply : Reply) → plain_call asked ≡ Read file at len → len ≡ 0 → IsReplyTo asked reply → reply ≡ reply_from asked (Bytes [])
+no_bytes (Read file at len) file' at' len' reply makes none replies = replies (ap (nat_lt 0) (ap len_of makes ∙ none))
+no_bytes (Readv file at lens) file' at' len' reply makes none replies = replies (ap (nat_lt 0) (ap len_of makes ∙ none))
+no_bytes (Write file at bytes) file' at' len' reply makes none replies = absurd cc
+no_bytes (Writev file at parts) file' at' len' reply makes none replies = absurd cc
+no_bytes (Sync file) file' at' len' reply makes none replies = absurd cc
+
+no_reply : (asked call : FileCall) (list : List ℕ) (start now : PassState) (place : ℕ) → plain_call asked ≡ call → call ≡ Read (file_of call) (at_of call) (length list) → len_of call ≡ 0 → Told asked (Some place) start now
+    → IsListPlaced asked list start.view now.view record { place = place; len = 0 }
+no_reply asked call list start now place makes asks none told = record {
   bytes = [];
   rest = list;
   list_is = refl;
   count = refl;
-  placed = subst (λ c. IsPlacedAs start.view now.view c (Bytes []) place) asks (subst (λ reply. IsPlacedAs start.view now.view call reply place) (empty call told.0 asks none told.1) told.2);
+  placed = subst (λ reply. IsPlacedAs start.view now.view asked reply place) (no_bytes asked _ _ _ told.0 (makes ∙ asks) (ap len_of (sym asks) ∙ none) told.1) told.2;
 }
-  where
-    empty : (c : FileCall) (reply : Reply) → c ≡ Read (file_of c) (at_of c) (length list) → len_of c ≡ 0 → IsReplyTo c reply → reply ≡ Bytes []
-    empty (Read file at len) reply is none replies = replies (ap (nat_lt 0) none)
-    empty c reply is none replies = absurd (cc)
 
 pageless_placed : (m : PagelessMachine) (place : ℕ) (call : FileCall) (list room : List ℕ) (start now : PassState) → m.control ≡ controls.Over (Ok place) → IsUnderWay call (Pageless m) list room start now
     → IsUnderWay call (Over (Ok record { place = place; len = 0 })) list room start now
@@ -195,7 +202,8 @@ pageless_placed m place call list room start now control way =
       asks = way.asks;
       stands = (
         call_over (call_asked m.asked) call _ None (Some place) start now way.stands.0 called refl refl,
-        no_reply call list start now place way.asks (ap len_of (sym way.stands.0) ∙ way.stands.1.0.none) (subst (λ c. Told c (Some place) start now) way.stands.0 called.told),
+        subst (λ asked. IsListPlaced asked list start.view now.view record { place = place; len = 0 }) (sym called.asks)
+            (no_reply called.asked call list start now place (called.makes ∙ way.stands.0) way.asks (ap len_of (sym way.stands.0) ∙ way.stands.1.0.none) called.told),
       );
     }
 

@@ -1,18 +1,19 @@
 -- Running reads: a read of a file, from its first step to its end.
 use Rattle.std.specs.Prelude.{◌≡◌, ℕ, ◌+◌, ◌-◌, ◌*◌, ◌^◌, Bool, true, false, if◌then◌else◌, List, length}
 use Rattle.nv_plain.specs.declared.call.FileCall.{FileCall}
-use Rattle.nv_plain.specs.declared.call.FileCall.TheVariants.{Read}
+use Rattle.nv_plain.specs.declared.call.FileCall.TheVariants.{Read, Sync}
 use Rattle.nv_core.specs.state.Passes.{at_of, file_of}
 use Rattle.nv_core.specs.state.Words.{Sizes}
 use Rattle.nv_table.specs.state.States.{PassState}
+use Rattle.nv_table.specs.state.Views.{pass_of}
 use Rattle.nv_op.specs.Ops.{call_asked}
 use Rattle.nv_mirror.specs.declared.front.FrontControl.{FrontControl}
 use Rattle.nv_mirror.specs.declared.front.FrontControl.TheVariants.{GiveBack, Over as FrontOver}
 use Rattle.nv_mirror.specs.declared.front.FrontMachine.{FrontMachine}
 use Rattle.nv_mirror.specs.declared.visit.VisitControl.TheVariants as visits
 use Rattle.nv_mirror.specs.declared.visit.VisitMachine.{VisitMachine}
-use Rattle.nv_mirror.specs.Answers.{HasTold, IsReadPlaced, place_in_answer, refusal_in_answer}
-use Rattle.nv_mirror.specs.Controls.{IsOver}
+use Rattle.nv_mirror.specs.Answers.{HasTold, IsListPlaced, place_in_answer, refusal_in_answer}
+use Rattle.nv_mirror.specs.Controls.{IsMadeOver, asked_at}
 use Rattle.nv_mirror.specs.Fronts as front
 use Rattle.nv_mirror.specs.Fronts.{front_call_of, front_measure_at}
 use Rattle.nv_mirror.specs.Loads as load
@@ -36,7 +37,7 @@ use Rattle.nv_cache.specs.Ways.{search_for}
 abbrev pub IsSearchOf : SearchMachine → VisitMachine → Type 0
 IsSearchOf m visit = m ≡ record (search_for (load_of visit) visit.from) { tries = m.tries; control = m.control }
 
--- Its call has made some steps since a start, or is over; the bytes of the page that it loads lie in a room, as far as it has them.
+-- What is made as its call has made some steps since a start, or is over; the bytes of the page that it loads lie in a room, as far as it has them.
 abbrev pub StandsAt : FileCall → RunningRead → (list room : List ℕ) → (start now : PassState) → Type 0
 StandsAt call (Pageless m) list room start now = (call_asked m.asked ≡ call) × pageless.IsUnderWay m start now
 StandsAt call (Front m) list room start now = (front_call_of m ≡ call) × front.IsUnderWay m start now
@@ -44,9 +45,25 @@ StandsAt call (Search of m) list room start now = (visit_call_of of ≡ call) ×
 StandsAt call (Load of m) list room start now = (visit_call_of of ≡ call) × visit.Fits now.view.opened.sizes of × IsLoadOf m of × load.IsUnderWay m room start now × Carries of list now
 StandsAt call (TakePlace m) list room start now = (visit_call_of m ≡ call) × (m.control ≡ visits.TakePlace) × visit.IsUnderWay m list start now
 StandsAt call (Release m copied) list room start now =
-    (release_call_of m ≡ call) × release.IsUnderWay m start now × IsReadPlaced (file_of call) (at_of call) list start.view now.view record { place = m.place; len = copied }
+    (release_call_of m ≡ call) × release.IsUnderWay m start now × IsListPlaced (pass_of now.view).asked list start.view now.view record { place = m.place; len = copied }
 StandsAt call (Over result) list room start now =
-    IsOver call (refusal_in_answer result) (place_in_answer result) start now × HasTold (file_of call) (at_of call) list start.view now.view result
+    IsMadeOver call (refusal_in_answer result) (place_in_answer result) start now × HasTold (pass_of now.view).asked list start.view now.view result
+
+-- The plain call that it is made as.
+abbrev pub made_call : RunningRead → FileCall
+made_call (Pageless m) = call_asked m.asked
+made_call (Front m) = front_call_of m
+made_call (Search of m) = visit_call_of of
+made_call (Load of m) = visit_call_of of
+made_call (TakePlace m) = visit_call_of m
+made_call (Release m copied) = release_call_of m
+made_call (Over result) = Sync 0
+
+-- What its call is asked as, once it has begun, or will be.
+abbrev pub asked_in : (asked : FileCall) → RunningRead → (now : PassState) → FileCall
+asked_in asked (Pageless m) now = asked_at asked (pageless.has_begun m.control) now
+asked_in asked (Front m) now = asked_at asked (front.has_begun m.control) now
+asked_in asked read now = (pass_of now.view).asked
 
 -- A read of a call is under way, or over, whose list has as many bytes as the call asks for.
 pub record IsUnderWay (call : FileCall) (read : RunningRead) (list room : List ℕ) (start now : PassState) : Type 0 where

@@ -3,12 +3,12 @@
 ghost use Rattle.std.specs.Prelude.{◌≡◌, ◌≤◌, ◌<◌, ℕ, List, length, true, false};
 ghost use Rattle.nv_plain.specs.declared.call.FileCall.{FileCall};
 ghost use Rattle.nv_plain.specs.declared.call.FileCall.TheVariants.{Read};
-ghost use Rattle.nv_core.specs.state.Passes.{IsAllowed};
+ghost use Rattle.nv_core.specs.state.Passes.{IsAllowed, plain_call};
 ghost use Rattle.nv_pages.specs.Altered.{IsAltered};
 ghost use Rattle.nv_table.specs.invariant.Idle.{IsIdle};
 ghost use Rattle.nv_table.specs.state.Keys.{sizes_of};
 ghost use Rattle.nv_table.specs.state.States.{IsOf, PassState};
-ghost use Rattle.nv_cache.specs.RunningReads.{AreRooms, IsOpen, IsSettled, IsUnderWay, holds_page, needs_rooms, read_measure};
+ghost use Rattle.nv_cache.specs.RunningReads.{AreRooms, IsOpen, IsSettled, IsUnderWay, asked_in, holds_page, needs_rooms, read_measure};
 ghost use Rattle.nv_cache.specs.ReadSteps.{HasMadeOne, IsFresh, read_answer, read_fault, read_place};
 
 use crate::{SearchControl, SearchMachine};
@@ -16,7 +16,7 @@ use nv_mirror::{
     Done, FrontControl, FrontMachine, LoadControl, LoadMachine, PagelessControl, PagelessMachine,
     Refusal, ReleaseControl, ReleaseMachine, VisitMachine,
 };
-use nv_op::Asked;
+use nv_op::{Asked, Asks};
 use nv_pmem::Lines;
 use nv_store::Backing;
 use nv_table::{Board, Layout, Pass};
@@ -57,6 +57,7 @@ impl RunningRead {
         ensures open { IsOpen result }
         ensures bare { needs_rooms result ≡ false }
         ensures fresh { IsFresh (sizes_of layout) (Read file at len) result }
+        ensures asks { (asked : FileCall) (pass : PassState) → asked_in asked result pass ≡ asked }
     {
         let asked = Asked::Read { file, at, len };
         if len == 0 {
@@ -67,7 +68,7 @@ impl RunningRead {
     }
 
     // Makes the next step of its part.
-    fn step<L: Lines, B: Backing>(
+    fn step<A: Asks, L: Lines, B: Backing>(
         &mut self,
         board: &Board<L, B>,
         pass: &mut Pass<L, B>,
@@ -77,16 +78,17 @@ impl RunningRead {
         requires board { IsOf board.now pass.old }
         requires open { IsOpen self.old }
         requires rooms { needs_rooms self.old ≡ true → AreRooms pass.old.view.opened.sizes room.old piece.old }
-        requires way { (call : FileCall) × (list : List ℕ) × (start : PassState) × IsUnderWay call self.old list room.old start pass.old }
+        requires way { (list : List ℕ) × (start : PassState) × IsUnderWay (plain_call A.call) self.old list room.old start pass.old }
         ensures board { IsOf board.now pass.new }
         ensures one { HasMadeOne self.old self.new pass.old pass.new }
         ensures falls { read_measure pass.old.view.opened.sizes self.new < read_measure pass.old.view.opened.sizes self.old }
         ensures bare { needs_rooms self.old ≡ false → needs_rooms self.new ≡ false }
+        ensures asks { asked_in A.call self.new pass.new ≡ asked_in A.call self.old pass.old }
         ensures way { (call : FileCall) (list : List ℕ) (start : PassState) → IsUnderWay call self.old list room.old start pass.old → IsUnderWay call self.new list room.new start pass.new }
     {
         match self {
-            RunningRead::Pageless(m) => m.advance(board, pass),
-            RunningRead::Front(m) => m.advance(board, pass),
+            RunningRead::Pageless(m) => m.advance::<A, L, B>(board, pass),
+            RunningRead::Front(m) => m.advance::<A, L, B>(board, pass),
             RunningRead::Search { search, .. } => search.advance(board, pass),
             RunningRead::Load { load, .. } => load.advance(board, pass, room, piece),
             RunningRead::TakePlace(visit) => {
@@ -99,10 +101,10 @@ impl RunningRead {
         }
     }
 
-    /// Makes the next step, behind the device calls that lie before it. `list` has as many bytes as the read asks for, the same at each advance; the reply comes
+    /// Makes the next step, behind the device calls that lie before it. Its call begins as what was asked, which is made as this read. `list` has as many bytes as the read asks for, the same at each advance; the reply comes
     /// to its front. A read that loads a page needs rooms (`needs_rooms`), each of as many bytes as a page: the page's bytes lie in `room` from one advance to
     /// the next, and `piece` is room for the piece of an entry, and what it has then isn't said. At any other advance both may be empty.
-    pub fn advance<L: Lines, B: Backing>(
+    pub fn advance<A: Asks, L: Lines, B: Backing>(
         &mut self,
         board: &Board<L, B>,
         pass: &mut Pass<L, B>,
@@ -113,15 +115,16 @@ impl RunningRead {
         requires board { IsOf board.now pass.old }
         requires open { IsOpen self.old }
         requires rooms { needs_rooms self.old ≡ true → AreRooms pass.old.view.opened.sizes room.old piece.old }
-        requires way { (call : FileCall) × (start : PassState) × IsUnderWay call self.old list.old room.old start pass.old }
+        requires way { (start : PassState) × IsUnderWay (plain_call A.call) self.old list.old room.old start pass.old }
         ensures board { IsOf board.now pass.new }
         ensures settled { IsSettled self.new }
         ensures one { HasMadeOne self.old self.new pass.old pass.new }
         ensures falls { read_measure pass.old.view.opened.sizes self.new < read_measure pass.old.view.opened.sizes self.old }
         ensures bare { needs_rooms self.old ≡ false → holds_page self.new ≡ false }
+        ensures asks { asked_in A.call self.new pass.new ≡ asked_in A.call self.old pass.old }
         ensures way { (call : FileCall) (start : PassState) → IsUnderWay call self.old list.old room.old start pass.old → IsUnderWay call self.new list.new room.new start pass.new }
     {
-        self.step(board, pass, room, piece);
+        self.step::<A, L, B>(board, pass, room, piece);
         self.settle(board, pass, room, list);
     }
 }

@@ -4,8 +4,9 @@ ghost use Rattle.nv_plain.specs.declared.call.FileCall.{FileCall};
 ghost use Rattle.nv_mirror.specs.Visits.{IsUnderWay as IsVisitUnderWay, visit_call_of};
 ghost use Rattle.nv_mirror.specs.declared.visit.VisitControl.TheVariants as visits;
 ghost use Rattle.nv_pages.specs.Altered.{IsAltered};
+ghost use Rattle.nv_table.specs.state.Views.{pass_of};
 ghost use Rattle.nv_table.specs.state.States.{IsOf, PassState};
-ghost use Rattle.nv_cache.specs.RunningReads.{IsSettled, IsUnderWay, holds_page, needs_rooms, read_measure, visit_steps};
+ghost use Rattle.nv_cache.specs.RunningReads.{IsSettled, IsUnderWay, asked_in, holds_page, needs_rooms, read_measure, visit_steps};
 ghost use Rattle.nv_cache.specs.ReadSteps.{empty_answer, read_fault, read_place};
 
 use crate::{RunningRead, SearchControl, SearchMachine};
@@ -46,6 +47,7 @@ impl RunningRead {
         ensures fault { read_fault result ≡ None }
         ensures place { read_place result ≡ None }
         ensures bare { holds_page result ≡ false }
+        ensures asks { (asked : FileCall) → asked_in asked result pass.new ≡ (pass_of pass.old.view).asked }
         ensures way { (room : List ℕ) (start : PassState) → IsVisitUnderWay visit list.old start pass.old → IsUnderWay (visit_call_of visit) result list.new room start pass.new }
     {
         visit.look(board, pass, list);
@@ -81,6 +83,7 @@ impl RunningRead {
         ensures fault { read_fault self.new ≡ read_fault self.old }
         ensures place { read_place self.new ≡ read_place self.old }
         ensures bare { needs_rooms self.old ≡ false → holds_page self.new ≡ false }
+        ensures asks { (asked : FileCall) → asked_in asked self.new pass.new ≡ asked_in asked self.old pass.old }
         ensures way { (call : FileCall) (start : PassState) → IsUnderWay call self.old list.old room.now start pass.old → IsUnderWay call self.new list.new room.now start pass.new }
     {
         match *self {

@@ -4,12 +4,15 @@ ghost use Rattle.std.specs.Prelude.{◌≡◌, ◌<◌, List, ℕ, [], true, fal
 ghost use Rattle.nv_plain.specs.declared.call.FileCall.{FileCall};
 ghost use Rattle.nv_mirror.specs.declared.visit.VisitControl.TheVariants as visits;
 ghost use Rattle.nv_mirror.specs.Visits.{IsUnderWay as IsVisitUnderWay, visit_call_of};
+ghost use Rattle.nv_core.specs.state.Passes.{plain_call};
+ghost use Rattle.nv_table.specs.state.Views.{pass_of};
 ghost use Rattle.nv_table.specs.state.States.{IsOf, PassState};
 ghost use Rattle.nv_cache.specs.declared.read.RunningRead.TheVariants.{Front, Over, TakePlace};
-ghost use Rattle.nv_cache.specs.RunningReads.{IsSettled, IsUnderWay, holds_page, needs_rooms, read_measure};
+ghost use Rattle.nv_cache.specs.RunningReads.{IsSettled, IsUnderWay, asked_in, holds_page, needs_rooms, read_measure};
 
 use crate::RunningRead;
 use nv_mirror::{Done, FrontControl, FrontMachine, Refusal, ReleaseControl, VisitMachine};
+use nv_op::Asks;
 use nv_pmem::Lines;
 use nv_store::Backing;
 use nv_table::{Board, Pass};
@@ -19,7 +22,7 @@ pub const MOST_PAGE: usize = 4096;
 
 // The advances of a read from the load of a page on, with rooms for that, until it needs none.
 #[inline(never)]
-fn load_in_rooms<L: Lines, B: Backing>(
+fn load_in_rooms<A: Asks, L: Lines, B: Backing>(
     board: &Board<L, B>,
     pass: &mut Pass<L, B>,
     read: &mut RunningRead,
@@ -29,11 +32,12 @@ fn load_in_rooms<L: Lines, B: Backing>(
     requires settled { IsSettled read.old }
     requires needs { needs_rooms read.old ≡ true }
     requires bare { holds_page read.old ≡ false }
-    requires way { (call : FileCall) × (start : PassState) × IsUnderWay call read.old list.old [] start pass.old }
+    requires way { (start : PassState) × IsUnderWay (plain_call A.call) read.old list.old [] start pass.old }
     ensures board { IsOf board.now pass.new }
     ensures settled { IsSettled read.new }
     ensures bare { holds_page read.new ≡ false }
     ensures falls { read_measure board.now.opened.sizes read.new < read_measure board.now.opened.sizes read.old }
+    ensures asks { asked_in A.call read.new pass.new ≡ asked_in A.call read.old pass.old }
     ensures way { (call : FileCall) (start : PassState) → IsUnderWay call read.old list.old [] start pass.old → IsUnderWay call read.new list.new [] start pass.new }
 {
     let page = board.layout().page as usize;
@@ -41,7 +45,7 @@ fn load_in_rooms<L: Lines, B: Backing>(
     let mut piece = [0; MOST_PAGE];
     read.takes_any_room();
     loop {
-        read.advance(board, pass, &mut room[..page], &mut piece[..page], list);
+        read.advance::<A, L, B>(board, pass, &mut room[..page], &mut piece[..page], list);
         if !read.needs_rooms() {
             read.takes_any_room();
             return;
@@ -51,7 +55,7 @@ fn load_in_rooms<L: Lines, B: Backing>(
 
 // The rest of a read that misses a page, or has none: step by step, in a frame of its own, which no other read pays for.
 #[inline(never)]
-fn read_on<L: Lines, B: Backing>(
+fn read_on<A: Asks, L: Lines, B: Backing>(
     board: &Board<L, B>,
     pass: &mut Pass<L, B>,
     mut read: RunningRead,
@@ -60,8 +64,9 @@ fn read_on<L: Lines, B: Backing>(
     requires board { IsOf board.now pass.old }
     requires settled { IsSettled read }
     requires bare { holds_page read ≡ false }
-    requires way { (call : FileCall) × (start : PassState) × IsUnderWay call read list.old [] start pass.old }
+    requires way { (start : PassState) × IsUnderWay (plain_call A.call) read list.old [] start pass.old }
     ensures board { IsOf board.now pass.new }
+    ensures asks { (pass_of pass.new.view).asked ≡ asked_in A.call read pass.old }
     ensures way { (call : FileCall) (start : PassState) → IsUnderWay call read list.old [] start pass.old → IsUnderWay call (Over result) list.new [] start pass.new }
 {
     loop {
@@ -69,9 +74,9 @@ fn read_on<L: Lines, B: Backing>(
             return result;
         }
         if read.needs_rooms() {
-            load_in_rooms(board, pass, &mut read, list);
+            load_in_rooms::<A, L, B>(board, pass, &mut read, list);
         } else {
-            read.advance(board, pass, &mut [], &mut [], list);
+            read.advance::<A, L, B>(board, pass, &mut [], &mut [], list);
         }
     }
 }
@@ -86,6 +91,7 @@ fn end<L: Lines, B: Backing>(
     requires board { IsOf board.now pass.old }
     requires way { (call : FileCall) × (list : List ℕ) × (start : PassState) × IsUnderWay call (TakePlace visit) list [] start pass.old }
     ensures board { IsOf board.now pass.new }
+    ensures asks { (pass_of pass.new.view).asked ≡ (pass_of pass.old.view).asked }
     ensures way { (call : FileCall) (list : List ℕ) (start : PassState) → IsUnderWay call (TakePlace visit) list [] start pass.old → IsUnderWay call (Over result) list [] start pass.new }
 {
     let mut release = visit.take_place(board, pass);
@@ -102,7 +108,7 @@ fn end<L: Lines, B: Backing>(
 
 // A read at its pages.
 #[inline(always)]
-fn pass_pages<L: Lines, B: Backing>(
+fn pass_pages<A: Asks, L: Lines, B: Backing>(
     board: &Board<L, B>,
     pass: &mut Pass<L, B>,
     visit: VisitMachine,
@@ -110,45 +116,48 @@ fn pass_pages<L: Lines, B: Backing>(
 ) -> Result<Done, Refusal>
     requires board { IsOf board.now pass.old }
     requires looks { visit.control ≡ visits.Look }
+    requires makes { plain_call A.call ≡ visit_call_of visit }
     requires way { (start : PassState) × IsVisitUnderWay visit list.old start pass.old }
     ensures board { IsOf board.now pass.new }
+    ensures asks { (pass_of pass.new.view).asked ≡ (pass_of pass.old.view).asked }
     ensures way { (start : PassState) → IsVisitUnderWay visit list.old start pass.old → IsUnderWay (visit_call_of visit) (Over result) list.new [] start pass.new }
 {
     match RunningRead::looked(visit, board, pass, list) {
         RunningRead::TakePlace(visit) => end(board, pass, visit),
-        read => read_on(board, pass, read, list),
+        read => read_on::<A, L, B>(board, pass, read, list),
     }
 }
 
 // A read at its front.
 #[inline(always)]
-fn pass_front<L: Lines, B: Backing>(
+fn pass_front<A: Asks, L: Lines, B: Backing>(
     board: &Board<L, B>,
     pass: &mut Pass<L, B>,
     mut front: FrontMachine<'static>,
     list: &mut [u8],
 ) -> Result<Done, Refusal>
     requires board { IsOf board.now pass.old }
-    requires way { (call : FileCall) × (start : PassState) × IsUnderWay call (Front front) list.old [] start pass.old }
+    requires way { (start : PassState) × IsUnderWay (plain_call A.call) (Front front) list.old [] start pass.old }
     ensures board { IsOf board.now pass.new }
+    ensures asks { (pass_of pass.new.view).asked ≡ asked_in A.call (Front front.entry) pass.old }
     ensures way { (call : FileCall) (start : PassState) → IsUnderWay call (Front front.entry) list.old [] start pass.old → IsUnderWay call (Over result) list.new [] start pass.new }
 {
     loop {
         match front.control {
             FrontControl::Passed => {
                 let visit = front.visit(board.layout());
-                return pass_pages(board, pass, visit, list);
+                return pass_pages::<A, L, B>(board, pass, visit, list);
             }
             FrontControl::Over(refusal) => return Err(refusal),
-            _ => front.advance(board, pass),
+            _ => front.advance::<A, L, B>(board, pass),
         }
     }
 }
 
 impl RunningRead {
-    /// Makes all its steps, and is answered.
+    /// Makes all its steps, and is answered. Its call begins as what was asked, which is made as this read.
     #[inline(always)]
-    pub fn run<L: Lines, B: Backing>(
+    pub fn run<A: Asks, L: Lines, B: Backing>(
         self,
         board: &Board<L, B>,
         pass: &mut Pass<L, B>,
@@ -157,13 +166,14 @@ impl RunningRead {
         requires board { IsOf board.now pass.old }
         requires settled { IsSettled self }
         requires bare { holds_page self ≡ false }
-        requires way { (call : FileCall) × (start : PassState) × IsUnderWay call self list.old [] start pass.old }
+        requires way { (start : PassState) × IsUnderWay (plain_call A.call) self list.old [] start pass.old }
         ensures board { IsOf board.now pass.new }
+        ensures asks { (pass_of pass.new.view).asked ≡ asked_in A.call self pass.old }
         ensures way { (call : FileCall) (start : PassState) → IsUnderWay call self list.old [] start pass.old → IsUnderWay call (Over result) list.new [] start pass.new }
     {
         match self {
-            RunningRead::Front(front) => pass_front(board, pass, front, list),
-            read => read_on(board, pass, read, list),
+            RunningRead::Front(front) => pass_front::<A, L, B>(board, pass, front, list),
+            read => read_on::<A, L, B>(board, pass, read, list),
         }
     }
 }

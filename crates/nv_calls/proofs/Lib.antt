@@ -1,3 +1,4 @@
+pub mod calls
 pub mod histories
 pub mod fsync
 pub mod reads

@@ -24,6 +24,7 @@ use nv_mount::Mount;
 use nv_pmem::Lines;
 use nv_store::Backing;
 use nv_table::Pass;
+use std::marker::Brand;
 use std::sync::Wait;
 use std::thread::yield_now;
 
@@ -65,7 +66,7 @@ pub fn try_pread<L: Lines + Drop, B: Backing + Drop>(
     let len = buf.len() as u64;
     let file = admit(mount, Access::Reads, fd, at, len)?;
     let board = mount.board();
-    RunningRead::new(board.layout(), file, at, len).run(board, pass, buf)
+    RunningRead::new(board.layout(), file, at, len).run::<Brand, L, B>(board, pass, buf)
 }
 
 /// The same, made again as long as a lock is found held. It may wait for ever, so it returns only where the others give their locks back; then it is

@@ -1,9 +1,10 @@
 //! A read that is made one step at a time.
 ghost use Rattle.std.specs.Prelude.{◌≡◌, ◌<◌, is_some, length};
 ghost use Rattle.nv_plain.specs.declared.call.FileCall.{FileCall};
+ghost use Rattle.nv_core.specs.state.Passes.{plain_call};
 ghost use Rattle.nv_core.specs.state.Words.{Sizes};
 ghost use Rattle.nv_cache.specs.ReadSteps.{HasMadeOne};
-ghost use Rattle.nv_cache.specs.RunningReads.{IsOpen, IsSettled, IsUnderWay, read_measure};
+ghost use Rattle.nv_cache.specs.RunningReads.{IsOpen, IsSettled, IsUnderWay, asked_in, read_measure};
 ghost use Rattle.nv_table.specs.state.States.{IsOf, PassState};
 ghost use Rattle.nv_calls.specs.calls.Advances.{IsFewer, IsOneOrNone};
 ghost use Rattle.nv_calls.specs.declared.reading.ReadControl.TheVariants as reads;
@@ -15,10 +16,11 @@ use nv_cache::{MOST_PAGE, RunningRead};
 use nv_core::{passes_are_left_alone, runs_are_sound};
 use nv_mirror::{Done, Refusal};
 use nv_mount::Mount;
-use nv_op::Kind;
+use nv_op::{Asks, Kind};
 use nv_pmem::Lines;
 use nv_store::Backing;
 use nv_table::{Board, Pass};
+use std::marker::Brand;
 
 /// Where it stands.
 #[derive(Clone, Copy, Debug, PartialEq, Eq)]
@@ -52,7 +54,7 @@ fn progress(read: RunningRead) -> Progress
 
 // Makes the next step of a read that loads a page, with room for a piece of it: in a frame of its own, which no other step pays for.
 #[inline(never)]
-fn advance_with_piece<L: Lines, B: Backing>(
+fn advance_with_piece<A: Asks, L: Lines, B: Backing>(
     board: &Board<L, B>,
     pass: &mut Pass<L, B>,
     read: &mut RunningRead,
@@ -62,20 +64,21 @@ fn advance_with_piece<L: Lines, B: Backing>(
     requires board { IsOf board.now pass.old }
     requires open { IsOpen read.old }
     requires room { length room.old ≡ pass.old.view.opened.sizes.page }
-    requires way { (call : FileCall) × (start : PassState) × IsUnderWay call read.old list.old room.old start pass.old }
+    requires way { (start : PassState) × IsUnderWay (plain_call A.call) read.old list.old room.old start pass.old }
     ensures board { IsOf board.now pass.new }
     ensures settled { IsSettled read.new }
     ensures one { HasMadeOne read.old read.new pass.old pass.new }
     ensures falls { read_measure pass.old.view.opened.sizes read.new < read_measure pass.old.view.opened.sizes read.old }
+    ensures asks { asked_in A.call read.new pass.new ≡ asked_in A.call read.old pass.old }
     ensures way { (call : FileCall) (start : PassState) → IsUnderWay call read.old list.old room.old start pass.old → IsUnderWay call read.new list.new room.new start pass.new }
 {
     let page = board.layout().page as usize;
     let mut piece = [0; MOST_PAGE];
-    read.advance(board, pass, room, &mut piece[..page], list);
+    read.advance::<A, L, B>(board, pass, room, &mut piece[..page], list);
 }
 
 // Makes the next step of a read, in this room for a page.
-fn advance_in<L: Lines, B: Backing>(
+fn advance_in<A: Asks, L: Lines, B: Backing>(
     board: &Board<L, B>,
     pass: &mut Pass<L, B>,
     read: &mut RunningRead,
@@ -85,17 +88,18 @@ fn advance_in<L: Lines, B: Backing>(
     requires board { IsOf board.now pass.old }
     requires open { IsOpen read.old }
     requires room { length room.old ≡ pass.old.view.opened.sizes.page }
-    requires way { (call : FileCall) × (start : PassState) × IsUnderWay call read.old list.old room.old start pass.old }
+    requires way { (start : PassState) × IsUnderWay (plain_call A.call) read.old list.old room.old start pass.old }
     ensures board { IsOf board.now pass.new }
     ensures settled { IsSettled read.new }
     ensures one { HasMadeOne read.old read.new pass.old pass.new }
     ensures falls { read_measure pass.old.view.opened.sizes read.new < read_measure pass.old.view.opened.sizes read.old }
+    ensures asks { asked_in A.call read.new pass.new ≡ asked_in A.call read.old pass.old }
     ensures way { (call : FileCall) (start : PassState) → IsUnderWay call read.old list.old room.old start pass.old → IsUnderWay call read.new list.new room.new start pass.new }
 {
     if read.needs_rooms() {
-        advance_with_piece(board, pass, read, room, list);
+        advance_with_piece::<A, L, B>(board, pass, read, room, list);
     } else {
-        read.advance(board, pass, room, &mut [], list);
+        read.advance::<A, L, B>(board, pass, room, &mut [], list);
     }
 }
 
@@ -190,7 +194,7 @@ impl ReadMachine {
         };
         let board = mount.board();
         let page = board.layout().page as usize;
-        advance_in(board, pass, &mut read, &mut self.room[..page], list);
+        advance_in::<Brand, L, B>(board, pass, &mut read, &mut self.room[..page], list);
         self.control = ReadControl::Running(read);
         progress(read)
     }

@@ -15,6 +15,7 @@ use nv_op::Asked;
 use nv_pmem::Lines;
 use nv_store::Backing;
 use nv_table::Pass;
+use std::marker::Brand;
 
 /// Syncs the file of a descriptor: takes the call's place in the history, which is how many calls stand before it. Refused exactly where no
 /// descriptor has this number, before any step; then where STOP was found set; and then where ORDER was found used up. Takes no memory, and
@@ -51,7 +52,7 @@ pub fn try_fsync<L: Lines + Drop, B: Backing + Drop>(
         match sync.control {
             PagelessControl::Over(Ok(place)) => return Ok(Done { place, len: 0 }),
             PagelessControl::Over(Err(refusal)) => return Err(refusal),
-            _ => sync.advance(mount.board(), pass),
+            _ => sync.advance::<Brand, L, B>(mount.board(), pass),
         }
     }
 }

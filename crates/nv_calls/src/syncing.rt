@@ -12,6 +12,7 @@ use nv_op::{Asked, Kind};
 use nv_pmem::Lines;
 use nv_store::Backing;
 use nv_table::Pass;
+use std::marker::Brand;
 
 /// Where it stands.
 #[derive(Clone, Copy, Debug, PartialEq, Eq)]
@@ -115,7 +116,7 @@ impl SyncMachine {
             Ok(sync) => sync,
             Err(refusal) => return Progress::Ended(Err(refusal)),
         };
-        sync.advance(mount.board(), pass);
+        sync.advance::<Brand, L, B>(mount.board(), pass);
         self.control = SyncControl::Running(sync);
         progress(sync)
     }

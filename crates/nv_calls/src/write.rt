@@ -27,6 +27,7 @@ use nv_pmem::Lines;
 use nv_ring::RunningWrite;
 use nv_store::Backing;
 use nv_table::{Pass, Workspace};
+use std::marker::Brand;
 use std::sync::Wait;
 use std::thread::yield_now;
 
@@ -85,7 +86,7 @@ pub fn try_pwrite<L: Lines + Drop, B: Backing + Drop>(
                 return Ok(Done { place, len });
             }
             RunningWrite::Over(Err(refusal)) => return Err(refusal),
-            _ => write.advance(board, pass, workspace.parts()),
+            _ => write.advance::<Brand, L, B>(board, pass, workspace.parts()),
         }
     }
 }

@@ -15,6 +15,7 @@ use nv_pmem::Lines;
 use nv_ring::RunningWrite;
 use nv_store::Backing;
 use nv_table::{Pass, Workspace};
+use std::marker::Brand;
 
 /// Where it stands.
 #[derive(Clone, Copy, Debug, PartialEq, Eq)]
@@ -144,7 +145,7 @@ impl WriteMachine {
             Ok(write) => write,
             Err(refusal) => return Progress::Ended(Err(refusal)),
         };
-        write.advance(mount.board(), pass, workspace.parts());
+        write.advance::<Brand, L, B>(mount.board(), pass, workspace.parts());
         self.control = WriteControl::Running(write.with_list(&[]));
         progress(write, self.len)
     }

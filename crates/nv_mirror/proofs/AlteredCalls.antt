@@ -8,7 +8,7 @@ use Rattle.nv_pages.specs.Altered.{IsAltered}
 use Rattle.nv_mirror.specs.declared.answers.Refusal.{Refusal}
 use Rattle.nv_mirror.specs.Controls.{Mirror, InCall}
 use Rattle.nv_mirror.proofs.ControlLaws.{told_same}
-use Rattle.nv_mirror.specs.OwnSteps.{AreOwn}
+use Rattle.nv_mirror.specs.OwnSteps.{AreOwnAs}
 use Rattle.nv_mirror.specs.PassSteps.{PassStep, HasMade, HasTaken}
 
 -- a pass of which no more has changed is itself, with other slots
@@ -46,9 +46,9 @@ module _ (now mid : PassState) (same : IsAltered (λ kept. kept) now mid) (still
   owns_still = same.owns_slots (values_of now.view) (still_owned (pass_of now.view)) still
 
   -- its last step has left it so
-  made_so : (call : FileCall) (steps : List PassStep) (start : PassState) → AreOwn now.view.opened.sizes call steps → HasMade steps start now → HasMade steps start (record now { now = mid.now })
-  made_so call [] start own made = absurd own
-  made_so call (step ∷ earlier) start own made = (made.0, made.1, taken_so step made.0 now mid same made.2)
+  made_so : (asked call : FileCall) (steps : List PassStep) (start : PassState) → AreOwnAs now.view.opened.sizes asked call steps → HasMade steps start now → HasMade steps start (record now { now = mid.now })
+  made_so asked call [] start own made = absurd own
+  made_so asked call (step ∷ earlier) start own made = (made.0, made.1, taken_so step made.0 now mid same made.2)
 
 -- so its call is under way still
 pub called_same : {State : Type 0} (mirror : Mirror State) (call : FileCall) (is : State) (refusal : Option Refusal) (place : Option ℕ) (start now mid : PassState) → IsAltered (λ kept. kept) now mid
@@ -56,10 +56,13 @@ pub called_same : {State : Type 0} (mirror : Mirror State) (call : FileCall) (is
 called_same mirror call is refusal place start now mid same called = record {
   idle = called.idle;
   steps = called.steps;
-  made = made_so now mid same called.still call called.steps start called.own called.made;
+  made = made_so now mid same called.still called.asked call called.steps start called.own called.made;
   own = called.own;
   refused = called.refused;
   plain = called.plain;
+  asked = called.asked;
+  makes = called.makes;
+  asks = called.asks;
   placed = called.placed;
   later = record { number = called.later.number; ended = called.later.ended; made = called.later.made };
   spare = called.spare;
@@ -67,6 +70,6 @@ called_same mirror call is refusal place start now mid same called = record {
   still = owns_still now mid same called.still;
   left = called.left;
   fresh = tt;
-  told = told_same call place start now (record now { now = mid.now }) refl refl called.told;
+  told = told_same called.asked place start now (record now { now = mid.now }) refl refl called.told;
   mirrors = called.mirrors;
 }

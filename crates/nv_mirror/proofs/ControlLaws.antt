@@ -2,6 +2,7 @@
 use Rattle.std.proofs.Common.{◌≡◌, ℕ, true, List, [], ◌∷◌, inl, refl, sym, ap, subst, ◌∙◌}
 use Rattle.std.specs.Prelude.{Option, Some, None}
 use Rattle.nv_plain.specs.Histories.{Answered}
+use Rattle.nv_plain.specs.Made.{reply_from}
 use Rattle.nv_plain.specs.declared.call.FileCall.{FileCall}
 use Rattle.nv_plain.specs.declared.call.FileCall.TheVariants.{Read, Write, Readv, Writev, Sync}
 use Rattle.nv_plain.specs.declared.call.Reply.{Reply}
@@ -27,7 +28,7 @@ use Rattle.nv_table.specs.state.Views.{pass_of, values_of, still_owned, OwnsSlot
 use Rattle.nv_table.specs.state.States.{PassState}
 use Rattle.nv_table.specs.steps.CallSteps.{Precondition, reply_at}
 use Rattle.nv_table.proofs.steps.CallLaws.{IsCallFree, stepped_there, later_by, later_on}
-use Rattle.nv_mirror.specs.OwnSteps.{is_own, AreOwn}
+use Rattle.nv_mirror.specs.OwnSteps.{is_own, AreOwnAs}
 use Rattle.nv_mirror.specs.PassSteps.{PassStep, head_in, refusal_in, refused_by, place_by, either_of}
 use Rattle.nv_mirror.specs.declared.answers.Refusal.{Refusal}
 use Rattle.nv_mirror.proofs.OwnLaws.{own_so_far_on}
@@ -68,17 +69,20 @@ module _ {State : Type 0} (mirror : Mirror State) (call : FileCall) (opens : Opt
   pub mirror_on : (opens_then : Option FileCall) (then_is : State) (refusal_then : Option Refusal) (place_then : Option ℕ) (found : ℕ) (new : PassState) (step : Postcondition now opens core_op found new) → IsCallFree (pass_of now.view).control
       → ((pass : Pass) (number : ℕ) (history : List Answered) → mirror.of (stepped now.view.opened.sizes number history core_op found (mirror.with is pass)) ≡ then_is) → ((pass : Pass) → left_after pass core_op ≡ pass.left)
       → either_of refusal (refused_by now.view.opened.sizes call (head_in called.steps) step.works core_op found) ≡ refusal_then → either_of place (place_by core_op found) ≡ place_then
-      → is_own call refusal core_op ≡ true → None ≡ opens_then → Told call place_then start new
+      → is_own call refusal core_op ≡ true → None ≡ opens_then → Told called.asked place_then start new
       → (then_called : InCall mirror call opens_then then_is refusal_then place_then start new) × (then_called.steps ≡ step_made step.works found ∷ called.steps)
   mirror_on opens_then then_is refusal_then place_then found new step free goes leaves refuses places may opened_then told_then =
       subst (λ opens_then. (then_called : InCall mirror call opens_then then_is refusal_then place_then start new) × (then_called.steps ≡ step_made step.works found ∷ called.steps)) opened_then (
         record {
           idle = called.idle;
           plain = called.plain;
+          asked = called.asked;
+          makes = called.makes;
+          asks = ap (λ (p : Pass). p.asked) there ∙ called.asks;
           steps = step_made step.works found ∷ called.steps;
           made = (now, called.made, taken_by now now new opens core_op found (between_self now) step);
-          own = subst (λ (o : Opened). AreOwn o.sizes call (step_made step.works found ∷ called.steps)) (sym opened)
-              (own_so_far_on opens now.view.opened.sizes call (step_made step.works found) called.steps refusal called.own called.refused refl may);
+          own = subst (λ (o : Opened). AreOwnAs o.sizes called.asked call (step_made step.works found ∷ called.steps)) (sym opened)
+              (own_so_far_on opens now.view.opened.sizes called.asked call (step_made step.works found) called.steps refusal called.own called.refused refl may);
           refused = subst (λ (o : Opened). refusal_in o.sizes call (step_made step.works found ∷ called.steps) ≡ refusal_then) (sym opened)
               (ap (λ r. either_of r (refused_by now.view.opened.sizes call (head_in called.steps) step.works core_op found)) called.refused ∙ refuses);
           placed = ap (λ p. either_of p (place_by core_op found)) called.placed ∙ places;
@@ -140,18 +144,19 @@ pub record PlaceLaws (opened : Opened) : Type 0 where
   pub legally : GoesOnLegally
   pub mount : IsMount (mount_of opened)
 
-reply_to : (call : FileCall) (reply : Reply) → reply ≡ plain_reply call → IsReplyTo call reply
+-- what was asked is answered by the reply of the call that it is made as
+reply_to : (asked : FileCall) (reply : Reply) → reply ≡ plain_reply (plain_call asked) → IsReplyTo asked (reply_from asked reply)
 reply_to (Read file at len) reply is = λ none. is
 reply_to (Write file at bytes) reply is = is
-reply_to (Readv file at lens) reply is = is
+reply_to (Readv file at lens) reply is = λ none. ap (reply_from (Readv file at lens)) is
 reply_to (Writev file at parts) reply is = is
 reply_to (Sync file) reply is = is
 
 -- and one that takes it
-pub told_placed : (call : FileCall) (start now new : PassState) (found : ℕ) → PlaceLaws now.view.opened → IsUnplaced start.view now.view → IsLater start now → now.view.opened ≡ start.view.opened
-    → (pass_of now.view).call ≡ call → (pass_of now.view).asked ≡ call → plain_call call ≡ call → (pass_of now.view).control ≡ TakePlace → Postcondition now None (place_op now.view) found new → Told call (Some found) start new
-told_placed call start now new found laws told later same makes asks plain control step = (
+pub told_placed : (asked call : FileCall) (start now new : PassState) (found : ℕ) → PlaceLaws now.view.opened → IsUnplaced start.view now.view → IsLater start now → now.view.opened ≡ start.view.opened
+    → (pass_of now.view).call ≡ call → (pass_of now.view).asked ≡ asked → plain_call asked ≡ call → (pass_of now.view).control ≡ TakePlace → Postcondition now None (place_op now.view) found new → Told asked (Some found) start new
+told_placed asked call start now new found laws told later same made asks makes control step = (
   _,
-  reply_to call _ (ap (reply_at now.view.opened.sizes (values_of now.view) (pass_of now.view)) control ∙ ap plain_reply makes),
-  done_plainly start now new call _ found later told asks plain (subst IsCallFree (sym control) (λ sizes values pass work due. due)) step (placed laws.sound now new found laws.mount step) laws.content laws.legally laws.mount same,
+  reply_to asked _ (ap (reply_at now.view.opened.sizes (values_of now.view) (pass_of now.view)) control ∙ ap plain_reply (made ∙ sym makes)),
+  done_plainly start now new asked _ found later told asks (subst IsCallFree (sym control) (λ sizes values pass work due. due)) step (placed laws.sound now new found laws.mount step) laws.content laws.legally laws.mount same,
 )

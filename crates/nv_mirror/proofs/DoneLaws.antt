@@ -3,13 +3,13 @@ use Rattle.std.proofs.Common.{◌≡◌, ℕ, false, List, [], ◌∷◌, ◌++�
 use Rattle.std.specs.Prelude.{None}
 use Rattle.nv_plain.specs.Files.{Files}
 use Rattle.nv_plain.specs.Calls.{reply_of}
+use Rattle.nv_plain.specs.Made.{reply_from}
 use Rattle.nv_plain.specs.Histories.{Answered, after as files_then, IsLegal, GoesOnLegally}
 use Rattle.nv_plain.specs.declared.call.FileCall.{FileCall}
 use Rattle.nv_plain.specs.declared.call.FileCall.TheVariants.{Sync}
 use Rattle.nv_plain.specs.declared.call.Reply.{Reply}
 use Rattle.nv_core.specs.steps.PassSteps.{as_answered}
-use Rattle.nv_core.proofs.state.PlainCalls.{as_it_is}
-use Rattle.nv_core.specs.state.Passes.{Pass, plain_call}
+use Rattle.nv_core.specs.state.Passes.{Pass}
 use Rattle.nv_core.specs.content.Content.{Opens, RunsKeepContent}
 use Rattle.nv_core.specs.state.Core.{Core, changed_pass}
 use Rattle.nv_core.specs.steps.Ops.{Place}
@@ -50,22 +50,26 @@ seen_whole sizes core before by reply found =
 
 -- a call that has gone on so far, and has not been refused, has its place
 module _ (old loaded new : PassState) (call : FileCall) (reply : Reply) (place : ℕ) (later : IsLater old loaded) (still : IsUnplaced old.view loaded.view) (asks : (pass_of loaded.view).asked ≡ call)
-    (is_plain : plain_call call ≡ call) (free : IsCallFree (pass_of loaded.view).control) (is : Postcondition loaded None (Place reply) place new) (placed : IsPlaced loaded.view new.view place) where
+    (free : IsCallFree (pass_of loaded.view).control) (is : Postcondition loaded None (Place reply) place new) (placed : IsPlaced loaded.view new.view place) where
   abbrev before : List Answered
   before = (state_of loaded.view.opened is.steps.run).history
 
-  same_answer : as_answered loaded.view.number (pass_of loaded.view) reply ≡ answered_by old.view call reply
-  same_answer = as_it_is loaded.view.number (pass_of loaded.view) reply call asks is_plain
-      ∙ ap (λ (n : ℕ). record (answered_by old.view call reply) { caller = n }) later.number
+  -- what it answers, by the reply of the call that it is made as
+  abbrev answers : Reply
+  answers = reply_from call reply
+
+  same_answer : as_answered loaded.view.number (pass_of loaded.view) reply ≡ answered_by old.view call answers
+  same_answer = ap (λ asked. record { caller = loaded.view.number; call = asked; reply = reply_from asked reply }) asks
+      ∙ ap (λ (n : ℕ). record (answered_by old.view call answers) { caller = n }) later.number
 
   seen_there : (pass_of new.view).seen ≡ before ++ as_answered loaded.view.number (pass_of loaded.view) reply ∷ []
   seen_there = ap (λ (p : Pass). p.seen) (stepped_there loaded new None (Place reply) place free is)
 
-  seen_is : (pass_of new.view).seen ≡ before ++ answered_by old.view call reply ∷ []
+  seen_is : (pass_of new.view).seen ≡ before ++ answered_by old.view call answers ∷ []
   seen_is = seen_there ∙ ap (λ a. before ++ a ∷ []) same_answer
 
   -- the history of the run up to the place
-  whole_is : (state_of loaded.view.opened (is.steps.run ++ events loaded.view.number is.works (TakesStep (Place reply) place))).history ≡ before ++ answered_by old.view call reply ∷ []
+  whole_is : (state_of loaded.view.opened (is.steps.run ++ events loaded.view.number is.works (TakesStep (Place reply) place))).history ≡ before ++ answered_by old.view call answers ∷ []
   whole_is =
       let opened = loaded.view.opened in
       let by = loaded.view.number in
@@ -79,14 +83,14 @@ module _ (old loaded new : PassState) (call : FileCall) (reply : Reply) (place :
 
   -- its reply is that of plain files
   replied : RunsKeepContent → GoesOnLegally → IsMount (mount_of loaded.view.opened) → (files : Files) (tail : ℕ) → OpensLog (mount_of loaded.view.opened) tail → Opens (mount_of loaded.view.opened) files
-      → reply ≡ reply_of call (files_then before files)
+      → answers ≡ reply_of call (files_then before files)
   replied content legally mount files tail log opens =
       let nothing : Log = record { group = λ number. record { call = Sync 0; first = 0; entries = 0 }; calls = λ number. 0 } in
       let legal = (content (mount_of loaded.view.opened) files tail nothing (λ number. false) (is.steps.run ++ events loaded.view.number is.works (TakesStep (Place reply) place)) mount log opens is.steps.is_run).legal.legal in
-      ((legally before (answered_by old.view call reply) files).0 (subst (λ h. IsLegal h files) whole_is legal)).1
+      ((legally before (answered_by old.view call answers) files).0 (subst (λ h. IsLegal h files) whole_is legal)).1
 
-  pub done_so : ((files : Files) (tail : ℕ) → OpensLog (mount_of old.view.opened) tail → Opens (mount_of old.view.opened) files → reply ≡ reply_of call (files_then before files))
-      → IsPlacedAs old.view new.view call reply place
+  pub done_so : ((files : Files) (tail : ℕ) → OpensLog (mount_of old.view.opened) tail → Opens (mount_of old.view.opened) files → answers ≡ reply_of call (files_then before files))
+      → IsPlacedAs old.view new.view call answers place
   done_so plain = record {
     before = before;
     begins = subst (λ l. IsPrefix l before) still.seen
@@ -94,12 +98,12 @@ module _ (old loaded new : PassState) (call : FileCall) (reply : Reply) (place :
         (seen_begins loaded.view.opened loaded.view.number loaded.view.run is.steps.knew.all.rest));
     at = placed.count ∙ last_one placed.before before _ _ (sym placed.seen ∙ seen_there);
     seen = seen_is;
-    mine = ap (λ (p : Pass). p.mine) (stepped_there loaded new None (Place reply) place free is) ∙ ap (λ a. (pass_of loaded.view).mine ++ a ∷ []) same_answer ∙ ap (λ l. l ++ answered_by old.view call reply ∷ []) still.mine;
+    mine = ap (λ (p : Pass). p.mine) (stepped_there loaded new None (Place reply) place free is) ∙ ap (λ a. (pass_of loaded.view).mine ++ a ∷ []) same_answer ∙ ap (λ l. l ++ answered_by old.view call answers ∷ []) still.mine;
     plain = plain;
   }
 
   -- where the history of the mount is legal
-  pub done_plainly : RunsKeepContent → GoesOnLegally → IsMount (mount_of loaded.view.opened) → loaded.view.opened ≡ old.view.opened → IsPlacedAs old.view new.view call reply place
+  pub done_plainly : RunsKeepContent → GoesOnLegally → IsMount (mount_of loaded.view.opened) → loaded.view.opened ≡ old.view.opened → IsPlacedAs old.view new.view call answers place
   done_plainly content legally mount same =
       done_so
-      (subst (λ (o : Opened). (files : Files) (tail : ℕ) → OpensLog (mount_of o) tail → Opens (mount_of o) files → reply ≡ reply_of call (files_then before files)) same (replied content legally mount))
+      (subst (λ (o : Opened). (files : Files) (tail : ℕ) → OpensLog (mount_of o) tail → Opens (mount_of o) files → answers ≡ reply_of call (files_then before files)) same (replied content legally mount))

@@ -17,8 +17,8 @@ use Rattle.nv_table.specs.state.States.{PassState}
 use Rattle.nv_table.proofs.steps.CallLaws.{idle_is_still, none_still_owned, later_self, taken_same}
 use Rattle.nv_table.proofs.steps.OwnedSlotLaws.{still_owned_all}
 use Rattle.nv_mirror.specs.declared.answers.Refusal.{Refusal}
-use Rattle.nv_mirror.specs.Controls.{Mirror, MirroredControl, control_mirror, mirrored_control, InCall, IsOver}
-use Rattle.nv_mirror.specs.OwnSteps.{AreOwn}
+use Rattle.nv_mirror.specs.Controls.{Mirror, MirroredControl, control_mirror, mirrored_control, InCall, IsMadeOver}
+use Rattle.nv_mirror.specs.OwnSteps.{AreOwnAs}
 use Rattle.nv_mirror.specs.PassSteps.{refusal_in}
 
 -- a call that is asked for is plain
@@ -27,19 +27,22 @@ asked_plain (AsksRead file at len) = refl
 asked_plain (AsksWrite file at bytes) = refl
 asked_plain (AsksSync file) = refl
 
--- what a machine has at hand of a pass with a plain call that begins, which is made as itself
-pub begun_mirror : (sizes : Sizes) (call : FileCall) (pass : Pass) → plain_call call ≡ call
-    → mirrored_control (begun sizes call pass) ≡ record { control = first_control sizes call; call = call; asked = call; owned = pass.owned; sized = false; length = 0 }
-begun_mirror sizes call pass plain = ap (λ (made : FileCall). record { control = first_control sizes made; call = made; asked = call; owned = pass.owned; sized = false; length = 0 }) plain
+-- what a machine has at hand of a pass whose call begins, whatever that is asked as
+pub begun_mirror : (sizes : Sizes) (asked call : FileCall) (pass : Pass) → plain_call asked ≡ call
+    → mirrored_control (begun sizes asked pass) ≡ record { control = first_control sizes call; call = call; owned = pass.owned; sized = false; length = 0 }
+begun_mirror sizes asked call pass makes = ap (λ (made : FileCall). record { control = first_control sizes made; call = made; owned = pass.owned; sized = false; length = 0 }) makes
 
-pub may_begin : (sizes : Sizes) (call : FileCall) (pass : Pass) → pass.control ≡ Idle → IsAllowed sizes call → CallMayBegin sizes call pass
-may_begin sizes call pass idle allowed = record { idle = idle; allowed = subst (IsAllowed sizes) (sym allowed.plain) allowed }
+pub may_begin : (sizes : Sizes) (asked call : FileCall) (pass : Pass) → plain_call asked ≡ call → pass.control ≡ Idle → IsAllowed sizes call → CallMayBegin sizes asked pass
+may_begin sizes asked call pass makes idle allowed = record { idle = idle; allowed = subst (IsAllowed sizes) (sym makes) allowed }
 
 pub call_begins : {State : Type 0} (mirror : Mirror State) (call : FileCall) (start : PassState) → plain_call call ≡ call → IsIdle start
     → InCall mirror call (Some call) (mirror.of (begun start.view.opened.sizes call (pass_of start.view))) None None start start
 call_begins mirror call start plain idle = record {
   idle = idle;
   plain = plain;
+  asked = call;
+  makes = plain;
+  asks = refl;
   steps = [];
   made = refl;
   own = (refl, refl);
@@ -55,6 +58,32 @@ call_begins mirror call start plain idle = record {
   mirrors = refl;
 }
 
+-- a call that is to begin may be asked as any that is made as it
+pub asked_as : (call asked : FileCall) (is : MirroredControl) (start now : PassState) → plain_call asked ≡ call → InCall control_mirror call (Some call) is None None start now
+    → InCall control_mirror call (Some asked) is None None start now
+asked_as call asked is start now makes called = record {
+  idle = called.idle;
+  plain = called.plain;
+  asked = asked;
+  makes = makes;
+  asks = refl;
+  steps = called.steps;
+  made = called.made;
+  own = (refl, called.own.1);
+  refused = called.refused;
+  placed = called.placed;
+  later = called.later;
+  spare = called.spare;
+  mount = called.mount;
+  still = called.still;
+  left = called.left;
+  fresh = called.fresh;
+  told = called.told;
+  mirrors = begun_mirror now.view.opened.sizes asked call (pass_of now.view) makes
+      ∙ sym (begun_mirror now.view.opened.sizes call call (pass_of now.view) called.plain)
+      ∙ called.mirrors;
+}
+
 pub call_ends : {State : Type 0} (mirror : Mirror State) (call : FileCall) (is : State) (refusal : Option Refusal) (place : Option ℕ) (start now : PassState) → InCall mirror call None is refusal place start now
     → (pass_of now.view).control ≡ Idle → (pass_of now.view).owned ≡ [] → IsIdle now
 call_ends mirror call is refusal place start now called control owned = record {
@@ -68,17 +97,23 @@ call_ends mirror call is refusal place start now called control owned = record {
 
 -- A call is over where its pass is idle and owns nothing.
 pub call_over : (call other : FileCall) (is : MirroredControl) (refusal : Option Refusal) (place : Option ℕ) (start now : PassState) → call ≡ other → InCall control_mirror call None is refusal place start now
-    → is.control ≡ Idle → is.owned ≡ [] → IsOver other refusal place start now
-call_over call other is refusal place start now same called control owned = subst (λ c. IsOver c refusal place start now) same record {
-  plain = called.plain;
-  steps = called.steps;
-  made = called.made;
-  own = subst (λ (o : Opened). AreOwn o.sizes call called.steps) called.mount called.own;
-  refused = subst (λ (o : Opened). refusal_in o.sizes call called.steps ≡ refusal) called.mount called.refused;
-  placed = called.placed;
-  told = called.told;
-  idle = call_ends control_mirror call is refusal place start now called (ap (λ (c : MirroredControl). c.control) called.mirrors ∙ control) (ap (λ (c : MirroredControl). c.owned) called.mirrors ∙ owned);
-  later = called.later;
-  spare = called.spare;
-  mount = called.mount;
-}
+    → is.control ≡ Idle → is.owned ≡ [] → IsMadeOver other refusal place start now
+call_over call other is refusal place start now same called control owned = subst (λ c. IsMadeOver c refusal place start now) same (
+  called.asked,
+  called.makes,
+  record {
+    asks = called.asks;
+    steps = called.steps;
+    made = called.made;
+    own = subst (λ made. AreOwnAs start.view.opened.sizes called.asked made called.steps) (sym called.makes)
+        (subst (λ (o : Opened). AreOwnAs o.sizes called.asked call called.steps) called.mount called.own);
+    refused = subst (λ made. refusal_in start.view.opened.sizes made called.steps ≡ refusal) (sym called.makes)
+        (subst (λ (o : Opened). refusal_in o.sizes call called.steps ≡ refusal) called.mount called.refused);
+    placed = called.placed;
+    told = called.told;
+    idle = call_ends control_mirror call is refusal place start now called (ap (λ (c : MirroredControl). c.control) called.mirrors ∙ control) (ap (λ (c : MirroredControl). c.owned) called.mirrors ∙ owned);
+    later = called.later;
+    spare = called.spare;
+    mount = called.mount;
+  },
+)

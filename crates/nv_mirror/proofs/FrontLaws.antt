@@ -3,7 +3,7 @@ use Rattle.std.proofs.Common.{◌≡◌, ◌≢◌, ◌⊎◌, ℕ, zero, suc, �
 use Rattle.std.specs.Prelude.{Option, Some, None, not}
 use Rattle.std.proofs.lemmas.Bool.{cases_eq}
 use Rattle.nv_plain.specs.declared.call.FileCall.{FileCall}
-use Rattle.nv_core.specs.state.Passes.{Pass, Control, Idle, TakePage, LoadLength, TakeSize, LoadStop, page_count, LoadOrder, VisitPage, WriteLoadHead, TakePlace, first_page, end_page, without, is_write, is_read}
+use Rattle.nv_core.specs.state.Passes.{Pass, Control, Idle, TakePage, LoadLength, TakeSize, LoadStop, page_count, LoadOrder, VisitPage, WriteLoadHead, TakePlace, first_page, end_page, without, is_write, is_read, plain_call}
 use Rattle.nv_core.specs.steps.ControlSteps.{leaving, ordered, first_control}
 use Rattle.nv_core.specs.state.Words.{Sizes, Word, SIZE, PAGE, place, page_total}
 use Rattle.nv_core.proofs.state.StepWords.{page_within}
@@ -25,14 +25,14 @@ use Rattle.nv_mirror.specs.declared.answers.Refusal.TheVariants.{Busy, Stopped, 
 use Rattle.nv_mirror.proofs.PageLaws.{page_among, without_first}
 use Rattle.nv_mirror.proofs.StepLaws.{opened_same}
 use Rattle.nv_core.specs.steps.Order.{give_last}
-use Rattle.nv_op.specs.Ops.{Fits as OpFits, core_op_of, opened_by}
+use Rattle.nv_op.specs.Ops.{Fits as OpFits, begun_as, core_op_of, opened_by}
 use Rattle.nv_mirror.specs.declared.front.FrontControl.{FrontControl}
 use Rattle.nv_mirror.specs.declared.front.FrontControl.TheVariants.{Passed, Over}
 use Rattle.nv_mirror.specs.declared.front.FrontControl.TheVariants as fronts
 use Rattle.nv_mirror.specs.declared.front.FrontMachine.{FrontMachine}
 use Rattle.nv_mirror.specs.Controls.{MirroredControl, control_mirror, mirrored_control, with_mirrored_control, InCall}
 use Rattle.nv_mirror.specs.Fronts.{HasPages, front_call_of, file_in, size_in, IsOpen, FitsAt, Fits, front_op_at, front_opens_at, refuse, locked, front_after_at, front_mirror_at, front_refusal_at, IsInCall, IsUnderWay}
-use Rattle.nv_mirror.proofs.EndsLaws.{asked_plain, call_begins, begun_mirror, may_begin}
+use Rattle.nv_mirror.proofs.EndsLaws.{asked_as, asked_plain, call_begins, begun_mirror, may_begin}
 use Rattle.nv_mirror.proofs.ControlLaws.{mirror_due, mirror_on, told_kept}
 
 -- ---- words
@@ -80,7 +80,7 @@ front_begins m start fits control idle = (
     owned = idle.owned ∙ sym (ap₂ (λ b n. with_if b (SIZE (file_in m)) (pages_from m.first n)) at.1 at.0)
 
     mirrors : mirrored_control (begun start.view.opened.sizes (front_call_of m) (pass_of start.view)) ≡ front_mirror_at m fronts.Begin
-    mirrors = begun_mirror start.view.opened.sizes (front_call_of m) (pass_of start.view) (asked_plain m.asked)
+    mirrors = begun_mirror start.view.opened.sizes (front_call_of m) (front_call_of m) (pass_of start.view) (asked_plain m.asked)
         ∙ ap₂ (λ control owned. record (front_mirror_at m fronts.Begin) { control = control; owned = owned; sized = false; length = 0 }) first owned
         ∙ ap₂ (λ sized length. record (front_mirror_at m fronts.Begin) { sized = sized; length = length }) (sym at.1) (sym at.2)
 
@@ -101,25 +101,25 @@ last_page : (first held : ℕ) → 0 < held → give_last (pages_from first held
 last_page first zero some = absurd (omega (arith, some))
 last_page first (suc held) some = ap (λ page. Some (Give (PAGE page))) (let e : first + held ≡ first + suc held - 1 = omega arith in e)
 
-pub front_due : (m : FrontMachine) (control : FrontControl) (start now : PassState) → Fits now.view.opened.sizes m → FitsAt m control → IsOpen control → IsInCall m control start now
-    → Precondition now (opened_by (front_opens_at m control)) (core_op_of now.view (front_op_at m control))
-front_due m fronts.Begin start now fits at runs way =
-    mirror_due _ _ _ _ _ _ start now way _ (may_begin _ _ _ (subst (λ (p : PassState). (pass_of p.view).control ≡ Idle) (sym way.fresh) way.idle.control) fits.allowed) (λ pass kept. refl) (λ pass. refl)
-front_due m fronts.TakePage start now fits at runs way = mirror_due _ _ _ _ _ _ start now way _ tt (λ pass kept. refl) (λ pass. refl)
-front_due m fronts.LoadLength start now fits at runs way = mirror_due _ _ _ _ _ _ start now way _ tt (λ pass kept. refl) (λ pass. refl)
-front_due m fronts.TakeSize start now fits at runs way = mirror_due _ _ _ _ _ _ start now way _ tt (λ pass kept. refl) (λ pass. refl)
-front_due m fronts.LoadStop start now fits at runs way = mirror_due _ _ _ _ _ _ start now way _ tt (λ pass kept. refl) (λ pass. refl)
-front_due m fronts.LoadOrder start now fits at runs way = mirror_due _ _ _ _ _ _ start now way _ tt (λ pass kept. refl) (λ pass. refl)
-front_due m (fronts.GiveBack true refusal) start now fits at runs way = mirror_due _ _ _ _ _ _ start now way _ tt (λ pass kept. refl) (λ pass. refl)
-front_due m (fronts.GiveBack false refusal) start now fits at runs way = mirror_due _ _ _ _ _ _ start now way _ tt (λ pass kept. refl) (λ pass. last_page m.first m.held at)
-front_due m Passed start now fits at runs way = absurd runs
-front_due m (Over refusal) start now fits at runs way = absurd runs
+pub front_due : (begins : FileCall) (m : FrontMachine) (control : FrontControl) (start now : PassState) → plain_call begins ≡ front_call_of m → Fits now.view.opened.sizes m → FitsAt m control → IsOpen control → IsInCall m control start now
+    → Precondition now (begun_as begins (opened_by (front_opens_at m control))) (core_op_of now.view (front_op_at m control))
+front_due begins m fronts.Begin start now makes fits at runs way =
+    mirror_due _ _ _ _ _ _ start now (asked_as (front_call_of m) begins _ start now makes way) _ (may_begin _ begins (front_call_of m) _ makes (subst (λ (p : PassState). (pass_of p.view).control ≡ Idle) (sym way.fresh) way.idle.control) fits.allowed) (λ pass kept. refl) (λ pass. refl)
+front_due begins m fronts.TakePage start now makes fits at runs way = mirror_due _ _ _ _ _ _ start now way _ tt (λ pass kept. refl) (λ pass. refl)
+front_due begins m fronts.LoadLength start now makes fits at runs way = mirror_due _ _ _ _ _ _ start now way _ tt (λ pass kept. refl) (λ pass. refl)
+front_due begins m fronts.TakeSize start now makes fits at runs way = mirror_due _ _ _ _ _ _ start now way _ tt (λ pass kept. refl) (λ pass. refl)
+front_due begins m fronts.LoadStop start now makes fits at runs way = mirror_due _ _ _ _ _ _ start now way _ tt (λ pass kept. refl) (λ pass. refl)
+front_due begins m fronts.LoadOrder start now makes fits at runs way = mirror_due _ _ _ _ _ _ start now way _ tt (λ pass kept. refl) (λ pass. refl)
+front_due begins m (fronts.GiveBack true refusal) start now makes fits at runs way = mirror_due _ _ _ _ _ _ start now way _ tt (λ pass kept. refl) (λ pass. refl)
+front_due begins m (fronts.GiveBack false refusal) start now makes fits at runs way = mirror_due _ _ _ _ _ _ start now way _ tt (λ pass kept. refl) (λ pass. last_page m.first m.held at)
+front_due begins m Passed start now makes fits at runs way = absurd runs
+front_due begins m (Over refusal) start now makes fits at runs way = absurd runs
 
 -- ---- what follows a step
 
 -- the control state of a machine, at a control state of the core and with some cells among its owned cells
 abbrev ctl : FrontMachine → Control → List Word → MirroredControl
-ctl m control owned = record { control = control; call = front_call_of m; asked = front_call_of m; owned = owned; sized = m.sized; length = m.length }
+ctl m control owned = record { control = control; call = front_call_of m; owned = owned; sized = m.sized; length = m.length }
 
 abbrev owned_of : FrontMachine → Bool → ℕ → List Word
 owned_of m size held = with_if size (SIZE (file_in m)) (pages_from m.first held)
@@ -254,32 +254,32 @@ module _ (m : FrontMachine) (start now new : PassState) (found : ℕ) (fits : Fi
     subst (λ (o : Opened). Fits o.sizes next) (sym (opened_same now new opens core_op found step)) leads.fits,
     subst (λ call. InCall control_mirror call (opened_by (front_opens_at next next.control)) (front_mirror_at next next.control) (front_refusal_at next.control) None start new) leads.call
         (mirror_on control_mirror (front_call_of m) opens is before None start now way core_op (opened_by (front_opens_at next next.control)) (front_mirror_at next next.control) (front_refusal_at next.control) None found new step free
-        (λ pass number history. goes pass number history ∙ leads.mirrors) leaves (refuses ∙ leads.refused) places may leads.opened (told_kept (front_call_of m) None start now new way.told opens core_op found step free seen mine)).0,
+        (λ pass number history. goes pass number history ∙ leads.mirrors) leaves (refuses ∙ leads.refused) places may leads.opened (told_kept way.asked None start now new way.told opens core_op found step free seen mine)).0,
   )
 
-  pub front_on : (control : FrontControl) → FitsAt m control → IsOpen control → IsInCall m control start now → Postcondition now (opened_by (front_opens_at m control)) (core_op_of now.view (front_op_at m control)) found new
+  pub front_on : (begins : FileCall) (control : FrontControl) → plain_call begins ≡ front_call_of m → FitsAt m control → IsOpen control → IsInCall m control start now → Postcondition now (begun_as begins (opened_by (front_opens_at m control))) (core_op_of now.view (front_op_at m control)) found new
       → Goes (front_after_at here m control found)
-  front_on fronts.Begin at runs way is =
-      led _ _ _ _ _ _ _ way is (free m fronts.Begin start now runs way) (λ pass number history. refl) (λ pass. refl) refl refl refl (λ pass number history. refl) (λ pass number. refl) (page_leads here m fits at.1 at.3 (found == 0))
-  front_on fronts.TakePage at runs way is =
+  front_on begins fronts.Begin makes at runs way is =
+      led _ _ _ _ _ _ _ (asked_as (front_call_of m) begins _ start now makes way) is (free m fronts.Begin start now runs way) (λ pass number history. refl) (λ pass. refl) refl refl refl (λ pass number history. refl) (λ pass number. refl) (page_leads here m fits at.1 at.3 (found == 0))
+  front_on begins fronts.TakePage makes at runs way is =
       led _ _ _ _ _ _ _ way is (free m fronts.TakePage start now runs way) (λ pass number history. refl) (λ pass. refl) refl refl refl (λ pass number history. refl) (λ pass number. refl) (page_leads here m fits at.0 at.1 (found == 0))
-  front_on fronts.LoadLength at runs way is =
+  front_on begins fronts.LoadLength makes at runs way is =
       led _ _ _ _ _ _ _ way is (free m fronts.LoadLength start now runs way)
       (λ pass number history. ap (λ e. record (ctl m (if (nat_lt 0 (size_in m) && nat_lt found e) && not m.sized then TakeSize else LoadStop) (owned_of m m.sized m.held)) { length = found }) (sym fits.end))
       (λ pass. refl) refl refl refl (λ pass number history. refl) (λ pass number. refl) (length_leads here m fits at found ((nat_lt 0 (size_in m) && nat_lt found m.end) && not m.sized) (unsized_by (nat_lt 0 (size_in m) && nat_lt found m.end) m.sized))
-  front_on fronts.TakeSize at runs way is =
+  front_on begins fronts.TakeSize makes at runs way is =
       led _ _ _ _ _ _ _ way is (free m fronts.TakeSize start now runs way) (λ pass number history. refl) (λ pass. refl) refl refl refl (λ pass number history. refl) (λ pass number. refl) (size_leads here m fits at.1 at.0 (found == 0))
-  front_on fronts.LoadStop at runs way is =
+  front_on begins fronts.LoadStop makes at runs way is =
       led _ _ _ _ _ _ _ way is (free m fronts.LoadStop start now runs way) (λ pass number history. refl) (λ pass. refl) refl refl refl (λ pass number history. refl) (λ pass number. refl) (stop_leads here m fits at (found == 0))
-  front_on fronts.LoadOrder at runs way is =
+  front_on begins fronts.LoadOrder makes at runs way is =
       led _ _ _ _ _ _ _ way is (free m fronts.LoadOrder start now runs way) (λ pass number history. refl) (λ pass. refl) refl refl refl (λ pass number history. refl) (λ pass number. refl) (order_leads here m fits at found (nat_lt found (2 ^ 60)))
-  front_on (fronts.GiveBack true refusal) at runs way is =
+  front_on begins (fronts.GiveBack true refusal) makes at runs way is =
       led _ _ _ _ _ _ _ way is (free m (fronts.GiveBack true refusal) start now runs way)
       (λ pass number history. ap (λ owned. ctl m (leaving owned) owned) (without_first (SIZE (file_in m)) (pages_from m.first m.held)))
       (λ pass. refl) refl refl refl (λ pass number history. refl) (λ pass number. refl) (refuse_leads here m false m.held refusal fits fits.within)
-  front_on (fronts.GiveBack false refusal) at runs way is =
+  front_on begins (fronts.GiveBack false refusal) makes at runs way is =
       led _ _ _ _ _ _ _ way is (free m (fronts.GiveBack false refusal) start now runs way)
       (λ pass number history. ap (λ owned. ctl m (leaving owned) owned) (page_dropped m.first m.held at))
       (λ pass. refl) refl refl refl (λ pass number history. refl) (λ pass number. refl) (refuse_leads here m false (m.held - 1) refusal fits (let w = fits.within in omega (arith, w)))
-  front_on Passed at runs way is = absurd runs
-  front_on (Over refusal) at runs way is = absurd runs
+  front_on begins Passed makes at runs way is = absurd runs
+  front_on begins (Over refusal) makes at runs way is = absurd runs

@@ -1,4 +1,5 @@
 pub mod AlteredCalls
+pub mod AskedLaws
 pub mod CellLaws
 pub mod ControlLaws
 pub mod CopiedLaws

@@ -114,7 +114,7 @@ load_fits sizes pass m (Refused refusal) = tt
 -- the core's control state, at a control state and with some cells among its owned cells
 abbrev pub at : LoadMachine → Control → List Word → (head : ℕ) → List (ℕ × List ℕ) → Reading
 at m control owned head fetched =
-    record { mirrored_control = record { control = control; call = load_call_of m; asked = load_call_of m; owned = owned; sized = m.sized; length = m.length }; head = head; fetched = fetched }
+    record { mirrored_control = record { control = control; call = load_call_of m; owned = owned; sized = m.sized; length = m.length }; head = head; fetched = fetched }
 
 -- Where the core's control state leads, with what it is refused for, the machine goes.
 pub record Leads (sizes : Sizes) (m : LoadMachine) (room : List ℕ) (is : Reading) (refusal : Option Refusal) (next : LoadMachine) : Type 0 where
@@ -210,7 +210,7 @@ module _ (m : LoadMachine) (room : List ℕ) (start now new : PassState) (found 
       let on = mirror_on readings (load_call_of m) None (load_mirror_at here m room way.before control) (load_refusal_at control) None start now way.called (core_op control)
       None (load_mirror_at new.view.opened.sizes next room leads.before next_control) (load_refusal_at next_control) None found new step free
       (λ pass number history. goes pass number history ∙ leads.mirrors ∙ ap (λ (o : Opened). load_mirror_at o.sizes next room leads.before next_control) (sym opened))
-      leaves (refuses ∙ leads.refused) places may refl (told_kept (load_call_of m) None start now new way.called.told None (core_op control) found step free seen mine) in (
+      leaves (refuses ∙ leads.refused) places may refl (told_kept way.called.asked None start now new way.called.told None (core_op control) found step free seen mine) in (
         subst (λ (o : Opened). Fits o.sizes next) (sym opened)
             record { allowed = fits.allowed; some = fits.some; first = fits.first; pages = fits.pages; own = fits.own; stands = leads.fits },
         record { before = leads.before; called = on.0; missed = leads.missed new },

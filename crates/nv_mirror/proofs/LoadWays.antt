@@ -30,6 +30,9 @@ module _ (call : FileCall) (refusal : Option Refusal) (place : Option ℕ) (star
     own = called.own;
     refused = called.refused;
     plain = called.plain;
+    asked = called.asked;
+    makes = called.makes;
+    asks = called.asks;
     placed = called.placed;
     later = called.later;
     spare = called.spare;
@@ -51,6 +54,9 @@ module _ (call : FileCall) (refusal : Option Refusal) (place : Option ℕ) (star
     own = called.own;
     refused = called.refused;
     plain = called.plain;
+    asked = called.asked;
+    makes = called.makes;
+    asks = called.asks;
     placed = called.placed;
     later = called.later;
     spare = called.spare;

@@ -121,6 +121,7 @@ module _ (m : LoadMachine) (control : LoadControl) (room : List ℕ) (start now 
       failed = failed;
       step = record { opens = None; works = step.works; op = op; found = found };
       taken = taken_by now mid new None op found between step;
+      opens = refl;
       op = op_is;
       fault = ap fault_in told ∙ fault_is;
       next = next_is;

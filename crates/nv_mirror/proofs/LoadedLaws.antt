@@ -1,12 +1,10 @@
 -- Loaded pages: what a read has of a page that it has loaded is that page after the history.
 use Rattle.std.proofs.Common.{◌≡◌, ℕ, ◌+◌, ◌<◌, false, List, inl, sym, subst, ◌∙◌, arith}
-use Rattle.nv_plain.specs.Files.{Files}
 use Rattle.nv_plain.specs.declared.call.FileCall.TheVariants.{Sync}
-use Rattle.nv_core.specs.content.Content.{Opens, RunsKeepContent}
+use Rattle.nv_core.specs.content.Content.{RunsKeepContent}
 use Rattle.nv_core.specs.content.PagesAfter.{page_now}
 use Rattle.nv_core.specs.content.ValidBuffers.{GatheredAt}
 use Rattle.nv_core.specs.log.Groups.{Log}
-use Rattle.nv_core.specs.log.LogContent.{OpensLog}
 use Rattle.nv_core.specs.steps.Opening.{IsMount}
 use Rattle.nv_table.specs.state.Opened.{IsRunOf, mount_of, state_of}
 use Rattle.nv_table.specs.state.States.{PassState}

@@ -7,22 +7,22 @@ use Rattle.nv_core.specs.state.Words.{Sizes}
 use Rattle.nv_core.specs.steps.Ops.{Op, Give, Return, Place, Stop}
 use Rattle.nv_mirror.specs.declared.answers.Refusal.{Refusal}
 use Rattle.nv_mirror.specs.declared.answers.Refusal.TheVariants.{RegionFault}
-use Rattle.nv_mirror.specs.OwnSteps.{is_passing, gives_back, is_own, AreOwn, AreOwnSoFar, ArePassing}
+use Rattle.nv_mirror.specs.OwnSteps.{is_passing, gives_back, is_own, AreOwnAs, AreOwnSoFar, ArePassing}
 use Rattle.nv_mirror.specs.PassSteps.{PassStep, refusal_in, place_in, place_by, stops_in, is_stop, either_of}
 
 -- one more
-pub own_on : (sizes : Sizes) (call : FileCall) (step : PassStep) (steps : List PassStep) (refusal : Option Refusal) → AreOwn sizes call steps → refusal_in sizes call steps ≡ refusal
-    → step.opens ≡ None → is_own call refusal step.op ≡ true → AreOwn sizes call (step ∷ steps)
-own_on sizes call step [] refusal own is none may = absurd own
-own_on sizes call step (other ∷ earlier) refusal own is none may = (none, ap (λ r. is_own call r step.op) is ∙ may, own)
+pub own_on : (sizes : Sizes) (asked call : FileCall) (step : PassStep) (steps : List PassStep) (refusal : Option Refusal) → AreOwnAs sizes asked call steps → refusal_in sizes call steps ≡ refusal
+    → step.opens ≡ None → is_own call refusal step.op ≡ true → AreOwnAs sizes asked call (step ∷ steps)
+own_on sizes asked call step [] refusal own is none may = absurd own
+own_on sizes asked call step (other ∷ earlier) refusal own is none may = (none, ap (λ r. is_own call r step.op) is ∙ may, own)
 
 -- or the first one
-pub own_so_far_on : (opens : Option FileCall) (sizes : Sizes) (call : FileCall) (step : PassStep) (steps : List PassStep) (refusal : Option Refusal) → AreOwnSoFar opens sizes call steps
-    → refusal_in sizes call steps ≡ refusal → step.opens ≡ opens → is_own call refusal step.op ≡ true → AreOwn sizes call (step ∷ steps)
-own_so_far_on (Some begun) sizes call step steps refusal own is opens may =
+pub own_so_far_on : (opens : Option FileCall) (sizes : Sizes) (asked call : FileCall) (step : PassStep) (steps : List PassStep) (refusal : Option Refusal) → AreOwnSoFar opens sizes asked call steps
+    → refusal_in sizes call steps ≡ refusal → step.opens ≡ opens → is_own call refusal step.op ≡ true → AreOwnAs sizes asked call (step ∷ steps)
+own_so_far_on (Some begun) sizes asked call step steps refusal own is opens may =
     let none : None ≡ refusal = ap (refusal_in sizes call) (sym own.1) ∙ is in
-    subst (λ earlier. AreOwn sizes call (step ∷ earlier)) (sym own.1) (opens ∙ ap Some own.0, ap (λ r. is_own call r step.op) none ∙ may)
-own_so_far_on None sizes call step steps refusal own is opens may = own_on sizes call step steps refusal own is opens may
+    subst (λ earlier. AreOwnAs sizes asked call (step ∷ earlier)) (sym own.1) (opens ∙ ap Some own.0, ap (λ r. is_own call r step.op) none ∙ may)
+own_so_far_on None sizes asked call step steps refusal own is opens may = own_on sizes asked call step steps refusal own is opens may
 
 -- ---- what those of a read change
 
@@ -57,12 +57,12 @@ module _ (file at len : ℕ) where
   own_passing (Some refusal) op found may unplaced unset = gives_passing refusal op may
   own_passing None op found may unplaced unset = goes_passing op found may unplaced unset
 
-  pub own_are_passing : (sizes : Sizes) (steps : List PassStep) → AreOwn sizes (Read file at len) steps → place_in steps ≡ None → stops_in steps ≡ false → ArePassing steps
-  own_are_passing sizes [] own unplaced unset = tt
-  own_are_passing sizes (step ∷ []) own unplaced unset = (own_passing None step.op step.found own.1 unplaced unset, tt)
-  own_are_passing sizes (step ∷ (other ∷ earlier)) own unplaced unset = (
+  pub own_are_passing : (sizes : Sizes) (asked : FileCall) (steps : List PassStep) → AreOwnAs sizes asked (Read file at len) steps → place_in steps ≡ None → stops_in steps ≡ false → ArePassing steps
+  own_are_passing sizes asked [] own unplaced unset = tt
+  own_are_passing sizes asked (step ∷ []) own unplaced unset = (own_passing None step.op step.found own.1 unplaced unset, tt)
+  own_are_passing sizes asked (step ∷ (other ∷ earlier)) own unplaced unset = (
     own_passing (refusal_in sizes (Read file at len) (other ∷ earlier)) step.op step.found own.1 (either_none_last (place_in (other ∷ earlier)) (place_by step.op step.found) unplaced)
         (or_false_last (stops_in (other ∷ earlier)) (is_stop step.op) unset),
-    own_are_passing sizes (other ∷ earlier) own.2 (either_none_first (place_in (other ∷ earlier)) (place_by step.op step.found) unplaced)
+    own_are_passing sizes asked (other ∷ earlier) own.2 (either_none_first (place_in (other ∷ earlier)) (place_by step.op step.found) unplaced)
         (or_false_first (stops_in (other ∷ earlier)) (is_stop step.op) unset),
   )

@@ -6,7 +6,7 @@ use Rattle.nv_plain.specs.declared.call.FileCall.TheVariants.{Read, Write, Readv
 use Rattle.nv_core.specs.steps.ControlSteps.{first_control, ordered, giving}
 use Rattle.nv_core.specs.steps.Ops.{Place}
 use Rattle.nv_core.specs.steps.Order.{plain_reply}
-use Rattle.nv_core.specs.state.Passes.{Control, Idle, LoadStop, LoadOrder, TakePlace, GrowLength, is_write, at_of, len_of}
+use Rattle.nv_core.specs.state.Passes.{Control, Idle, Pass, LoadStop, LoadOrder, TakePlace, GrowLength, is_write, at_of, len_of, plain_call}
 use Rattle.nv_core.specs.state.Words.{Sizes}
 use Rattle.nv_table.specs.invariant.Idle.{IsIdle}
 use Rattle.nv_table.specs.steps.StepContracts.{Postcondition}
@@ -17,13 +17,13 @@ use Rattle.nv_table.proofs.steps.CallLaws.{IsCallFree}
 use Rattle.nv_mirror.specs.declared.answers.Refusal.{Refusal}
 use Rattle.nv_mirror.specs.declared.answers.Refusal.TheVariants.{Stopped, Spent}
 use Rattle.nv_op.specs.declared.asked.Asked.{Asked}
-use Rattle.nv_op.specs.Ops.{call_asked, core_op_of, opened_by}
+use Rattle.nv_op.specs.Ops.{Fits as OpFits, begun_as, call_asked, core_op_of, opened_by}
 use Rattle.nv_mirror.specs.declared.pageless.PagelessControl.{PagelessControl}
 use Rattle.nv_mirror.specs.declared.pageless.PagelessControl.TheVariants.{Over}
 use Rattle.nv_mirror.specs.declared.pageless.PagelessControl.TheVariants as controls
 use Rattle.nv_mirror.specs.Controls.{MirroredControl, control_mirror, Told, InCall}
 use Rattle.nv_mirror.specs.Pageless.{Fits, IsOpen, IsInCall, pageless_op, pageless_opens_at, pageless_after, mirror, pageless_refusal_at, pageless_place_at}
-use Rattle.nv_mirror.proofs.EndsLaws.{asked_plain, call_begins, begun_mirror, may_begin}
+use Rattle.nv_mirror.proofs.EndsLaws.{asked_as, asked_plain, call_begins, begun_mirror, may_begin}
 use Rattle.nv_mirror.proofs.ControlLaws.{PlaceLaws, mirror_due, mirror_on, place_plainly, told_kept, told_placed}
 
 -- what the core makes of a call without a page
@@ -45,7 +45,7 @@ no_page sizes (Sync file) none = record { first = refl; next = refl; last = refl
 pub pageless_begins : (asked : Asked) (start : PassState) → len_of (call_asked asked) ≡ 0 → IsIdle start → IsInCall asked controls.Begin start start
 pageless_begins asked start none idle =
     subst (λ (is : MirroredControl). InCall control_mirror (call_asked asked) (Some (call_asked asked)) is None None start start)
-    (begun_mirror start.view.opened.sizes (call_asked asked) (pass_of start.view) (asked_plain asked)
+    (begun_mirror start.view.opened.sizes (call_asked asked) (call_asked asked) (pass_of start.view) (asked_plain asked)
     ∙ ap (λ owned. record (mirror (call_asked asked) controls.Begin) { control = first_control start.view.opened.sizes (call_asked asked); owned = owned }) idle.owned
     ∙ ap (λ control. record (mirror (call_asked asked) controls.Begin) { control = control }) (no_page start.view.opened.sizes (call_asked asked) none).first)
     (call_begins control_mirror (call_asked asked) start (asked_plain asked) idle)
@@ -56,16 +56,23 @@ free asked controls.LoadOrder start now runs way = subst (λ (c : MirroredContro
 free asked controls.TakePlace start now runs way = subst (λ (c : MirroredControl). IsCallFree c.control) (sym way.mirrors) (λ sizes values pass work due. due)
 free asked (Over answer) start now runs way = absurd runs
 
-pub pageless_due : (asked : Asked) (control : PagelessControl) (start now : PassState) → Fits now.view.opened.sizes asked → IsOpen control → IsInCall asked control start now
-    → Precondition now (opened_by (pageless_opens_at asked control)) (core_op_of now.view (pageless_op control))
-pageless_due asked controls.Begin start now fits runs way =
-    mirror_due _ _ _ _ _ _ start now way _
-    (may_begin _ _ _ (subst (λ (p : PassState). (pass_of p.view).control ≡ Idle) (sym way.fresh) way.idle.control) fits.allowed) (λ pass kept. refl) (λ pass. refl)
-pageless_due asked controls.LoadOrder start now fits runs way = mirror_due _ _ _ _ _ _ start now way _ tt (λ pass kept. refl) (λ pass. refl)
-pageless_due asked controls.TakePlace start now fits runs way =
+-- its operations say nothing of the pass
+pub pageless_fits : (sizes : Sizes) (opens : Option FileCall) (pass : Pass) (control : PagelessControl) → OpFits sizes opens pass (pageless_op control)
+pageless_fits sizes opens pass controls.Begin = tt
+pageless_fits sizes opens pass controls.LoadOrder = tt
+pageless_fits sizes opens pass controls.TakePlace = tt
+pageless_fits sizes opens pass (Over answer) = tt
+
+pub pageless_due : (begins : FileCall) (asked : Asked) (control : PagelessControl) (start now : PassState) → plain_call begins ≡ call_asked asked → Fits now.view.opened.sizes asked → IsOpen control → IsInCall asked control start now
+    → Precondition now (begun_as begins (opened_by (pageless_opens_at asked control))) (core_op_of now.view (pageless_op control))
+pageless_due begins asked controls.Begin start now makes fits runs way =
+    mirror_due _ _ _ _ _ _ start now (asked_as (call_asked asked) begins _ start now makes way) _
+    (may_begin _ begins (call_asked asked) _ makes (subst (λ (p : PassState). (pass_of p.view).control ≡ Idle) (sym way.fresh) way.idle.control) fits.allowed) (λ pass kept. refl) (λ pass. refl)
+pageless_due begins asked controls.LoadOrder start now makes fits runs way = mirror_due _ _ _ _ _ _ start now way _ tt (λ pass kept. refl) (λ pass. refl)
+pageless_due begins asked controls.TakePlace start now makes fits runs way =
     mirror_due _ _ _ _ _ _ start now way _ tt (λ pass kept. refl)
     (λ pass. ap Some (sym (place_plainly now (ap (λ (c : MirroredControl). c.control) way.mirrors) ∙ ap (λ (c : MirroredControl). Place (plain_reply c.call)) way.mirrors)))
-pageless_due asked (Over answer) start now fits runs way = absurd runs
+pageless_due begins asked (Over answer) start now makes fits runs way = absurd runs
 
 -- ---- what follows a step
 
@@ -87,21 +94,22 @@ module _ (asked : Asked) (start now new : PassState) (found : ℕ) (fits : Fits 
   none : HasNoPage now.view.opened.sizes (call_asked asked)
   none = no_page now.view.opened.sizes (call_asked asked) fits.none
 
-  pub pageless_on : (control : PagelessControl) → PlaceLaws now.view.opened → IsOpen control → IsInCall asked control start now
-      → Postcondition now (opened_by (pageless_opens_at asked control)) (core_op_of now.view (pageless_op control)) found new → IsInCall asked (pageless_after control found) start new
-  pageless_on controls.Begin laws runs way is =
+  pub pageless_on : (begins : FileCall) (control : PagelessControl) → plain_call begins ≡ call_asked asked → PlaceLaws now.view.opened → IsOpen control → IsInCall asked control start now
+      → Postcondition now (begun_as begins (opened_by (pageless_opens_at asked control))) (core_op_of now.view (pageless_op control)) found new → IsInCall asked (pageless_after control found) start new
+  pageless_on begins controls.Begin makes laws runs way is =
       let leads = stop_leads asked (found == 0) in
-      (mirror_on _ _ _ _ _ _ start now way _ _ _ _ _ found new is (free asked controls.Begin start now runs way) (λ pass number history. leads.0) (λ pass. refl) leads.1 leads.2 refl leads.3
-      (subst (λ place. Told (call_asked asked) place start new) leads.2 (told_kept (call_asked asked) None start now new way.told _ _ found is (free asked controls.Begin start now runs way) (λ pass number history. refl) (λ pass number. refl)))).0
-  pageless_on controls.LoadOrder laws runs way is =
+      let as_asked = asked_as (call_asked asked) begins _ start now makes way in
+      (mirror_on _ _ _ _ _ _ start now as_asked _ _ _ _ _ found new is (free asked controls.Begin start now runs way) (λ pass number history. leads.0) (λ pass. refl) leads.1 leads.2 refl leads.3
+      (subst (λ place. Told as_asked.asked place start new) leads.2 (told_kept as_asked.asked None start now new as_asked.told _ _ found is (free asked controls.Begin start now runs way) (λ pass number history. refl) (λ pass number. refl)))).0
+  pageless_on begins controls.LoadOrder makes laws runs way is =
       let leads = order_leads asked (ordered now.view.opened.sizes (call_asked asked)) found (nat_lt found (2 ^ 60)) none.next in
       (mirror_on _ _ _ _ _ _ start now way _ _ _ _ _ found new is (free asked controls.LoadOrder start now runs way) (λ pass number history. leads.0) (λ pass. refl) leads.1 leads.2 refl leads.3
-      (subst (λ place. Told (call_asked asked) place start new) leads.2 (told_kept (call_asked asked) None start now new way.told _ _ found is (free asked controls.LoadOrder start now runs way) (λ pass number history. refl) (λ pass number. refl)))).0
-  pageless_on controls.TakePlace laws runs way is =
+      (subst (λ place. Told way.asked place start new) leads.2 (told_kept way.asked None start now new way.told _ _ found is (free asked controls.LoadOrder start now runs way) (λ pass number history. refl) (λ pass number. refl)))).0
+  pageless_on begins controls.TakePlace makes laws runs way is =
       (mirror_on _ _ _ _ _ _ start now way _ _ _ _ _ found new is (free asked controls.TakePlace start now runs way)
       (λ pass number history. ap (λ control. record (mirror (call_asked asked) controls.TakePlace) { control = control }) placed) (λ pass. refl) refl refl refl refl
-      (told_placed (call_asked asked) start now new found laws way.told way.later way.mount (ap (λ (c : MirroredControl). c.call) way.mirrors) (ap (λ (c : MirroredControl). c.asked) way.mirrors) (asked_plain asked) (ap (λ (c : MirroredControl). c.control) way.mirrors) is)).0
+      (told_placed way.asked (call_asked asked) start now new found laws way.told way.later way.mount (ap (λ (c : MirroredControl). c.call) way.mirrors) way.asks way.makes (ap (λ (c : MirroredControl). c.control) way.mirrors) is)).0
     where
       placed : (if is_write (call_asked asked) && (nat_lt 0 (len_of (call_asked asked)) && nat_lt 0 (at_of (call_asked asked) + len_of (call_asked asked))) then GrowLength else giving now.view.opened.sizes (call_asked asked)) ≡ Idle
       placed = ap (λ b. if b && (nat_lt 0 (len_of (call_asked asked)) && nat_lt 0 (at_of (call_asked asked) + len_of (call_asked asked))) then GrowLength else giving now.view.opened.sizes (call_asked asked)) none.grows ∙ none.last
-  pageless_on (Over answer) laws runs way is = absurd runs
+  pageless_on begins (Over answer) makes laws runs way is = absurd runs

@@ -1,6 +1,7 @@
 -- Parts: of which kind each step is of the parts that reads and writes share, and what comes of it.
 use Rattle.std.proofs.Common.{◌≡◌, ℕ, zero, suc, ◌+◌, ◌-◌, ◌^◌, ◌==◌, nat_lt, Bool, true, false, if◌then◌else◌, refl, ap, subst, sym, ◌∙◌}
 use Rattle.std.specs.Prelude.{Option, Some, None}
+use Rattle.nv_plain.specs.declared.call.FileCall.{FileCall}
 use Rattle.nv_core.specs.state.Words.{Sizes, Word}
 use Rattle.nv_core.specs.steps.Ops.{Give}
 use Rattle.nv_table.specs.state.States.{PassState}
@@ -9,7 +10,7 @@ use Rattle.nv_table.specs.steps.StepContracts.{Postcondition}
 use Rattle.nv_table.proofs.steps.CallLaws.{IsCallFree}
 use Rattle.nv_op.specs.declared.kinds.Kind.{Kind}
 use Rattle.nv_op.specs.Kinds.{kind_of, kind_of_op}
-use Rattle.nv_op.specs.Ops.{core_op_of, opened_by}
+use Rattle.nv_op.specs.Ops.{core_op_of}
 use Rattle.nv_op.proofs.KindLaws.{kind_same}
 use Rattle.nv_mirror.specs.declared.answers.Refusal.{Refusal}
 use Rattle.nv_mirror.specs.declared.answers.Refusal.TheVariants.{Busy, Stopped, Spent, StoreFault}
@@ -110,12 +111,12 @@ front_place m found view (fronts.GiveBack true refusal) = refl
 front_place m found view (fronts.GiveBack false refusal) = refl
 front_place m found view (Over refusal) = refl
 
-pub front_tells : (fault_of : Option Refusal → Option Refusal) → TellsFaults fault_of → (m next : FrontMachine) (start now new : PassState) (found : ℕ) → front.IsOpen m.control → front.IsUnderWay m start now
-    → Postcondition now (opened_by (front_opens m)) (core_op_of now.view (front_op m)) found new → next ≡ front_after now.view.opened.sizes m found
+pub front_tells : (fault_of : Option Refusal → Option Refusal) → TellsFaults fault_of → (m next : FrontMachine) {opens : Option FileCall} (start now new : PassState) (found : ℕ) → front.IsOpen m.control → front.IsUnderWay m start now
+    → Postcondition now opens (core_op_of now.view (front_op m)) found new → next ≡ front_after now.view.opened.sizes m found
     → TellsStep fault_of (kind_of (front_op m)) (front_refusal_at m.control) (front_refusal_at next.control) None None now new
-front_tells fault_of tells m next start now new found runs way is next_is =
+front_tells fault_of tells m next {opens} start now new found runs way is next_is =
     let none = no_fault now new _ _ found (free m m.control start now runs way.1) is in record {
-      step = record { opens = opened_by (front_opens m); works = is.works; op = core_op_of now.view (front_op m); found = found };
+      step = record { opens = opens; works = is.works; op = core_op_of now.view (front_op m); found = found };
       taken = taken_by now now new _ _ found (between_self now) is;
       kind = λ well. kind_same now.view (front_op m);
       fault = ap (λ (n : FrontMachine). fault_of (front_refusal_at n.control)) next_is ∙ front_fault fault_of tells now.view.opened.sizes m found m.control runs
@@ -161,11 +162,11 @@ module _ (fault_of : Option Refusal → Option Refusal) (tells : TellsFaults fau
   pageless_fault found controls.TakePlace runs = refl
   pageless_fault found (controls.Over answer) runs = absurd runs
 
-  pub pageless_tells : (m next : PagelessMachine) (start now new : PassState) (found : ℕ) → pageless.IsOpen m.control → pageless.IsUnderWay m start now
-      → Postcondition now (opened_by (pageless.pageless_opens m)) (core_op_of now.view (pageless_op m.control)) found new → next.control ≡ pageless_after m.control found
+  pub pageless_tells : (m next : PagelessMachine) {opens : Option FileCall} (start now new : PassState) (found : ℕ) → pageless.IsOpen m.control → pageless.IsUnderWay m start now
+      → Postcondition now opens (core_op_of now.view (pageless_op m.control)) found new → next.control ≡ pageless_after m.control found
       → TellsStep fault_of (kind_of (pageless_op m.control)) (pageless_refusal_at m.control) (pageless_refusal_at next.control) (pageless_place_at m.control) (pageless_place_at next.control) now new
-  pageless_tells m next start now new found runs way is next_is = record {
-    step = record { opens = opened_by (pageless.pageless_opens m); works = is.works; op = core_op_of now.view (pageless_op m.control); found = found };
+  pageless_tells m next {opens} start now new found runs way is next_is = record {
+    step = record { opens = opens; works = is.works; op = core_op_of now.view (pageless_op m.control); found = found };
     taken = taken_by now now new _ _ found (between_self now) is;
     kind = λ well. kind_same now.view (pageless_op m.control);
     fault = ap (λ c. fault_of (pageless_refusal_at c)) next_is ∙ pageless_fault found m.control runs

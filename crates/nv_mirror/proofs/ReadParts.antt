@@ -4,6 +4,7 @@ use Rattle.std.specs.Prelude.{None}
 use Rattle.nv_core.specs.state.Passes.{Pass}
 use Rattle.nv_core.specs.state.Words.{Word}
 use Rattle.nv_core.specs.steps.Ops.{Give}
+use Rattle.nv_plain.specs.declared.call.FileCall.{FileCall}
 use Rattle.nv_table.specs.state.States.{PassState}
 use Rattle.nv_table.specs.state.Views.{PassView, pass_of}
 use Rattle.nv_table.specs.steps.StepContracts.{Postcondition}
@@ -14,7 +15,7 @@ use Rattle.nv_mirror.specs.declared.load.LoadControl.{LoadControl}
 use Rattle.nv_mirror.specs.declared.load.LoadControl.TheVariants as loads
 use Rattle.nv_mirror.specs.declared.load.LoadMachine.{LoadMachine}
 use Rattle.nv_mirror.specs.declared.visit.VisitMachine.{VisitMachine}
-use Rattle.nv_mirror.specs.Answers.{IsReadPlaced}
+use Rattle.nv_mirror.specs.Answers.{IsListPlaced}
 use Rattle.nv_mirror.specs.Loads.{HasStepped, load_after, load_noted}
 use Rattle.nv_mirror.specs.PassSteps.{PassStep, HasTaken}
 use Rattle.nv_mirror.specs.Visits.{IsLoadOf, load_of}
@@ -52,8 +53,8 @@ pub load_of_still : (visit : VisitMachine) (old new : LoadMachine) (was now : Pa
 load_of_still visit old new was now stepped is = load_still (load_of visit) old new was now stepped is
 
 -- what a placed read has told stays, where it gives something back
-pub told_still : (file from : ℕ) (list : List ℕ) (start was now : PassState) (done : Done) (cell : Word) (found : ℕ) → Postcondition was None (Give cell) found now → IsReadPlaced file from list start.view was.view done → IsReadPlaced file from list start.view now.view done
-told_still file from list start was now done cell found step told = record {
+pub told_still : (asked : FileCall) (list : List ℕ) (start was now : PassState) (done : Done) (cell : Word) (found : ℕ) → Postcondition was None (Give cell) found now → IsListPlaced asked list start.view was.view done → IsListPlaced asked list start.view now.view done
+told_still asked list start was now done cell found step told = record {
   bytes = told.bytes;
   rest = told.rest;
   list_is = told.list_is;

@@ -25,7 +25,7 @@ use Rattle.nv_mirror.proofs.StepLaws.{opened_same}
 
 -- the core's control state at a control and with some owned cells
 abbrev at : ReleaseMachine → Control → List Word → MirroredControl
-at m control owned = record { control = control; call = release_call_of m; asked = release_call_of m; owned = owned; sized = m.sized; length = m.length }
+at m control owned = record { control = control; call = release_call_of m; owned = owned; sized = m.sized; length = m.length }
 
 -- behind one of its pages comes the next, or nothing where that was the last
 page_on : (sizes : Sizes) (m : ReleaseMachine) (given : ℕ) → Fits sizes m → given < m.pages
@@ -79,7 +79,7 @@ module _ (m : ReleaseMachine) (start now new : PassState) (found : ℕ) (fits : 
   led control next cell way step free goes stands = (
     subst (λ (o : Opened). Fits o.sizes (record m { control = next })) (sym (opened_same now new None (Give cell) found step)) (fits_then here m next fits stands),
     (mirror_on control_mirror (release_call_of m) None (release_mirror_at m control) None (Some m.place) start now way (Give cell) None (release_mirror_at m next) None (Some m.place) found new step free
-        goes (λ pass. refl) refl refl refl refl (told_kept (release_call_of m) (Some m.place) start now new way.told None (Give cell) found step free (λ pass number history. refl) (λ pass number. refl))).0,
+        goes (λ pass. refl) refl refl refl refl (told_kept way.asked (Some m.place) start now new way.told None (Give cell) found step free (λ pass number history. refl) (λ pass number. refl))).0,
   )
 
   pub release_on : (control : ReleaseControl) → FitsAt m control → IsOpen control → IsInCall m control start now → Postcondition now None (core_op_of now.view (release_op_at m control)) found new

@@ -25,7 +25,7 @@ use Rattle.nv_table.proofs.invariant.StepAt.{IsMadeAt, made_at}
 use Rattle.nv_table.proofs.steps.RunsOn.{IsPlain, step_of}
 use Rattle.nv_mirror.specs.declared.answers.Refusal.{Refusal}
 use Rattle.nv_mirror.specs.declared.answers.Refusal.TheVariants.{Busy, Stopped, Spent, Again, Raced, RegionFault, StoreFault}
-use Rattle.nv_mirror.specs.OwnSteps.{AreOwn, gives_back, is_own}
+use Rattle.nv_mirror.specs.OwnSteps.{AreOwnAs, gives_back, is_own}
 use Rattle.nv_mirror.specs.PassSteps.{PassStep, HasMade, HasTaken, busy_at, either_of, fault_at, fault_by, fault_in, head_in, if_own, is_fault, is_stop, refusal_in, refused_by, stops_in}
 
 -- ---- no device has failed
@@ -313,9 +313,9 @@ module _ (sizes : Sizes) (call : FileCall) where
       fails_there : step.op ≡ Stop → IsFailing there.control
       fails_there is = next_steps_may_come seen.opened.sizes come.core.values there Stop (subst (Enabled seen.opened.sizes come.core.values there) is may)
 
-      first_sets : step.opens ≡ Some call → step.op ≡ Stop → ⊥
-      first_sets opens is =
-          first_calm seen.opened.sizes (plain_call call)
+      first_sets : (asked : FileCall) → step.opens ≡ Some asked → step.op ≡ Stop → ⊥
+      first_sets asked opens is =
+          first_calm seen.opened.sizes (plain_call asked)
           (subst IsFailing (ap (λ o. (with_call seen.opened.sizes o (pass_worked seen.opened.sizes taken.stepped.works (pass_of seen))).control) opens) (fails_there is))
 
       later_sets : step.opens ≡ None → Stands middle → step.op ≡ Stop → is_fault (fault_in step.works) ≡ true
@@ -324,18 +324,18 @@ module _ (sizes : Sizes) (call : FileCall) where
           ∙ works_fail seen.opened.sizes taken.stepped.works _ (pass_of seen) taken.stepped.due (λ fails. was.calm (subst (λ (v : PassView). IsFailing (pass_of v).control) taken.between.view fails))
           (subst IsFailing (ap (λ o. (with_call seen.opened.sizes o (pass_worked seen.opened.sizes taken.stepped.works (pass_of seen))).control) opens) (fails_there is))
 
-    stands : (steps : List PassStep) (now : PassState) → HasMade steps start now → AreOwn sizes call steps → Stands now
-    stands [] now all own = absurd own
-    stands (step ∷ []) now all own = stands_on step all.0 now (ap (λ (p : PassState). p.view.opened) all.1) all.2 None own.1
-    stands (step ∷ (other ∷ earlier)) now all own =
-        stands_on step all.0 now (stands (other ∷ earlier) all.0 all.1 own.2).opened all.2 (refusal_in sizes call (other ∷ earlier)) own.1
+    stands : (asked : FileCall) (steps : List PassStep) (now : PassState) → HasMade steps start now → AreOwnAs sizes asked call steps → Stands now
+    stands asked [] now all own = absurd own
+    stands asked (step ∷ []) now all own = stands_on step all.0 now (ap (λ (p : PassState). p.view.opened) all.1) all.2 None own.1
+    stands asked (step ∷ (other ∷ earlier)) now all own =
+        stands_on step all.0 now (stands asked (other ∷ earlier) all.0 all.1 own.2).opened all.2 (refusal_in sizes call (other ∷ earlier)) own.1
 
     -- its steps set STOP exactly where it is refused for a device fault
-    pub sets_stop : (steps : List PassStep) (now : PassState) → HasMade steps start now → AreOwn sizes call steps → stops_in steps ≡ is_fault (refusal_in sizes call steps)
-    sets_stop [] now all own = absurd own
-    sets_stop (step ∷ []) now all own =
-        next_sets step [] None refl refl own.1 (λ is. absurd (first_sets step all.0 now (ap (λ (p : PassState). p.view.opened) all.1) all.2 None own.1 own.0 is))
-    sets_stop (step ∷ (other ∷ earlier)) now all own =
-        let was = stands (other ∷ earlier) all.0 all.1 own.2 in
+    pub sets_stop : (asked : FileCall) (steps : List PassStep) (now : PassState) → HasMade steps start now → AreOwnAs sizes asked call steps → stops_in steps ≡ is_fault (refusal_in sizes call steps)
+    sets_stop asked [] now all own = absurd own
+    sets_stop asked (step ∷ []) now all own =
+        next_sets step [] None refl refl own.1 (λ is. absurd (first_sets step all.0 now (ap (λ (p : PassState). p.view.opened) all.1) all.2 None own.1 asked own.0 is))
+    sets_stop asked (step ∷ (other ∷ earlier)) now all own =
+        let was = stands asked (other ∷ earlier) all.0 all.1 own.2 in
         let refusal = refusal_in sizes call (other ∷ earlier) in
-        next_sets step (other ∷ earlier) refusal refl (sets_stop (other ∷ earlier) all.0 all.1 own.2) own.1 (later_sets step all.0 now was.opened all.2 refusal own.1 own.0 was)
+        next_sets step (other ∷ earlier) refusal refl (sets_stop asked (other ∷ earlier) all.0 all.1 own.2) own.1 (later_sets step all.0 now was.opened all.2 refusal own.1 own.0 was)

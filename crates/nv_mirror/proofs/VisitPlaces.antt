@@ -2,9 +2,12 @@
 use Rattle.std.proofs.Common.{◌≡◌, ℕ, ◌+◌, ◌-◌, ◌<◌, ◌==◌, Bool, true, false, if◌then◌else◌, List, [], refl, sym, ap, ap₂, subst, ◌∙◌, arith, ne_eqb}
 use Rattle.std.specs.Prelude.{Some, None}
 use Rattle.std.proofs.lemmas.Bool.{lt-ltb, true≢false}
-use Rattle.nv_plain.specs.declared.call.FileCall.TheVariants.{Read}
+use Rattle.nv_plain.specs.Made.{reply_from}
+use Rattle.nv_plain.specs.declared.call.FileCall.{FileCall}
+use Rattle.nv_plain.specs.declared.call.Reply.{Reply}
+use Rattle.nv_plain.specs.declared.call.FileCall.TheVariants.{Read, Write, Readv, Writev, Sync}
 use Rattle.nv_plain.specs.declared.call.Reply.TheVariants.{Bytes}
-use Rattle.nv_core.specs.state.Passes.{Pass, Idle, VisitPage, GiveSize, GivePage, first_page, end_read, page_count}
+use Rattle.nv_core.specs.state.Passes.{Pass, Idle, VisitPage, GiveSize, GivePage, first_page, end_read, is_read, page_count, plain_call}
 use Rattle.nv_core.specs.state.Words.{Sizes}
 use Rattle.nv_core.specs.steps.Order.{Values}
 use Rattle.nv_core.specs.steps.StepKinds.{AreValid, MayPlace}
@@ -15,13 +18,13 @@ use Rattle.nv_table.specs.state.States.{PassState}
 use Rattle.nv_table.specs.state.Views.{pass_of, values_of}
 use Rattle.nv_table.specs.steps.CallSteps.{Precondition, place_op, reply_at}
 use Rattle.nv_table.specs.steps.StepContracts.{Postcondition}
-use Rattle.nv_table.proofs.steps.CallLaws.{IsCallFree}
+use Rattle.nv_table.proofs.steps.CallLaws.{IsCallFree, stepped_there}
 use Rattle.nv_table.proofs.steps.CallOps.{placed}
 use Rattle.nv_mirror.specs.declared.release.ReleaseControl.TheVariants as releases
 use Rattle.nv_mirror.specs.declared.visit.VisitControl.TheVariants as visits
 use Rattle.nv_mirror.specs.declared.visit.VisitMachine.{VisitMachine}
-use Rattle.nv_mirror.specs.Answers.{IsPlacedAs, IsReadPlaced}
-use Rattle.nv_mirror.specs.Controls.{MirroredControl, control_mirror}
+use Rattle.nv_mirror.specs.Answers.{IsPlacedAs, IsListPlaced}
+use Rattle.nv_mirror.specs.Controls.{IsReplyTo, MirroredControl, control_mirror}
 use Rattle.nv_mirror.specs.OwnedCells.{pages_from}
 use Rattle.nv_mirror.specs.Releases as release
 use Rattle.nv_mirror.specs.Releases.{release_mirror_at}
@@ -31,6 +34,14 @@ use Rattle.nv_mirror.proofs.DoneLaws.{done_plainly}
 use Rattle.nv_mirror.proofs.PageLaws.{some_touched}
 use Rattle.nv_mirror.proofs.StepLaws.{opened_same}
 use Rattle.nv_mirror.proofs.CellLaws.{last_low}
+
+-- what is made as a read of some bytes may reply any
+reply_some : (asked : FileCall) (file at len : ℕ) (reply : Reply) → plain_call asked ≡ Read file at len → 0 < len → IsReplyTo asked (reply_from asked reply)
+reply_some (Read file at len) file' at' len' reply makes some = λ none. absurd (true≢false (sym (lt-ltb 0 len' some) ∙ sym (ap is_read makes) ∙ none))
+reply_some (Readv file at lens) file' at' len' reply makes some = λ none. absurd (true≢false (sym (lt-ltb 0 len' some) ∙ sym (ap is_read makes) ∙ none))
+reply_some (Write file at bytes) file' at' len' reply makes some = absurd cc
+reply_some (Writev file at parts) file' at' len' reply makes some = absurd cc
+reply_some (Sync file) file' at' len' reply makes some = absurd cc
 
 module _ (m : VisitMachine) (list : List ℕ) (start now : PassState) (way : IsInCall m visits.TakePlace list start now) where
   abbrev sizes : Sizes
@@ -73,18 +84,24 @@ module _ (m : VisitMachine) (list : List ℕ) (start now : PassState) (way : IsI
     free : IsCallFree pass.control
     free = subst IsCallFree (sym stands) (λ sizes values pass work due. due)
 
-    placed_as : IsPlacedAs start.view new.view (visit_call_of m) (reply_at sizes values pass pass.control) found
+    abbrev asked : FileCall
+    asked = way.called.asked
+
+    placed_as : IsPlacedAs start.view new.view asked (reply_from asked (reply_at sizes values pass pass.control)) found
     placed_as =
-        done_plainly start now new (visit_call_of m) _ found way.called.later way.called.told (ap (λ (c : MirroredControl). c.asked) way.called.mirrors) refl free step (placed laws.sound now new found laws.mount step) laws.content laws.legally laws.mount way.called.mount
+        done_plainly start now new asked _ found way.called.later way.called.told way.called.asks free step (placed laws.sound now new found laws.mount step) laws.content laws.legally laws.mount way.called.mount
+
+    asks_still : (pass_of new.view).asked ≡ asked
+    asks_still = ap (λ (p : Pass). p.asked) (stepped_there now new None (place_op now.view) found free step) ∙ way.called.asks
 
     -- the reply is in front of the list
-    pub place_told : IsReadPlaced m.file m.at list start.view new.view record { place = found; len = m.copied }
-    place_told = record {
+    pub place_told : IsListPlaced (pass_of new.view).asked list start.view new.view record { place = found; len = m.copied }
+    place_told = subst (λ call. IsListPlaced call list start.view new.view record { place = found; len = m.copied }) (sym asks_still) record {
       bytes = bytes;
       rest = way.copied.rest;
       list_is = way.copied.list_is;
       count = way.copied.count;
-      placed = subst (λ n. IsPlacedAs start.view new.view (Read m.file m.at n) (Bytes bytes) found) (sym way.room) (subst (λ reply. IsPlacedAs start.view new.view (visit_call_of m) reply found) replies placed_as);
+      placed = subst (λ reply. IsPlacedAs start.view new.view asked (reply_from asked reply) found) replies placed_as;
     }
 
     some_pages : 0 < m.pages
@@ -92,7 +109,7 @@ module _ (m : VisitMachine) (list : List ℕ) (start now : PassState) (way : IsI
 
     -- what the core makes of its end
     abbrev ended : Bool → MirroredControl
-    ended size = record { control = if size then GiveSize else (if page_count sizes (visit_call_of m) == 0 then Idle else GivePage (first_page sizes (visit_call_of m))); call = visit_call_of m; asked = visit_call_of m; owned = visit_locks m; sized = m.sized; length = m.length }
+    ended size = record { control = if size then GiveSize else (if page_count sizes (visit_call_of m) == 0 then Idle else GivePage (first_page sizes (visit_call_of m))); call = visit_call_of m; owned = visit_locks m; sized = m.sized; length = m.length }
 
     ends_so : (size : Bool) → m.sized ≡ size → ended size ≡ release_mirror_at (read_released m found) (if size then releases.GiveSize else releases.GivePage 0)
     ends_so true is = ap (λ b. record (ended true) { owned = Rattle.nv_mirror.specs.OwnedCells.with_if b (Rattle.nv_core.specs.state.Words.SIZE m.file) (pages_from m.first m.pages) }) is
@@ -121,5 +138,5 @@ module _ (m : VisitMachine) (list : List ℕ) (start now : PassState) (way : IsI
             stands = stands_then m.sized;
           },
       (mirror_on control_mirror (visit_call_of m) None (visit_mirror m) None None start now way.called (place_op now.view) None (release_mirror_at (read_released m found) (if m.sized then releases.GiveSize else releases.GivePage 0)) None (Some found) found new step free
-          (λ p number history. ends_so m.sized refl) (λ p. refl) refl refl refl refl (_, (λ none. absurd (true≢false (sym (lt-ltb 0 m.len fits.some) ∙ none))), placed_as)).0,
+          (λ p number history. ends_so m.sized refl) (λ p. refl) refl refl refl refl (_, reply_some asked m.file m.at m.len _ way.called.makes fits.some, placed_as)).0,
     )

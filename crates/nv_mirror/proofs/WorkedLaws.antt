@@ -17,7 +17,7 @@ use Rattle.nv_table.specs.state.States.{PassState}
 use Rattle.nv_table.specs.steps.CallSteps.{Precondition}
 use Rattle.nv_table.proofs.steps.CallLaws.{later_by, later_on}
 use Rattle.nv_table.proofs.invariant.DrawnLaws.{calls_leave}
-use Rattle.nv_mirror.specs.OwnSteps.{is_own, AreOwn}
+use Rattle.nv_mirror.specs.OwnSteps.{is_own, AreOwnAs}
 use Rattle.nv_mirror.specs.PassSteps.{IsBetweenSteps, head_in, refusal_in, refused_by, place_by, either_of}
 use Rattle.nv_mirror.specs.declared.answers.Refusal.{Refusal}
 use Rattle.nv_mirror.proofs.OwnLaws.{own_on}
@@ -43,14 +43,19 @@ module _ {State : Type 0} (mirror : Mirror State) (call : FileCall) (is : State)
     pub worked_on : (then_is : State) (refusal_then : Option Refusal) (place_then : Option ℕ)
         → ((number : ℕ) (history : List Answered) → mirror.of (pass_of before.view) ≡ is → mirror.of (stepped before.view.opened.sizes number history core_op found (pass_worked before.view.opened.sizes step.works (pass_of before.view))) ≡ then_is)
         → ((pass : Pass) → left_after pass core_op ≡ pass.left) → either_of refusal (refused_by now.view.opened.sizes call (head_in called.steps) step.works core_op found) ≡ refusal_then → either_of place (place_by core_op found) ≡ place_then
-        → is_own call refusal core_op ≡ true → Told call place_then start new → InCall mirror call None then_is refusal_then place_then start new
+        → is_own call refusal core_op ≡ true → Told called.asked place_then start new → InCall mirror call None then_is refusal_then place_then start new
     worked_on then_is refusal_then place_then goes leaves refuses places may told_then = record {
       idle = called.idle;
       plain = called.plain;
+      asked = called.asked;
+      makes = called.makes;
+      asks = ap (λ (p : Pass). p.asked) step.pass
+          ∙ calls_leave (λ (p : Pass). p.asked) (λ sizes work p. refl) before.view.opened.sizes step.works (pass_of before.view)
+          ∙ ap (λ (v : PassView). (pass_of v).asked) between.view ∙ called.asks;
       steps = record { opens = None; works = step.works; op = core_op; found = found } ∷ called.steps;
       made = (now, called.made, taken_by now before new None core_op found between step);
-      own = subst (λ (o : Opened). AreOwn o.sizes call (record { opens = None; works = step.works; op = core_op; found = found } ∷ called.steps)) (sym opened)
-          (own_on now.view.opened.sizes call (record { opens = None; works = step.works; op = core_op; found = found }) called.steps refusal called.own called.refused refl may);
+      own = subst (λ (o : Opened). AreOwnAs o.sizes called.asked call (record { opens = None; works = step.works; op = core_op; found = found } ∷ called.steps)) (sym opened)
+          (own_on now.view.opened.sizes called.asked call (record { opens = None; works = step.works; op = core_op; found = found }) called.steps refusal called.own called.refused refl may);
       refused = subst (λ (o : Opened). refusal_in o.sizes call (record { opens = None; works = step.works; op = core_op; found = found } ∷ called.steps) ≡ refusal_then) (sym opened)
           (ap (λ r. either_of r (refused_by now.view.opened.sizes call (head_in called.steps) step.works core_op found)) called.refused ∙ refuses);
       placed = ap (λ p. either_of p (place_by core_op found)) called.placed ∙ places;
@@ -78,9 +83,9 @@ module _ {State : Type 0} (mirror : Mirror State) (call : FileCall) (is : State)
 
     -- what is told stays, where the step takes no place
     pub worked_told : ((sizes : Sizes) (number : ℕ) (history : List Answered) (pass : Pass) → (stepped sizes number history core_op found pass).seen ≡ pass.seen)
-        → ((pass : Pass) (number : ℕ) → mine_after number pass core_op ≡ pass.mine) → Told call place start new
+        → ((pass : Pass) (number : ℕ) → mine_after number pass core_op ≡ pass.mine) → Told called.asked place start new
     worked_told seen mine =
-        told_same call place start now new
+        told_same called.asked place start now new
         (ap (λ (p : Pass). p.seen) step.pass ∙ seen before.view.opened.sizes before.view.number (state_of before.view.opened step.steps.run).history worked_pass
         ∙ calls_leave (λ (p : Pass). p.seen) (λ sizes work p. refl) before.view.opened.sizes step.works (pass_of before.view) ∙ ap (λ (v : PassView). (pass_of v).seen) between.view)
         (ap (λ (p : Pass). p.mine) step.pass ∙ mine worked_pass before.view.number

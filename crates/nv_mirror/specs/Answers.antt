@@ -2,6 +2,7 @@
 use Rattle.std.specs.Prelude.{◌≡◌, ℕ, List, [], ◌∷◌, ◌++◌, length, Option, Some, None, Result, Ok, Err}
 use Rattle.nv_plain.specs.Files.{Files}
 use Rattle.nv_plain.specs.Calls.{reply_of}
+use Rattle.nv_plain.specs.Made.{reply_from}
 use Rattle.nv_plain.specs.Histories.{Answered, after}
 use Rattle.nv_plain.specs.declared.call.FileCall.{FileCall}
 use Rattle.nv_plain.specs.declared.call.FileCall.TheVariants.{Read, Sync}
@@ -39,13 +40,17 @@ pub record IsUnplaced (old new : PassView) : Type 0 where
   pub seen : (pass_of new).seen ≡ (pass_of old).seen
   pub mine : (pass_of new).mine ≡ (pass_of old).mine
 
--- A read of a file has its place, and the first bytes of the list are its reply.
-pub record IsReadPlaced (file at : ℕ) (list : List ℕ) (old new : PassView) (answer : Answer) : Type 0 where
+-- What was asked is made as a read that has its place, and the first bytes of the list are the reply of that.
+pub record IsListPlaced (asked : FileCall) (list : List ℕ) (old new : PassView) (answer : Answer) : Type 0 where
   pub bytes : List ℕ
   pub rest : List ℕ
   pub list_is : list ≡ bytes ++ rest
   pub count : answer.len ≡ length bytes
-  pub placed : IsPlacedAs old new (Read file at (length list)) (Bytes bytes) answer.place
+  pub placed : IsPlacedAs old new asked (reply_from asked (Bytes bytes)) answer.place
+
+-- A read of a file has its place, and the first bytes of the list are its reply.
+abbrev pub IsReadPlaced : (file at : ℕ) → (list : List ℕ) → (old new : PassView) → Answer → Type 0
+IsReadPlaced file at list old new answer = IsListPlaced (Read file at (length list)) list old new answer
 
 -- ---- what came of a read
 
@@ -58,7 +63,7 @@ abbrev pub place_in_answer : Result Answer Refusal → Option ℕ
 place_in_answer (Ok answer) = Some answer.place
 place_in_answer (Err refusal) = None
 
--- what a read of a file has told that is over
-abbrev pub HasTold : (file at : ℕ) → (list : List ℕ) → (old new : PassView) → Result Answer Refusal → Type 0
-HasTold file at list old new (Ok answer) = IsReadPlaced file at list old new answer
-HasTold file at list old new (Err refusal) = IsUnplaced old new
+-- what one has told that is over, and was asked so
+abbrev pub HasTold : (asked : FileCall) → (list : List ℕ) → (old new : PassView) → Result Answer Refusal → Type 0
+HasTold asked list old new (Ok answer) = IsListPlaced asked list old new answer
+HasTold asked list old new (Err refusal) = IsUnplaced old new

@@ -1,7 +1,9 @@
 -- Controls: what of a pass a machine mirrors, and what every machine keeps.
-use Rattle.std.specs.Prelude.{◌≡◌, refl, ℕ, nat_lt, Bool, false, List, [], Option, Some, None}
+use Rattle.std.specs.Prelude.{◌≡◌, refl, ℕ, nat_lt, Bool, false, if◌then◌else◌, List, [], Option, Some, None}
+use Rattle.std.specs.List.{concat, sum}
+use Rattle.nv_plain.specs.Made.{reply_from}
 use Rattle.nv_plain.specs.declared.call.FileCall.{FileCall}
-use Rattle.nv_plain.specs.declared.call.FileCall.TheVariants.{Read}
+use Rattle.nv_plain.specs.declared.call.FileCall.TheVariants.{Read, Write, Readv, Writev}
 use Rattle.nv_plain.specs.declared.call.Reply.{Reply}
 use Rattle.nv_core.specs.steps.Order.{plain_reply}
 use Rattle.nv_core.specs.state.Words.{Word}
@@ -13,7 +15,7 @@ use Rattle.nv_table.specs.state.Views.{pass_of}
 use Rattle.nv_table.specs.state.States.{PassState}
 use Rattle.nv_mirror.specs.PassSteps.{PassStep, HasMade, refusal_in, place_in}
 use Rattle.nv_mirror.specs.Answers.{IsUnplaced, IsPlacedAs}
-use Rattle.nv_mirror.specs.OwnSteps.{AreOwn, AreOwnSoFar}
+use Rattle.nv_mirror.specs.OwnSteps.{AreOwnAs, AreOwnSoFar}
 use Rattle.nv_mirror.specs.declared.answers.Refusal.{Refusal}
 
 -- What of a pass a machine has at hand: how it is read off a pass, and the pass that has it so.
@@ -24,20 +26,19 @@ pub record Mirror (State : Type 0) : Type 0 where
 
 -- ---- of a call that draws no numbers
 
--- all that says which step a pass may make, but for what cells keep, and what it was asked
+-- all that says which step a pass may make, but for what cells keep
 pub record MirroredControl : Type 0 where
   pub control : Control
   pub call : FileCall
-  pub asked : FileCall
   pub owned : List Word
   pub sized : Bool
   pub length : ℕ
 
 abbrev pub mirrored_control : Pass → MirroredControl
-mirrored_control pass = record { control = pass.control; call = pass.call; asked = pass.asked; owned = pass.owned; sized = pass.sized; length = pass.length }
+mirrored_control pass = record { control = pass.control; call = pass.call; owned = pass.owned; sized = pass.sized; length = pass.length }
 
 abbrev pub with_mirrored_control : MirroredControl → Pass → Pass
-with_mirrored_control is pass = record pass { control = is.control; call = is.call; asked = is.asked; owned = is.owned; sized = is.sized; length = is.length }
+with_mirrored_control is pass = record pass { control = is.control; call = is.call; owned = is.owned; sized = is.sized; length = is.length }
 
 abbrev pub control_mirror : Mirror MirroredControl
 control_mirror = record { of = mirrored_control; with = with_mirrored_control; whole = λ pass. refl }
@@ -87,6 +88,8 @@ IsUnbegunCall None start now = Unit {0}
 -- the reply of a call that asks to read nothing follows from what it asks for
 abbrev pub IsReplyTo : FileCall → Reply → Type 0
 IsReplyTo (Read file at len) reply = nat_lt 0 len ≡ false → reply ≡ plain_reply (Read file at len)
+IsReplyTo (Readv file at lens) reply = nat_lt 0 (sum lens) ≡ false → reply ≡ reply_from (Readv file at lens) (plain_reply (Read file at (sum lens)))
+IsReplyTo (Writev file at parts) reply = reply ≡ plain_reply (Write file at (concat parts))
 IsReplyTo call reply = reply ≡ plain_reply call
 
 -- the call has its place in the history, or the history is as the pass saw it
@@ -94,14 +97,17 @@ abbrev pub Told : FileCall → Option ℕ → (start now : PassState) → Type 0
 Told call None start now = IsUnplaced start.view now.view
 Told call (Some place) start now = (reply : Reply) × IsReplyTo call reply × IsPlacedAs start.view now.view call reply place
 
--- A plain call that has made some steps since a start, all its own, and what came of it: the pass is what its machine has at hand, with the call that the next step begins,
--- if that does.
+-- A call that is made as this plain one has made some steps since a start, all its own, and what came of it: the pass is what its machine has at hand, with the call that the
+-- next step begins, if that does. What was asked is what the pass begins or has begun.
 pub record InCall {State : Type 0} (mirror : Mirror State) (call : FileCall) (opens : Option FileCall) (is : State) (refusal : Option Refusal) (place : Option ℕ) (start now : PassState) : Type 0 where
   pub idle : IsIdle start
   pub plain : plain_call call ≡ call
+  pub asked : FileCall
+  pub makes : plain_call asked ≡ call
+  pub asks : (with_call now.view.opened.sizes opens (pass_of now.view)).asked ≡ asked
   pub steps : List PassStep
   pub made : HasMade steps start now
-  pub own : AreOwnSoFar opens now.view.opened.sizes call steps
+  pub own : AreOwnSoFar opens now.view.opened.sizes asked call steps
   pub refused : refusal_in now.view.opened.sizes call steps ≡ refusal
   pub placed : place_in steps ≡ place
   pub later : IsLater start now
@@ -110,19 +116,27 @@ pub record InCall {State : Type 0} (mirror : Mirror State) (call : FileCall) (op
   pub still : IsShownStill now
   pub left : (pass_of now.view).left ≡ []
   pub fresh : IsUnbegunCall opens start now
-  pub told : Told call place start now
+  pub told : Told asked place start now
   pub mirrors : mirror.of (with_call now.view.opened.sizes opens (pass_of now.view)) ≡ is
 
--- The plain call is over, by these steps, all its own, and its pass is idle again: why it is refused, if it is, or its place.
+-- What a call was asked as, once it has begun, or will be.
+abbrev pub asked_at : (asked : FileCall) → (begun : Bool) → (now : PassState) → FileCall
+asked_at asked begun now = if begun then (pass_of now.view).asked else asked
+
+-- The call is over, by these steps, all its own, and its pass is idle again: why it is refused, if it is, or its place.
 pub record IsOver (call : FileCall) (refusal : Option Refusal) (place : Option ℕ) (start now : PassState) : Type 0 where
-  pub plain : plain_call call ≡ call
+  pub asks : (pass_of now.view).asked ≡ call
   pub steps : List PassStep
   pub made : HasMade steps start now
-  pub own : AreOwn start.view.opened.sizes call steps
-  pub refused : refusal_in start.view.opened.sizes call steps ≡ refusal
+  pub own : AreOwnAs start.view.opened.sizes call (plain_call call) steps
+  pub refused : refusal_in start.view.opened.sizes (plain_call call) steps ≡ refusal
   pub placed : place_in steps ≡ place
   pub told : Told call place start now
   pub idle : IsIdle now
   pub later : IsLater start now
   pub spare : now.spare ≡ start.spare
   pub mount : now.view.opened ≡ start.view.opened
+
+-- so is one that is made as this plain call
+abbrev pub IsMadeOver : FileCall → Option Refusal → Option ℕ → (start now : PassState) → Type 0
+IsMadeOver call refusal place start now = (asked : FileCall) × (plain_call asked ≡ call) × IsOver asked refusal place start now

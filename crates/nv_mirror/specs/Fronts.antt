@@ -76,6 +76,11 @@ abbrev pub front_opens_at : FrontMachine → FrontControl → Option Asked
 front_opens_at m fronts.Begin = Some m.asked
 front_opens_at m control = None
 
+-- whether its call has begun
+abbrev pub has_begun : FrontControl → Bool
+has_begun fronts.Begin = false
+has_begun control = true
+
 abbrev pub front_opens : FrontMachine → Option Asked
 front_opens m = front_opens_at m m.control
 
@@ -127,7 +132,7 @@ front_owned_at m (Over refusal) = []
 front_owned_at m control = with_if m.sized (SIZE (file_in m)) (pages_from m.first m.held)
 
 abbrev pub front_mirror_at : FrontMachine → FrontControl → MirroredControl
-front_mirror_at m control = record { control = front_control_at m control; call = front_call_of m; asked = front_call_of m; owned = front_owned_at m control; sized = m.sized; length = m.length }
+front_mirror_at m control = record { control = front_control_at m control; call = front_call_of m; owned = front_owned_at m control; sized = m.sized; length = m.length }
 
 abbrev pub front_refusal_at : FrontControl → Option Refusal
 front_refusal_at (fronts.GiveBack size refusal) = Some refusal

@@ -51,17 +51,21 @@ abbrev pub is_own : FileCall → Option Refusal → Op → Bool
 is_own call None op = may_come_in call op
 is_own call (Some refusal) op = gives_back call refusal op
 
--- They are those of a call, the last of them first: the first one begins it, and no other begins any.
+-- They are those of a call that is asked so, and made as this one, the last of them first: the first one begins what was asked, and no other begins any.
+abbrev pub AreOwnAs : Sizes → (asked call : FileCall) → List PassStep → Type 0
+AreOwnAs sizes asked call [] = ⊥
+AreOwnAs sizes asked call (step ∷ []) = (step.opens ≡ Some asked) × (is_own call None step.op ≡ true)
+AreOwnAs sizes asked call (step ∷ (other ∷ earlier)) =
+    (step.opens ≡ None) × (is_own call (refusal_in sizes call (other ∷ earlier)) step.op ≡ true) × AreOwnAs sizes asked call (other ∷ earlier)
+
+-- those of a call that is made as itself
 abbrev pub AreOwn : Sizes → FileCall → List PassStep → Type 0
-AreOwn sizes call [] = ⊥
-AreOwn sizes call (step ∷ []) = (step.opens ≡ Some call) × (is_own call None step.op ≡ true)
-AreOwn sizes call (step ∷ (other ∷ earlier)) =
-    (step.opens ≡ None) × (is_own call (refusal_in sizes call (other ∷ earlier)) step.op ≡ true) × AreOwn sizes call (other ∷ earlier)
+AreOwn sizes call steps = AreOwnAs sizes call call steps
 
 -- so they are so far, where the next step begins the call, or it has begun
-abbrev pub AreOwnSoFar : (opens : Option FileCall) → Sizes → FileCall → List PassStep → Type 0
-AreOwnSoFar (Some begun) sizes call steps = (begun ≡ call) × (steps ≡ [])
-AreOwnSoFar None sizes call steps = AreOwn sizes call steps
+abbrev pub AreOwnSoFar : (opens : Option FileCall) → Sizes → (asked call : FileCall) → List PassStep → Type 0
+AreOwnSoFar (Some begun) sizes asked call steps = (begun ≡ asked) × (steps ≡ [])
+AreOwnSoFar None sizes asked call steps = AreOwnAs sizes asked call steps
 
 -- each of them changes nothing that stays
 abbrev pub ArePassing : List PassStep → Type 0

@@ -1,5 +1,5 @@
 -- Calls without a page: a sync, or a read or a write of no bytes, as the core's control state.
-use Rattle.std.specs.Prelude.{◌≡◌, ℕ, ◌^◌, ◌==◌, nat_lt, false, if◌then◌else◌, [], Option, Some, None, Ok, Err}
+use Rattle.std.specs.Prelude.{◌≡◌, ℕ, ◌^◌, ◌==◌, nat_lt, Bool, true, false, if◌then◌else◌, [], Option, Some, None, Ok, Err}
 use Rattle.nv_plain.specs.declared.call.FileCall.{FileCall}
 use Rattle.nv_core.specs.state.Passes.{Control, Idle, LoadStop, LoadOrder, TakePlace, IsAllowed, len_of}
 use Rattle.nv_core.specs.state.Words.{Sizes}
@@ -30,6 +30,11 @@ abbrev pub pageless_opens_at : Asked → PagelessControl → Option Asked
 pageless_opens_at asked controls.Begin = Some asked
 pageless_opens_at asked control = None
 
+-- whether its call has begun
+abbrev pub has_begun : PagelessControl → Bool
+has_begun controls.Begin = false
+has_begun control = true
+
 abbrev pub pageless_opens : PagelessMachine → Option Asked
 pageless_opens m = pageless_opens_at m.asked m.control
 
@@ -59,7 +64,7 @@ control_of controls.TakePlace = TakePlace
 control_of (Over answer) = Idle
 
 abbrev pub mirror : FileCall → PagelessControl → MirroredControl
-mirror call control = record { control = control_of control; call = call; asked = call; owned = []; sized = false; length = 0 }
+mirror call control = record { control = control_of control; call = call; owned = []; sized = false; length = 0 }
 
 abbrev pub pageless_refusal_at : PagelessControl → Option Refusal
 pageless_refusal_at (Over (Err refusal)) = Some refusal

@@ -1,16 +1,16 @@
 //! The front of a call that has pages: these, LENGTH, SIZE, STOP and ORDER, and the way back where it is refused there.
 ghost use Rattle.std.specs.Prelude.{◌+◌, true, ◌≡◌, ℕ, ◌<◌};
-ghost use Rattle.nv_core.specs.state.Passes.{IsAllowed, len_of};
-ghost use Rattle.nv_op.specs.Ops.{call_asked, core_op_of, opened_by};
+ghost use Rattle.nv_core.specs.state.Passes.{IsAllowed, len_of, plain_call};
+ghost use Rattle.nv_op.specs.Ops.{begun_as, call_asked, core_op_of, opened_by};
 ghost use Rattle.nv_table.specs.steps.StepContracts.{Postcondition};
 ghost use Rattle.nv_mirror.specs.declared.front.FrontControl.TheVariants as fronts;
 ghost use Rattle.nv_table.specs.state.Keys.{sizes_of};
 ghost use Rattle.nv_table.specs.state.States.{IsOf, PassState};
-ghost use Rattle.nv_mirror.specs.Fronts.{front_after_at, locked, Fits, IsOpen, front_op, front_opens, front_after, refuse, front_measure, IsUnderWay};
+ghost use Rattle.nv_mirror.specs.Fronts.{front_after_at, locked, Fits, IsOpen, front_call_of, front_op, front_opens, front_after, refuse, front_measure, IsUnderWay};
 
 use crate::Refusal;
 use nv_entry::piece_count;
-use nv_op::{Asked, Op, Word, perform};
+use nv_op::{Asked, Asks, Op, Word, perform_asked};
 use nv_pmem::Lines;
 use nv_store::Backing;
 use nv_table::{Board, Layout, Pass};
@@ -219,20 +219,25 @@ impl<'a> FrontMachine<'a> {
         }
     }
 
-    /// Makes the next step.
+    /// Makes the next step; the first one begins the call as what was asked, which is made as this one.
     #[inline(always)]
-    pub fn advance<L: Lines, B: Backing>(&mut self, board: &Board<L, B>, pass: &mut Pass<L, B>)
+    pub fn advance<A: Asks, L: Lines, B: Backing>(
+        &mut self,
+        board: &Board<L, B>,
+        pass: &mut Pass<L, B>,
+    )
         requires board { IsOf board.now pass.old }
         requires open { IsOpen self.old.control }
+        requires makes { plain_call A.call ≡ front_call_of self.old }
         requires way { (start : PassState) × IsUnderWay self.old start pass.old }
         ensures board { IsOf board.now pass.new }
-        ensures one { (found : ℕ) × Postcondition pass.old (opened_by (front_opens self.old)) (core_op_of pass.old.view (front_op self.old)) found pass.new
+        ensures one { (found : ℕ) × Postcondition pass.old (begun_as A.call (opened_by (front_opens self.old))) (core_op_of pass.old.view (front_op self.old)) found pass.new
             × (self.new ≡ front_after pass.old.view.opened.sizes self.old found) }
         ensures falls { front_measure self.new < front_measure self.old }
         ensures way { (start : PassState) → IsUnderWay self.old start pass.old → IsUnderWay self.new start pass.new }
     {
         let layout = board.layout();
-        let found = perform(board, pass, self.opens(), self.next(layout));
+        let found = perform_asked::<A, L, B>(board, pass, self.opens(), self.next(layout));
         *self = self.after(layout, found);
     }
 }

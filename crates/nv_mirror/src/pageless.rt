@@ -1,7 +1,7 @@
 //! A call that touches no page, a sync or a read or a write of no bytes: STOP, ORDER, and its place.
 ghost use Rattle.std.specs.Prelude.{◌≡◌, ℕ, ◌<◌};
-ghost use Rattle.nv_op.specs.Ops.{call_asked, core_op_of, opened_by};
-ghost use Rattle.nv_core.specs.state.Passes.{IsAllowed, len_of};
+ghost use Rattle.nv_op.specs.Ops.{begun_as, call_asked, core_op_of, opened_by};
+ghost use Rattle.nv_core.specs.state.Passes.{IsAllowed, len_of, plain_call};
 ghost use Rattle.nv_table.specs.invariant.Idle.{IsIdle};
 ghost use Rattle.nv_table.specs.steps.StepContracts.{Postcondition};
 ghost use Rattle.nv_table.specs.state.States.{IsOf, PassState};
@@ -10,7 +10,7 @@ ghost use Rattle.nv_mirror.specs.Pageless.{IsOpen, IsUnderWay, pageless_after, p
 
 use crate::Refusal;
 use nv_core::{runs_are_sound, runs_keep_content};
-use nv_op::{Asked, Op, Word, perform};
+use nv_op::{Asked, Asks, Op, Word, perform_asked};
 use nv_plain::history_goes_on;
 use nv_pmem::Lines;
 use nv_store::Backing;
@@ -79,14 +79,19 @@ impl<'a> PagelessMachine<'a> {
         }
     }
 
-    /// Makes the next step. Where the call is over, what came of it is the control state: its place, or the refusal that the way tells.
-    pub fn advance<L: Lines, B: Backing>(&mut self, board: &Board<L, B>, pass: &mut Pass<L, B>)
+    /// Makes the next step; the first one begins the call as what was asked, which is made as this one. Where the call is over, what came of it is the control state: its place, or the refusal that the way tells.
+    pub fn advance<A: Asks, L: Lines, B: Backing>(
+        &mut self,
+        board: &Board<L, B>,
+        pass: &mut Pass<L, B>,
+    )
         requires board { IsOf board.now pass.old }
         requires open { IsOpen self.old.control }
+        requires makes { plain_call A.call ≡ call_asked self.old.asked }
         requires way { (start : PassState) × IsUnderWay self.old start pass.old }
         ensures board { IsOf board.now pass.new }
         ensures asked { self.new.asked ≡ self.old.asked }
-        ensures one { (found : ℕ) × Postcondition pass.old (opened_by (pageless_opens self.old)) (core_op_of pass.old.view (pageless_op self.old.control)) found pass.new
+        ensures one { (found : ℕ) × Postcondition pass.old (begun_as A.call (opened_by (pageless_opens self.old))) (core_op_of pass.old.view (pageless_op self.old.control)) found pass.new
             × (self.new.control ≡ pageless_after self.old.control found) }
         ensures falls { pageless_measure self.new.control < pageless_measure self.old.control }
         ensures way { (start : PassState) → IsUnderWay self.old start pass.old → IsUnderWay self.new start pass.new }
@@ -95,7 +100,7 @@ impl<'a> PagelessMachine<'a> {
         runs_keep_content();
         history_goes_on();
         pass.sees_a_run();
-        let found = perform(board, pass, self.opens(), self.next());
+        let found = perform_asked::<A, L, B>(board, pass, self.opens(), self.next());
         self.control = self.after(found);
     }
 }

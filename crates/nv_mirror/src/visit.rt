@@ -10,9 +10,9 @@ ghost use Rattle.nv_op.specs.Ops.{core_op_of};
 ghost use Rattle.nv_op.specs.declared.op.Op.TheVariants.{Place};
 ghost use Rattle.nv_table.specs.state.Keys.{sizes_of};
 ghost use Rattle.nv_table.specs.state.States.{IsOf, PassState};
-ghost use Rattle.nv_table.specs.state.Views.{slot_times, values_of};
+ghost use Rattle.nv_table.specs.state.Views.{pass_of, slot_times, values_of};
 ghost use Rattle.nv_table.specs.steps.StepContracts.{Postcondition};
-ghost use Rattle.nv_mirror.specs.Answers.{IsReadPlaced};
+ghost use Rattle.nv_mirror.specs.Answers.{IsListPlaced};
 ghost use Rattle.nv_mirror.specs.Copied.{IsPut};
 ghost use Rattle.nv_mirror.specs.Releases.{IsUnderWay as IsReleaseUnderWay};
 ghost use Rattle.nv_mirror.specs.declared.release.ReleaseControl.TheVariants as releases;
@@ -272,7 +272,7 @@ impl VisitMachine {
         requires way { (list : List ℕ) × (start : PassState) × IsUnderWay self list start pass.old }
         ensures board { IsOf board.now pass.new }
         ensures one { (found : ℕ) × Postcondition pass.old None (core_op_of pass.old.view Place) found pass.new × (result ≡ read_released self found) }
-        ensures placed { (list : List ℕ) (start : PassState) → IsUnderWay self list start pass.old → IsReadPlaced self.file self.at list start.view pass.new.view record { place = result.place; len = self.copied } }
+        ensures placed { (list : List ℕ) (start : PassState) → IsUnderWay self list start pass.old → IsListPlaced (pass_of pass.new.view).asked list start.view pass.new.view record { place = result.place; len = self.copied } }
         ensures way { (list : List ℕ) (start : PassState) → IsUnderWay self list start pass.old → IsReleaseUnderWay result start pass.new }
     {
         runs_are_sound();

@@ -36,7 +36,7 @@ use Rattle.nv_op.proofs.CleanerOpLaws.{cleaner_moves_so, cleaner_value_so}
 use Rattle.nv_table.specs.invariant.Drawn.{marks_of, IsFromHead}
 use Rattle.nv_op.specs.declared.asked.Asked.{Asked}
 use Rattle.nv_op.specs.Words.{core_word}
-use Rattle.nv_op.specs.Ops.{Fits, SumIsSmall, word_of_op, change_of, moves_for, marks_for, opened_by, core_op_at, core_op_of}
+use Rattle.nv_op.specs.Ops.{BeginAlike, Fits, SumIsSmall, begun_as, word_of_op, change_of, moves_for, marks_for, opened_by, core_op_at, core_op_of}
 
 -- ---- the slot that it moves
 
@@ -264,32 +264,47 @@ marks_so None reply (ByCleaner (cleaner.Subtract page)) = refl
 marks_so None reply (ByCleaner (cleaner.Free number)) = refl
 marks_so None reply (ByCleaner (cleaner.MoveTail tail)) = refl
 
+-- whichever call begins
+pub marks_alike : (one other : Option FileCall) (op : CoreOp) → BeginAlike one other → marks_of one op ≡ marks_of other op
+marks_alike (Some one) (Some other) op alike = refl
+marks_alike None None op alike = refl
+marks_alike (Some one) None op alike = absurd alike
+marks_alike None (Some other) op alike = absurd alike
+
+pub alike_self : (opens : Option FileCall) → BeginAlike opens opens
+alike_self (Some call) = tt
+alike_self None = tt
+
+pub alike_begun : (call : FileCall) (opens : Option FileCall) → BeginAlike (begun_as call opens) opens
+alike_begun call (Some made) = tt
+alike_begun call None = tt
+
 -- a draw is from HEAD as the pass saw it
-pub head_so : (sizes : Sizes) (pass : Pass) (opens : Option Asked) (op : Op) → Fits sizes (opened_by opens) pass op → IsFromHead (marks_for opens op) (change_of op) pass.head
-head_so sizes pass (Some asked) op fits = tt
-head_so sizes pass None (Draw head count) fits = fits.1
-head_so sizes pass None (Load word) fits = tt
-head_so sizes pass None (Take cell) fits = tt
-head_so sizes pass None (Give cell) fits = tt
-head_so sizes pass None Place fits = tt
-head_so sizes pass None Stop fits = tt
-head_so sizes pass None (Seize number) fits = tt
-head_so sizes pass None (Pledge page) fits = tt
-head_so sizes pass None (Ready number word) fits = tt
-head_so sizes pass None (Grow file length) fits = tt
-head_so sizes pass None (Break number) fits = tt
-head_so sizes pass None (Hold number) fits = tt
-head_so sizes pass None (Return number) fits = tt
-head_so sizes pass None (Turn page) fits = tt
-head_so sizes pass None (Hint buffer page) fits = tt
-head_so sizes pass None (ByCleaner cleaner.Stop) fits = tt
-head_so sizes pass None (ByCleaner (cleaner.TakeCleaner most)) fits = tt
-head_so sizes pass None (ByCleaner (cleaner.Load word)) fits = tt
-head_so sizes pass None (ByCleaner (cleaner.Take cell)) fits = tt
-head_so sizes pass None (ByCleaner (cleaner.Give cell)) fits = tt
-head_so sizes pass None (ByCleaner (cleaner.Hold number)) fits = tt
-head_so sizes pass None (ByCleaner (cleaner.Return number)) fits = tt
-head_so sizes pass None (ByCleaner (cleaner.Clean number)) fits = tt
-head_so sizes pass None (ByCleaner (cleaner.Subtract page)) fits = tt
-head_so sizes pass None (ByCleaner (cleaner.Free number)) fits = tt
-head_so sizes pass None (ByCleaner (cleaner.MoveTail tail)) fits = tt
+pub head_so : (sizes : Sizes) (pass : Pass) (begins : Option FileCall) (opens : Option Asked) (op : Op) → Fits sizes begins pass op → IsFromHead (marks_for opens op) (change_of op) pass.head
+head_so sizes pass begins (Some asked) op fits = tt
+head_so sizes pass begins None (Draw head count) fits = fits.1
+head_so sizes pass begins None (Load word) fits = tt
+head_so sizes pass begins None (Take cell) fits = tt
+head_so sizes pass begins None (Give cell) fits = tt
+head_so sizes pass begins None Place fits = tt
+head_so sizes pass begins None Stop fits = tt
+head_so sizes pass begins None (Seize number) fits = tt
+head_so sizes pass begins None (Pledge page) fits = tt
+head_so sizes pass begins None (Ready number word) fits = tt
+head_so sizes pass begins None (Grow file length) fits = tt
+head_so sizes pass begins None (Break number) fits = tt
+head_so sizes pass begins None (Hold number) fits = tt
+head_so sizes pass begins None (Return number) fits = tt
+head_so sizes pass begins None (Turn page) fits = tt
+head_so sizes pass begins None (Hint buffer page) fits = tt
+head_so sizes pass begins None (ByCleaner cleaner.Stop) fits = tt
+head_so sizes pass begins None (ByCleaner (cleaner.TakeCleaner most)) fits = tt
+head_so sizes pass begins None (ByCleaner (cleaner.Load word)) fits = tt
+head_so sizes pass begins None (ByCleaner (cleaner.Take cell)) fits = tt
+head_so sizes pass begins None (ByCleaner (cleaner.Give cell)) fits = tt
+head_so sizes pass begins None (ByCleaner (cleaner.Hold number)) fits = tt
+head_so sizes pass begins None (ByCleaner (cleaner.Return number)) fits = tt
+head_so sizes pass begins None (ByCleaner (cleaner.Clean number)) fits = tt
+head_so sizes pass begins None (ByCleaner (cleaner.Subtract page)) fits = tt
+head_so sizes pass begins None (ByCleaner (cleaner.Free number)) fits = tt
+head_so sizes pass begins None (ByCleaner (cleaner.MoveTail tail)) fits = tt

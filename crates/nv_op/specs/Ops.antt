@@ -87,6 +87,17 @@ abbrev pub opened_by : Option Asked → Option FileCall
 opened_by (Some asked) = Some (call_asked asked)
 opened_by None = None
 
+-- a step begins a call as what was asked, where it begins one
+abbrev pub begun_as : (call : FileCall) → Option FileCall → Option FileCall
+begun_as call (Some made) = Some call
+begun_as call None = None
+
+-- two steps both begin a call, or neither does
+abbrev pub BeginAlike : (one other : Option FileCall) → Type 0
+BeginAlike (Some one) (Some other) = Unit {0}
+BeginAlike None None = Unit {0}
+BeginAlike one other = ⊥
+
 -- what is asked for, with this list where it is a write
 abbrev pub asked_with : (list : Bor (List ℕ)) → Asked → Asked
 asked_with list (AsksWrite file at bytes) = AsksWrite file at list

@@ -16,5 +16,5 @@ pub use cleaner_op::CleanerOp;
 pub use entry_word::EntryWord;
 pub use kinds::Kind;
 pub use op::Op;
-pub use performing::{perform, perform_after};
+pub use performing::{Asks, perform, perform_after, perform_asked};
 pub use word::Word;

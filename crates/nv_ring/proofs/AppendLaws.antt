@@ -122,7 +122,7 @@ append_fits m (Refused refusal) start now fits plain way = absurd plain
 -- the core's control state, at a control state and with some cells among its owned cells
 abbrev at : AppendMachine → Control → List Word → (head first entries : ℕ) → Drawing
 at m control owned head first entries =
-    record { mirrored_control = record { control = control; call = append_call_of m; asked = append_call_of m; owned = owned; sized = m.sized; length = m.length }; head = head; first = first; entries = entries }
+    record { mirrored_control = record { control = control; call = append_call_of m; owned = owned; sized = m.sized; length = m.length }; head = head; first = first; entries = entries }
 
 -- Where the core's control state leads, with what it is refused for, and its place, the machine goes.
 record Leads (sizes : Sizes) (m : AppendMachine) (is : Drawing) (refusal : Option Refusal) (place : Option ℕ) (next : AppendMachine) : Type 0 where
@@ -273,14 +273,14 @@ module _ (m : AppendMachine) (start now new : PassState) (found : ℕ) (fits : F
       → ((pass : Pass) (number : ℕ) (history : List Answered) → drawing_of (stepped here number history (core_op control) found (with_drawing (append_mirror_at here m way.before control) pass)) ≡ then_is)
       → ((pass : Pass) → left_after pass (core_op control) ≡ pass.left) → is_own (append_call_of m) (append_refusal_at control) (core_op control) ≡ true
       → either_of (append_refusal_at control) (refused_by here (append_call_of m) (head_in way.called.steps) step.works (core_op control) found) ≡ refusal_then
-      → either_of (append_place_at m control) (place_by (core_op control) found) ≡ placed_then → Told (append_call_of m) placed_then start new
+      → either_of (append_place_at m control) (place_by (core_op control) found) ≡ placed_then → Told way.called.asked placed_then start new
       → Leads here m then_is refusal_then placed_then (record m { place = place; control = next_control })
       → Goes (record m { place = place; control = next_control })
   led control place next_control then_is refusal_then placed_then plain way step goes leaves may refuses places told leads =
       let on = mirror_on drawings (append_call_of m) None (append_mirror_at here m way.before control) (append_refusal_at control) (append_place_at m control) start now way.called (core_op control)
       None (append_mirror_at new.view.opened.sizes next leads.before next_control) (append_refusal_at next_control) (append_place_at next next_control) found new step (append_free m control start now plain way)
       (λ pass number history. goes pass number history ∙ leads.mirrors ∙ ap (λ (o : Opened). append_mirror_at o.sizes next leads.before next_control) (sym opened))
-      leaves (refuses ∙ leads.refused) (places ∙ leads.placed) may refl (subst (λ p. Told (append_call_of m) p start new) leads.placed told) in (
+      leaves (refuses ∙ leads.refused) (places ∙ leads.placed) may refl (subst (λ p. Told way.called.asked p start new) leads.placed told) in (
         subst (λ (o : Opened). Fits o.sizes next) (sym opened)
             record { allowed = fits.allowed; some = fits.some; end = fits.end; page = fits.page; pages = fits.pages; low = fits.low; stands = leads.fits },
         record { before = leads.before; called = on.0 },
@@ -293,11 +293,11 @@ module _ (m : AppendMachine) (start now new : PassState) (found : ℕ) (fits : F
       next = record m { place = place; control = next_control }
 
   -- a step that takes no place
-  kept : (control : AppendControl) → IsPlain control → IsInCall m control start now → Postcondition now None (core_op control) found new
+  kept : (control : AppendControl) → IsPlain control → (way : IsInCall m control start now) → Postcondition now None (core_op control) found new
       → ((pass : Pass) (number : ℕ) (history : List Answered) → (stepped here number history (core_op control) found pass).seen ≡ pass.seen)
-      → ((pass : Pass) (number : ℕ) → mine_after number pass (core_op control) ≡ pass.mine) → Told (append_call_of m) (append_place_at m control) start new
+      → ((pass : Pass) (number : ℕ) → mine_after number pass (core_op control) ≡ pass.mine) → Told way.called.asked (append_place_at m control) start new
   kept control plain way step seen mine =
-      told_kept (append_call_of m) (append_place_at m control) start now new way.called.told None (core_op control) found step (append_free m control start now plain way) seen mine
+      told_kept way.called.asked (append_place_at m control) start now new way.called.told None (core_op control) found step (append_free m control start now plain way) seen mine
 
   pub append_on : (control : AppendControl) → PlaceLaws now.view.opened → FitsAt m control → IsPlain control → IsInCall m control start now → Postcondition now None (core_op control) found new → Goes (append_after_at here m control false found)
   append_on (appends.SeizeEntry seized) laws stands plain way step =
@@ -311,7 +311,7 @@ module _ (m : AppendMachine) (start now new : PassState) (found : ℕ) (fits : F
       (kept (appends.ReadyEntry ready) plain way step (λ pass number history. refl) (λ pass number. refl)) (readies_leads here m fits way.before ready (ready + 1 == m.pages) stands.0 stands.1 refl)
   append_on appends.TakePlace laws stands plain way step =
       led appends.TakePlace _ _ _ _ _ plain way step (λ pass number history. ap (λ s. at m s (locks m) way.before.head way.before.first way.before.entries) (growing_so here m fits)) (λ pass. refl) refl refl refl
-      (told_placed (append_call_of m) start now new found laws way.called.told way.called.later way.called.mount (ap (λ (d : Drawing). d.mirrored_control.call) way.called.mirrors) (ap (λ (d : Drawing). d.mirrored_control.asked) way.called.mirrors) refl (ap (λ (d : Drawing). d.mirrored_control.control) way.called.mirrors) step)
+      (told_placed way.called.asked (append_call_of m) start now new found laws way.called.told way.called.later way.called.mount (ap (λ (d : Drawing). d.mirrored_control.call) way.called.mirrors) way.called.asks way.called.makes (ap (λ (d : Drawing). d.mirrored_control.control) way.called.mirrors) step)
       (places_leads here m fits way.before found (nat_lt m.length m.end))
   append_on appends.GrowLength laws stands plain way step =
       led appends.GrowLength _ _ _ _ _ plain way step (λ pass number history. ap (λ s. at m s (locks m) way.before.head way.before.first way.before.entries) (ending_so here m fits)) (λ pass. refl) refl refl refl

@@ -5,7 +5,7 @@ use Rattle.nv_core.specs.state.Passes.{WriteLoadHead, VisitPage, TakePlace, is_r
 use Rattle.nv_core.specs.state.Words.{SIZE}
 use Rattle.nv_table.specs.state.Views.{pass_of}
 use Rattle.nv_table.specs.state.States.{PassState}
-use Rattle.nv_mirror.specs.OwnSteps.{AreOwn}
+use Rattle.nv_mirror.specs.OwnSteps.{AreOwnAs}
 use Rattle.nv_mirror.specs.PassSteps.{refusal_in}
 use Rattle.nv_mirror.specs.OwnedCells.{pages_from, with_if}
 use Rattle.nv_mirror.specs.declared.front.FrontMachine.{FrontMachine}
@@ -24,9 +24,12 @@ draw_behind f m start now behind way = record {
     idle = way.idle;
     steps = way.steps;
     made = way.made;
-    own = subst (λ call. AreOwn now.view.opened.sizes call way.steps) (sym behind.call) way.own;
+    own = subst (λ call. AreOwnAs now.view.opened.sizes way.asked call way.steps) (sym behind.call) way.own;
     refused = subst (λ call. refusal_in now.view.opened.sizes call way.steps ≡ None) (sym behind.call) way.refused;
     plain = refl;
+    asked = way.asked;
+    makes = way.makes ∙ sym behind.call;
+    asks = way.asks;
     placed = way.placed;
     later = way.later;
     spare = way.spare;
@@ -51,5 +54,5 @@ draw_behind f m start now behind way = record {
     controls_so : front_at f Passed ≡ (draw_mirror_at now.view.opened.sizes m (record { head = 0; first = 0; entries = 0 }) draws.LoadHead).mirrored_control
     controls_so =
         ap₂ (λ control owned. record (front_at f Passed) { control = control; owned = owned }) control owned
-        ∙ ap (λ call. record { control = WriteLoadHead; call = call; asked = call; owned = locks (append_of m); sized = f.sized; length = f.length }) (sym behind.call)
-        ∙ ap₂ (λ sized length. record { control = WriteLoadHead; call = draw_call_of m; asked = draw_call_of m; owned = locks (append_of m); sized = sized; length = length }) (sym behind.sized) (sym behind.length)
+        ∙ ap (λ call. record { control = WriteLoadHead; call = call; owned = locks (append_of m); sized = f.sized; length = f.length }) (sym behind.call)
+        ∙ ap₂ (λ sized length. record { control = WriteLoadHead; call = draw_call_of m; owned = locks (append_of m); sized = sized; length = length }) (sym behind.sized) (sym behind.length)

@@ -130,7 +130,7 @@ module _ (m : DrawMachine) (start now new : PassState) (found : ℕ) (fits : Fit
       → ((pass : Pass) (number : ℕ) (history : List Answered) → drawing_of (stepped here number history (core_op control) found (with_drawing (draw_mirror_at here m way.before control) pass)) ≡ then_is)
       → ((pass : Pass) → left_after pass (core_op control) ≡ pass.left) → is_own (draw_call_of m) (draw_refusal_at control) (core_op control) ≡ true
       → either_of (draw_refusal_at control) (refused_by here (draw_call_of m) (head_in way.called.steps) step.works (core_op control) found) ≡ refusal_then
-      → place_by (core_op control) found ≡ None → Told (draw_call_of m) None start new
+      → place_by (core_op control) found ≡ None → Told way.called.asked None start new
       → Leads here m then_is refusal_then (head_by (core_op control) found (head_in way.called.steps)) (record m { head = head; control = next_control })
       → Goes (record m { head = head; control = next_control })
   led control head next_control then_is refusal_then runs way step goes leaves may refuses places told leads =
@@ -150,11 +150,11 @@ module _ (m : DrawMachine) (start now new : PassState) (found : ℕ) (fits : Fit
       next = record m { head = head; control = next_control }
 
   -- none of its steps takes a place
-  kept : (control : DrawControl) → IsOpen control → IsInCall m control start now → Postcondition now None (core_op control) found new
+  kept : (control : DrawControl) → IsOpen control → (way : IsInCall m control start now) → Postcondition now None (core_op control) found new
       → ((pass : Pass) (number : ℕ) (history : List Answered) → (stepped here number history (core_op control) found pass).seen ≡ pass.seen)
-      → ((pass : Pass) (number : ℕ) → mine_after number pass (core_op control) ≡ pass.mine) → Told (draw_call_of m) None start new
+      → ((pass : Pass) (number : ℕ) → mine_after number pass (core_op control) ≡ pass.mine) → Told way.called.asked None start new
   kept control runs way step seen mine =
-      told_kept (draw_call_of m) None start now new way.called.told None (core_op control) found step (draw_free m control start now runs way) seen mine
+      told_kept way.called.asked None start now new way.called.told None (core_op control) found step (draw_free m control start now runs way) seen mine
 
   -- what it is refused for, if there is no room
   refused_so : (low : ℕ → Bool) (refusal : Refusal) → unless_room (draw_call_of m) (low (page_count here (draw_call_of m))) refusal ≡ (if low m.pages then None else Some refusal)

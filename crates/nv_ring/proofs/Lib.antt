@@ -1,5 +1,6 @@
 mod AnswerLaws
 mod AppendLaws
+pub mod AskedLaws
 mod AppendMeasures
 mod BehindLaws
 mod DrawLaws

@@ -104,7 +104,7 @@ module _ (m : FrontMachine) (other : Asked) (same : call_asked other ≡ call_as
   }
 
   abbrev front_at : Control → FileCall → List Word → MirroredControl
-  front_at control call owned = record { control = control; call = call; asked = call; owned = owned; sized = m.sized; length = m.length }
+  front_at control call owned = record { control = control; call = call; owned = owned; sized = m.sized; length = m.length }
 
   abbrev FrontIs : FrontControl → (start now : PassState) → FileCall → Option FileCall → MirroredControl → Type 0
   FrontIs control start now call opens is = InCall control_mirror call opens is (front.front_refusal_at control) None start now
@@ -139,10 +139,10 @@ module _ (m : ReleaseMachine) (other : Asked) (same : call_asked other ≡ call_
 
   release_way : (control : ReleaseControl) (start now : PassState) → release.IsInCall m control start now → release.IsInCall r_with control start now
   release_way releases.GiveSize start now way =
-      subst (λ call. InCall control_mirror call None (record (release.release_mirror_at m releases.GiveSize) { call = call; asked = call; owned = SIZE (file_of call) ∷ pages_from m.page m.pages }) None (Some m.place) start now) (sym same) way
+      subst (λ call. InCall control_mirror call None (record (release.release_mirror_at m releases.GiveSize) { call = call; owned = SIZE (file_of call) ∷ pages_from m.page m.pages }) None (Some m.place) start now) (sym same) way
   release_way (releases.GivePage given) start now way =
-      subst (λ call. InCall control_mirror call None (record (release.release_mirror_at m (releases.GivePage given)) { call = call; asked = call }) None (Some m.place) start now) (sym same) way
-  release_way releases.Over start now way = subst (λ call. InCall control_mirror call None (record (release.release_mirror_at m releases.Over) { call = call; asked = call }) None (Some m.place) start now) (sym same) way
+      subst (λ call. InCall control_mirror call None (record (release.release_mirror_at m (releases.GivePage given)) { call = call }) None (Some m.place) start now) (sym same) way
+  release_way releases.Over start now way = subst (λ call. InCall control_mirror call None (record (release.release_mirror_at m releases.Over) { call = call }) None (Some m.place) start now) (sym same) way
 
 -- ---- an append
 
@@ -184,7 +184,7 @@ module _ (m : AppendMachine) (list : Bor (List ℕ)) (same : list.now ≡ m.byte
 
   abbrev append_at : append.Before → AppendControl → Control → FileCall → List Word → Drawing
   append_at before stands control call owned = record {
-    mirrored_control = record { control = control; call = call; asked = call; owned = owned; sized = m.sized; length = m.length };
+    mirrored_control = record { control = control; call = call; owned = owned; sized = m.sized; length = m.length };
     head = before.head;
     first = if append.is_filling stands then m.number else before.first;
     entries = if append.is_filling stands then m.pages else before.entries;
@@ -211,7 +211,7 @@ module _ (m : AppendMachine) (list : Bor (List ℕ)) (same : list.now ≡ m.byte
 -- ---- a draw
 
 abbrev with_call_at : FileCall → Drawing → Drawing
-with_call_at call is = record is { mirrored_control = record is.mirrored_control { call = call; asked = call } }
+with_call_at call is = record is { mirrored_control = record is.mirrored_control { call = call } }
 
 module _ (m : DrawMachine) (list : Bor (List ℕ)) (same : list.now ≡ m.bytes.now) where
   abbrev d_with : DrawMachine

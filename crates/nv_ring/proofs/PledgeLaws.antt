@@ -187,7 +187,7 @@ same_test n = elim (cases_eq n 1) [ inl is ↦ eq-eqb n 1 is ∙ sym (eq-eqb 1 n
 
 module _ (sizes : Sizes) (m : AppendMachine) (before : Before) where
   abbrev at : Control → List Word → Drawing
-  at control owned = record { mirrored_control = record { control = control; call = append_call_of m; asked = append_call_of m; owned = owned; sized = m.sized; length = m.length }; head = before.head; first = m.number; entries = m.pages }
+  at control owned = record { mirrored_control = record { control = control; call = append_call_of m; owned = owned; sized = m.sized; length = m.length }; head = before.head; first = m.number; entries = m.pages }
 
   -- the leader stands behind its followers
   leader_last : 0 < m.pages → entries_on sizes m 0 ++ locks m ≡ entries_on sizes m 1 ++ ENTRY (slot_of_entry sizes m.number) ∷ locks m
@@ -302,6 +302,7 @@ pledge_stepped m done was now found op is = record {
   failed = false;
   step = record { opens = None; works = is.stepped.works; op = Pledge (m.page + done); found = found };
   taken = taken_by was is.before now None (Pledge (m.page + done)) found is.between is.stepped;
+  opens = refl;
   op = op;
   fault = is.well;
   next = refl;
@@ -314,6 +315,7 @@ stop_stepped m was mid now found at between is fails = record {
   failed = true;
   step = record { opens = None; works = is.works; op = Stop; found = found };
   taken = taken_by was mid now None Stop found between is;
+  opens = refl;
   op = ap (λ control. core_op_of was.view (append_op_at m control true)) (sym at);
   fault = fails;
   next = ap (λ control. append_after_at was.view.opened.sizes m control true found) (sym at);

@@ -1,10 +1,9 @@
 -- Running writes: each part goes on where the one before it ends, until the call is over.
-use Rattle.std.proofs.Common.{◌≡◌, ◌≢◌, ℕ, ◌+◌, ◌<◌, ◌≤◌, ◌==◌, ◌^◌, nat_lt, Bool, true, false, if◌then◌else◌, [], length, refl, ap, subst, ◌∙◌, arith}
-use Rattle.std.specs.Prelude.{Option, Some, None, Result, Ok, Err}
+use Rattle.std.proofs.Common.{◌≡◌, ◌≢◌, ℕ, ◌+◌, ◌<◌, ◌≤◌, Bool, true, false, if◌then◌else◌, length, refl, ap, subst, ◌∙◌, arith}
+use Rattle.std.specs.Prelude.{Some, None, Result, Ok, Err}
 use Rattle.std.proofs.lemmas.Bool.{lt-ltb}
 use Rattle.nv_plain.specs.declared.call.FileCall.{FileCall}
-use Rattle.nv_core.specs.state.Passes.{Idle, is_write, len_of}
-use Rattle.nv_table.specs.state.Opened.{Opened}
+use Rattle.nv_core.specs.state.Passes.{is_write, len_of}
 use Rattle.nv_table.specs.state.States.{PassState}
 use Rattle.nv_op.specs.declared.asked.Asked.{Asked}
 use Rattle.nv_op.specs.declared.asked.Asked.TheVariants.{Read as AsksRead, Write as AsksWrite, Sync as AsksSync}
@@ -26,32 +25,29 @@ use Rattle.nv_ring.specs.declared.numbers.DrawControl.TheVariants as draws
 use Rattle.nv_ring.specs.declared.numbers.DrawMachine.{DrawMachine}
 use Rattle.nv_ring.specs.Draws as draw
 use Rattle.nv_ring.specs.Appends.{HasStepped, append_asked, append_measure, append_call_of, noted}
-use Rattle.nv_mirror.specs.Controls.{MirroredControl, control_mirror, InCall, IsOver}
+use Rattle.nv_mirror.specs.Controls.{IsMadeOver}
 use Rattle.nv_mirror.specs.Fronts as front
 use Rattle.nv_mirror.specs.Fronts.{front_after, front_after_at}
 use Rattle.nv_core.specs.state.Words.{Sizes}
-use Rattle.nv_mirror.specs.declared.front.FrontControl.{FrontControl}
 use Rattle.nv_ring.specs.declared.append.AppendControl.{AppendControl}
 use Rattle.nv_mirror.specs.Pageless as pageless
 use Rattle.nv_mirror.specs.Releases as release
-use Rattle.nv_mirror.specs.OwnSteps.{AreOwn}
-use Rattle.nv_mirror.specs.PassSteps.{refusal_in}
 use Rattle.nv_ring.specs.RunningWrites.{AsksForWrite, IsUnderWay, refusal_of, place_of, front_part, write_measure}
 use Rattle.nv_ring.specs.Ways.{released_of, refused_of}
 use Rattle.nv_mirror.proofs.EndsLaws.{call_over}
 use Rattle.nv_mirror.proofs.PartLaws.{front_keeps}
 
-pub pageless_over : (m : PagelessMachine) (result : Result ℕ Refusal) (call : FileCall) (start now : PassState) → m.control ≡ controls.Over result → IsUnderWay call (Pageless m) start now → IsOver call (refusal_of result) (place_of result) start now
+pub pageless_over : (m : PagelessMachine) (result : Result ℕ Refusal) (call : FileCall) (start now : PassState) → m.control ≡ controls.Over result → IsUnderWay call (Pageless m) start now → IsMadeOver call (refusal_of result) (place_of result) start now
 pageless_over m (Ok place) call start now control way =
     call_over (call_asked m.asked) call _ None (Some place) start now way.0 (subst (λ c. pageless.IsInCall m.asked c start now) control way.1.1) refl refl
 pageless_over m (Err refusal) call start now control way =
     call_over (call_asked m.asked) call _ (Some refusal) None start now way.0 (subst (λ c. pageless.IsInCall m.asked c start now) control way.1.1) refl refl
 
-pub front_over : (m : FrontMachine) (refusal : Refusal) (call : FileCall) (start now : PassState) → m.control ≡ fronts.Over refusal → IsUnderWay call (Front m) start now → IsOver call (Some refusal) None start now
+pub front_over : (m : FrontMachine) (refusal : Refusal) (call : FileCall) (start now : PassState) → m.control ≡ fronts.Over refusal → IsUnderWay call (Front m) start now → IsMadeOver call (Some refusal) None start now
 front_over m refusal call start now control way =
     call_over (front.front_call_of m) call _ (Some refusal) None start now way.0 (subst (λ c. front.IsInCall m c start now) control way.2.1) refl refl
 
-pub release_over : (m : ReleaseMachine) (call : FileCall) (start now : PassState) → m.control ≡ releases.Over → IsUnderWay call (Release m) start now → IsOver call None (Some m.place) start now
+pub release_over : (m : ReleaseMachine) (call : FileCall) (start now : PassState) → m.control ≡ releases.Over → IsUnderWay call (Release m) start now → IsMadeOver call None (Some m.place) start now
 release_over m call start now control way =
     call_over (release.release_call_of m) call _ None (Some m.place) start now way.0 (subst (λ c. release.IsInCall m c start now) control way.1.1) refl refl
 

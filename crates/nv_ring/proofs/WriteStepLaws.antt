@@ -1,18 +1,19 @@
 -- Write steps: of which kind each step of a running write is, and what comes of it.
-use Rattle.std.proofs.Common.{◌≡◌, ℕ, zero, suc, ◌+◌, ◌-◌, ◌^◌, ◌==◌, nat_lt, nat_le, Bool, true, false, if◌then◌else◌, ◌<◌, refl, ap, subst, sym, ◌∙◌, arith, eq-eqb, ne_eqb}
+use Rattle.std.proofs.Common.{◌≡◌, ℕ, ◌+◌, ◌^◌, ◌==◌, nat_lt, nat_le, Bool, true, false, if◌then◌else◌, ◌<◌, refl, ap, subst, sym, ◌∙◌, arith, eq-eqb, ne_eqb}
 use Rattle.std.specs.Prelude.{Option, Some, None, Result, Ok, Err}
 use Rattle.nv_core.specs.state.Words.{Sizes}
 use Rattle.nv_table.specs.state.States.{PassState}
-use Rattle.nv_table.specs.state.Views.{PassView, pass_of}
+use Rattle.nv_table.specs.state.Views.{PassView}
 use Rattle.nv_table.specs.steps.StepContracts.{Postcondition}
 use Rattle.nv_op.specs.Kinds.{kind_of, kind_of_op}
-use Rattle.nv_op.specs.Ops.{call_asked, core_op_of, opened_by}
+use Rattle.nv_plain.specs.declared.call.FileCall.{FileCall}
+use Rattle.nv_op.specs.Ops.{call_asked, core_op_of}
 use Rattle.nv_op.specs.declared.asked.Asked.{Asked}
 use Rattle.nv_op.specs.declared.kinds.Kind.TheVariants.{Load, Take}
 use Rattle.nv_core.specs.state.Passes.{len_of}
 use Rattle.nv_op.proofs.KindLaws.{kind_same}
 use Rattle.nv_mirror.specs.declared.answers.Refusal.{Refusal}
-use Rattle.nv_mirror.specs.declared.answers.Refusal.TheVariants.{Busy, Stopped, Spent, RegionFault}
+use Rattle.nv_mirror.specs.declared.answers.Refusal.TheVariants.{RegionFault}
 use Rattle.nv_ring.specs.declared.append.AppendMachine.{AppendMachine}
 use Rattle.nv_ring.specs.declared.append.AppendControl.{AppendControl}
 use Rattle.nv_ring.specs.declared.append.AppendControl.TheVariants.{Appended, Refused}
@@ -21,12 +22,9 @@ use Rattle.nv_mirror.specs.declared.front.FrontMachine.{FrontMachine}
 use Rattle.nv_mirror.specs.declared.front.FrontControl.{FrontControl}
 use Rattle.nv_mirror.specs.declared.front.FrontControl.TheVariants.{Passed, Over}
 use Rattle.nv_mirror.specs.declared.front.FrontControl.TheVariants as fronts
-use Rattle.nv_mirror.specs.declared.pageless.PagelessControl.{PagelessControl}
 use Rattle.nv_mirror.specs.declared.pageless.PagelessControl.TheVariants as controls
 use Rattle.nv_mirror.specs.declared.pageless.PagelessMachine.{PagelessMachine}
 use Rattle.nv_mirror.specs.declared.release.ReleaseMachine.{ReleaseMachine}
-use Rattle.nv_mirror.specs.declared.release.ReleaseControl.{ReleaseControl}
-use Rattle.nv_mirror.specs.declared.release.ReleaseControl.TheVariants as releases
 use Rattle.nv_ring.specs.declared.write.RunningWrite.TheVariants.{Pageless, Front, Draw, Append, Release}
 use Rattle.nv_ring.specs.Appends as append
 use Rattle.nv_ring.specs.declared.numbers.DrawControl.{DrawControl}
@@ -43,8 +41,6 @@ use Rattle.nv_mirror.specs.Releases.{release_after, release_op, release_op_at}
 use Rattle.nv_mirror.specs.PassSteps.{either_of, fault_in, is_stop, place_by}
 use Rattle.nv_ring.specs.RunningWrites.{place_of, refusal_of}
 use Rattle.nv_ring.specs.WriteSteps.{HasMadeOne, IsFresh, first_kind, part_fault}
-use Rattle.nv_mirror.specs.Controls.{MirroredControl}
-use Rattle.nv_table.proofs.steps.CallLaws.{IsCallFree}
 use Rattle.nv_ring.proofs.DrawLaws.{draw_free}
 use Rattle.nv_mirror.proofs.PartLaws.{TellsFaults, front_tells, none_more, of_both, pageless_tells, release_tells}
 use Rattle.nv_mirror.proofs.StepLaws.{between_self, no_fault, taken_by}
@@ -54,9 +50,9 @@ part_faults = record { none = refl; busy = λ cell. refl; stopped = refl; spent 
 
 -- ---- a front
 
-pub front_one : (m next : FrontMachine) (start now new : PassState) (found : ℕ) → front.IsOpen m.control → front.IsUnderWay m start now
-    → Postcondition now (opened_by (front_opens m)) (core_op_of now.view (front_op m)) found new → next ≡ front_after now.view.opened.sizes m found → HasMadeOne (Front m) (Front next) now new
-front_one m next start now new found runs way is next_is =
+pub front_one : (m next : FrontMachine) {opens : Option FileCall} (start now new : PassState) (found : ℕ) → front.IsOpen m.control → front.IsUnderWay m start now
+    → Postcondition now opens (core_op_of now.view (front_op m)) found new → next ≡ front_after now.view.opened.sizes m found → HasMadeOne (Front m) (Front next) now new
+front_one m next {opens} start now new found runs way is next_is =
     let told = front_tells part_fault part_faults m next start now new found runs way is next_is in
     record { step = told.step; taken = told.taken; kind = told.kind; fault = told.fault; place = told.placed }
 
@@ -157,10 +153,10 @@ append_one m next now new runs is =
 
 -- ---- a call without a page
 
-pub pageless_one : (m next : PagelessMachine) (start now new : PassState) (found : ℕ) → pageless.IsOpen m.control → pageless.IsUnderWay m start now
-    → Postcondition now (opened_by (pageless.pageless_opens m)) (core_op_of now.view (pageless_op m.control)) found new → next.control ≡ pageless_after m.control found
+pub pageless_one : (m next : PagelessMachine) {opens : Option FileCall} (start now new : PassState) (found : ℕ) → pageless.IsOpen m.control → pageless.IsUnderWay m start now
+    → Postcondition now opens (core_op_of now.view (pageless_op m.control)) found new → next.control ≡ pageless_after m.control found
     → HasMadeOne (Pageless m) (Pageless next) now new
-pageless_one m next start now new found runs way is next_is =
+pageless_one m next {opens} start now new found runs way is next_is =
     let told = pageless_tells part_fault part_faults m next start now new found runs way is next_is in
     record { step = told.step; taken = told.taken; kind = told.kind; fault = told.fault; place = told.placed }
 

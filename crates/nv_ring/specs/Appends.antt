@@ -159,7 +159,7 @@ is_filling control = false
 
 abbrev pub append_mirror_at : Sizes → AppendMachine → Before → AppendControl → Drawing
 append_mirror_at sizes m before control = record {
-  mirrored_control = record { control = append_control_at m control; call = append_call_of m; asked = append_call_of m; owned = append_owned_at sizes m control; sized = m.sized; length = m.length };
+  mirrored_control = record { control = append_control_at m control; call = append_call_of m; owned = append_owned_at sizes m control; sized = m.sized; length = m.length };
   head = before.head;
   first = if is_filling control then m.number else before.first;
   entries = if is_filling control then m.pages else before.entries;
@@ -192,6 +192,7 @@ pub record HasStepped (old new : AppendMachine) (was now : PassState) : Type 0 w
   pub failed : Bool
   pub step : PassStep
   pub taken : HasTaken step was now
+  pub opens : step.opens ≡ None
   pub op : step.op ≡ core_op_of was.view (append_op old failed)
   pub fault : fault_in step.works ≡ fault_if (is_stop step.op)
   pub next : new ≡ append_after was.view.opened.sizes old failed step.found

@@ -1,8 +1,10 @@
 -- Running writes: a write of a file, from its first step to its end.
 use Rattle.std.specs.Prelude.{◌≡◌, ℕ, ◌+◌, ◌-◌, ◌*◌, Bool, true, false, if◌then◌else◌, Option, Some, None, Result, Ok, Err}
 use Rattle.nv_plain.specs.declared.call.FileCall.{FileCall}
+use Rattle.nv_plain.specs.declared.call.FileCall.TheVariants.{Sync}
 use Rattle.nv_core.specs.state.Passes.{is_write}
 use Rattle.nv_table.specs.state.States.{PassState}
+use Rattle.nv_table.specs.state.Views.{pass_of}
 use Rattle.nv_op.specs.declared.asked.Asked.{Asked}
 use Rattle.nv_op.specs.declared.asked.Asked.TheVariants.{Write as AsksWrite}
 use Rattle.nv_op.specs.Ops.{call_asked}
@@ -16,7 +18,7 @@ use Rattle.nv_ring.specs.Appends as append
 use Rattle.nv_ring.specs.Draws as draw
 use Rattle.nv_ring.specs.Draws.{draw_call_of, draw_measure}
 use Rattle.nv_ring.specs.Appends.{append_call_of, append_measure}
-use Rattle.nv_mirror.specs.Controls.{IsOver}
+use Rattle.nv_mirror.specs.Controls.{IsMadeOver, asked_at}
 use Rattle.nv_mirror.specs.Fronts as front
 use Rattle.nv_mirror.specs.Fronts.{front_call_of, front_measure_at}
 use Rattle.nv_mirror.specs.Pageless as pageless
@@ -37,14 +39,29 @@ abbrev pub place_of : Result ℕ Refusal → Option ℕ
 place_of (Ok place) = Some place
 place_of (Err refusal) = None
 
--- Its call has made some steps since a start, or is over.
+-- What is made as its call has made some steps since a start, or is over.
 abbrev pub IsUnderWay : FileCall → RunningWrite → (start now : PassState) → Type 0
 IsUnderWay call (Pageless m) start now = (call_asked m.asked ≡ call) × pageless.IsUnderWay m start now
 IsUnderWay call (Front m) start now = (front_call_of m ≡ call) × (is_write (front_call_of m) ≡ true) × front.IsUnderWay m start now
 IsUnderWay call (Draw m) start now = (draw_call_of m ≡ call) × draw.IsUnderWay m start now
 IsUnderWay call (Append m) start now = (append_call_of m ≡ call) × append.IsUnderWay m start now
 IsUnderWay call (Release m) start now = (release_call_of m ≡ call) × release.IsUnderWay m start now
-IsUnderWay call (Over result) start now = IsOver call (refusal_of result) (place_of result) start now
+IsUnderWay call (Over result) start now = IsMadeOver call (refusal_of result) (place_of result) start now
+
+-- The plain call that it is made as.
+abbrev pub made_call : RunningWrite → FileCall
+made_call (Pageless m) = call_asked m.asked
+made_call (Front m) = front_call_of m
+made_call (Draw m) = draw_call_of m
+made_call (Append m) = append_call_of m
+made_call (Release m) = release_call_of m
+made_call (Over result) = Sync 0
+
+-- What its call is asked as, once it has begun, or will be.
+abbrev pub asked_in : (asked : FileCall) → RunningWrite → (now : PassState) → FileCall
+asked_in asked (Pageless m) now = asked_at asked (pageless.has_begun m.control) now
+asked_in asked (Front m) now = asked_at asked (front.has_begun m.control) now
+asked_in asked write now = (pass_of now.view).asked
 
 -- A step is next in its part, or the whole is over.
 abbrev pub IsSettled : RunningWrite → Type 0

@@ -2,12 +2,12 @@
 ghost use Rattle.std.specs.Prelude.{◌≡◌, ◌≤◌, ◌<◌, [], min, vec_capacity};
 ghost use Rattle.nv_plain.specs.Layouts.{mount_layout};
 ghost use Rattle.nv_plain.specs.declared.call.FileCall.{FileCall};
-ghost use Rattle.nv_core.specs.state.Passes.{IsAllowed};
+ghost use Rattle.nv_core.specs.state.Passes.{IsAllowed, plain_call};
 ghost use Rattle.nv_op.specs.Ops.{call_asked};
 ghost use Rattle.nv_table.specs.invariant.Idle.{IsIdle};
 ghost use Rattle.nv_table.specs.state.Keys.{sizes_of};
 ghost use Rattle.nv_table.specs.state.States.{IsOf, PassState};
-ghost use Rattle.nv_ring.specs.RunningWrites.{AsksForWrite, IsOpen, IsSettled, IsUnderWay, write_measure};
+ghost use Rattle.nv_ring.specs.RunningWrites.{AsksForWrite, IsOpen, IsSettled, IsUnderWay, asked_in, write_measure};
 ghost use Rattle.nv_ring.specs.WriteSteps.{HasMadeOne, IsFresh, write_fault, write_place};
 
 use crate::{AppendControl, AppendMachine, DrawControl, DrawMachine};
@@ -15,7 +15,7 @@ use nv_mirror::{
     FrontControl, FrontMachine, PagelessControl, PagelessMachine, Refusal, ReleaseControl,
     ReleaseMachine,
 };
-use nv_op::Asked;
+use nv_op::{Asked, Asks};
 use nv_pmem::Lines;
 use nv_store::Backing;
 use nv_table::{Board, Layout, Pass};
@@ -43,6 +43,7 @@ impl<'a> RunningWrite<'a> {
         ensures begins { (pass : PassState) → pass.view.opened.sizes ≡ sizes_of layout → IsIdle pass → IsUnderWay (call_asked asked.entry) result pass pass }
         ensures settled { IsOpen result }
         ensures fresh { IsFresh (sizes_of layout) (call_asked asked.entry) result }
+        ensures asks { (call : FileCall) (pass : PassState) → asked_in call result pass ≡ call }
     {
         if asked.size() == 0 {
             RunningWrite::Pageless(PagelessMachine::new(asked))
@@ -58,6 +59,7 @@ impl<'a> RunningWrite<'a> {
         ensures falls { write_measure result ≤ write_measure self.entry }
         ensures fault { write_fault result ≡ write_fault self.entry }
         ensures place { write_place result ≡ write_place self.entry }
+        ensures asks { (asked : FileCall) (now : PassState) → asked_in asked result now ≡ asked_in asked self.entry now }
         ensures way { (call : FileCall) (start now : PassState) → IsUnderWay call self.entry start now → IsUnderWay call result start now }
     {
         match self {
@@ -89,7 +91,7 @@ impl<'a> RunningWrite<'a> {
     }
 
     // Makes the next step of its part.
-    fn step<L: Lines, B: Backing>(
+    fn step<A: Asks, L: Lines, B: Backing>(
         &mut self,
         board: &Board<L, B>,
         pass: &mut Pass<L, B>,
@@ -99,17 +101,18 @@ impl<'a> RunningWrite<'a> {
         requires open { IsOpen self.old }
         requires bare { parts.old.items ≡ [] }
         requires places { min mount_layout.group_limit board.now.opened.sizes.entries ≤ vec_capacity parts.old }
-        requires way { (call : FileCall) × (start : PassState) × IsUnderWay call self.old start pass.old }
+        requires way { (start : PassState) × IsUnderWay (plain_call A.call) self.old start pass.old }
         ensures board { IsOf board.now pass.new }
         ensures one { HasMadeOne self.old self.new pass.old pass.new }
         ensures falls { write_measure self.new < write_measure self.old }
         ensures bare { parts.new.items ≡ [] }
         ensures places { vec_capacity parts.new ≡ vec_capacity parts.old }
+        ensures asks { asked_in A.call self.new pass.new ≡ asked_in A.call self.old pass.old }
         ensures way { (call : FileCall) (start : PassState) → IsUnderWay call self.old start pass.old → IsUnderWay call self.new start pass.new }
     {
         match self {
-            RunningWrite::Pageless(m) => m.advance(board, pass),
-            RunningWrite::Front(m) => m.advance(board, pass),
+            RunningWrite::Pageless(m) => m.advance::<A, L, B>(board, pass),
+            RunningWrite::Front(m) => m.advance::<A, L, B>(board, pass),
             RunningWrite::Draw(m) => m.advance(board, pass),
             RunningWrite::Append(m) => m.advance(board, pass, parts),
             RunningWrite::Release(m) => m.advance(board, pass),
@@ -117,9 +120,9 @@ impl<'a> RunningWrite<'a> {
         }
     }
 
-    /// Makes the next step, after the device calls that lie before it. While those of a commit are made the parts of its entries lie in `parts`, which is empty,
+    /// Makes the next step, after the device calls that lie before it. Its call begins as what was asked, which is made as this write. While those of a commit are made the parts of its entries lie in `parts`, which is empty,
     /// and has a place for each that a write may have.
-    pub fn advance<L: Lines, B: Backing>(
+    pub fn advance<A: Asks, L: Lines, B: Backing>(
         &mut self,
         board: &Board<L, B>,
         pass: &mut Pass<L, B>,
@@ -129,16 +132,17 @@ impl<'a> RunningWrite<'a> {
         requires open { IsOpen self.old }
         requires bare { parts.old.items ≡ [] }
         requires places { min mount_layout.group_limit board.now.opened.sizes.entries ≤ vec_capacity parts.old }
-        requires way { (call : FileCall) × (start : PassState) × IsUnderWay call self.old start pass.old }
+        requires way { (start : PassState) × IsUnderWay (plain_call A.call) self.old start pass.old }
         ensures board { IsOf board.now pass.new }
         ensures settled { IsSettled self.new }
         ensures one { HasMadeOne self.old self.new pass.old pass.new }
         ensures falls { write_measure self.new < write_measure self.old }
         ensures bare { parts.new.items ≡ [] }
         ensures places { vec_capacity parts.new ≡ vec_capacity parts.old }
+        ensures asks { asked_in A.call self.new pass.new ≡ asked_in A.call self.old pass.old }
         ensures way { (call : FileCall) (start : PassState) → IsUnderWay call self.old start pass.old → IsUnderWay call self.new start pass.new }
     {
-        self.step(board, pass, parts);
+        self.step::<A, L, B>(board, pass, parts);
         *self = self.settled(board.layout());
     }
 }

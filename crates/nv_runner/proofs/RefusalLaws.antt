@@ -5,6 +5,7 @@ use Rattle.std.proofs.lemmas.Bool.{true≢false}
 use Rattle.nv_plain.specs.Modes.{can_read, can_write}
 use Rattle.nv_plain.specs.declared.call.FileCall.{FileCall}
 use Rattle.nv_plain.specs.declared.call.FileCall.TheVariants.{Read, Write}
+use Rattle.nv_core.specs.state.Passes.{plain_call}
 use Rattle.nv_core.specs.state.Words.{Sizes, ORDER}
 use Rattle.nv_core.specs.steps.Frames.{OwnEventsTell}
 use Rattle.nv_core.specs.steps.Opening.{IsMount}
@@ -88,9 +89,11 @@ over_cause (Some bar) file IsDone last now refusal Causes done over = err_is ove
 over_cause None file IsDone last now refusal Causes done over = done over.0 over.2
 
 module _ (laws : WordLaws) (tell : OwnEventsTell) (reads_heed : ReadsHeedStop) (syncs_heed : SyncsHeedStop) (fds : List Fd) (worker : Option ℕ) where
-  over_shows : (call : FileCall) (last now : PassState) (refusal : Refusal) → IsMount (mount_of last.view.opened) → IsOver call (Some refusal) None last now → Shows last.view.opened.sizes call now (Some refusal)
+  over_shows : (call : FileCall) (last now : PassState) (refusal : Refusal) → IsMount (mount_of last.view.opened) → IsOver call (Some refusal) None last now → Shows last.view.opened.sizes (plain_call call) now (Some refusal)
   over_shows call last now refusal mount over =
-      subst (Shows last.view.opened.sizes call now) over.refused (stands laws tell last.view.opened.sizes call over.plain last mount over.steps now over.made (own_any last.view.opened.sizes call over.steps over.own)).why
+      let made = plain_call call in
+      subst (Shows last.view.opened.sizes made now) over.refused
+      (stands laws tell last.view.opened.sizes call made refl last mount over.steps now over.made (own_any last.view.opened.sizes call made over.steps over.own)).why
 
   -- sizes at the try are those behind it
   sizes_on : (call : TraceCall) (last now : PassState) (refusal : Refusal) → now.view.opened ≡ last.view.opened

@@ -21,7 +21,7 @@ use Rattle.nv_table.specs.state.Views.{PassView, pass_of}
 use Rattle.nv_table.proofs.invariant.DrawnLaws.{calls_leave}
 use Rattle.nv_mirror.specs.declared.answers.Refusal.{Refusal}
 use Rattle.nv_mirror.specs.declared.answers.Refusal.TheVariants.{BadFd, TooFar, TooLong, Busy, Stopped, Spent, Again, Raced, RegionFault, StoreFault}
-use Rattle.nv_mirror.specs.OwnSteps.{AreOwn, is_own}
+use Rattle.nv_mirror.specs.OwnSteps.{AreOwnAs, is_own}
 use Rattle.nv_mirror.specs.PassSteps.{PassStep, HasMade, HasTaken, busy_at, either_of, fault_by, fault_in, head_by, head_in, if_own, is_fault, is_stop, refusal_in, refused_by, stops_in, unless_room}
 use Rattle.nv_mirror.proofs.StopLaws.{IsFault, faults_are, sets_stop}
 use Rattle.nv_runner.specs.Refusals.{MetFault, word_seen}
@@ -144,25 +144,25 @@ head_low op found head most here before = before
 -- ---- some steps
 
 -- those of a call, or none yet
-abbrev AreOwnIfAny : Sizes → FileCall → List PassStep → Type 0
-AreOwnIfAny sizes call [] = Unit {0}
-AreOwnIfAny sizes call (step ∷ earlier) = AreOwn sizes call (step ∷ earlier)
+abbrev AreOwnIfAny : Sizes → (asked call : FileCall) → List PassStep → Type 0
+AreOwnIfAny sizes asked call [] = Unit {0}
+AreOwnIfAny sizes asked call (step ∷ earlier) = AreOwnAs sizes asked call (step ∷ earlier)
 
-pub own_any : (sizes : Sizes) (call : FileCall) (steps : List PassStep) → AreOwn sizes call steps → AreOwnIfAny sizes call steps
-own_any sizes call [] own = absurd own
-own_any sizes call (step ∷ earlier) own = own
+pub own_any : (sizes : Sizes) (asked call : FileCall) (steps : List PassStep) → AreOwnAs sizes asked call steps → AreOwnIfAny sizes asked call steps
+own_any sizes asked call [] own = absurd own
+own_any sizes asked call (step ∷ earlier) own = own
 
 -- the last of them: it begins the call, or comes behind others
-abbrev IsLastOwn : Sizes → FileCall → PassStep → List PassStep → Type 0
-IsLastOwn sizes call step earlier =
-    (is_own call (refusal_in sizes call earlier) step.op ≡ true) × ((step.opens ≡ Some call) ⊎ ((step.opens ≡ None) × (earlier ≢ []))) × AreOwnIfAny sizes call earlier
+abbrev IsLastOwn : Sizes → (asked call : FileCall) → PassStep → List PassStep → Type 0
+IsLastOwn sizes asked call step earlier =
+    (is_own call (refusal_in sizes call earlier) step.op ≡ true) × ((step.opens ≡ Some asked) ⊎ ((step.opens ≡ None) × (earlier ≢ []))) × AreOwnIfAny sizes asked call earlier
 
 some_steps : (step : PassStep) (earlier : List PassStep) → step ∷ earlier ≢ []
 some_steps step earlier is = let long = ap length is in omega (arith, long)
 
-last_own : (sizes : Sizes) (call : FileCall) (step : PassStep) (earlier : List PassStep) → AreOwn sizes call (step ∷ earlier) → IsLastOwn sizes call step earlier
-last_own sizes call step [] own = (own.1, inl own.0, tt)
-last_own sizes call step (other ∷ earlier) own = (own.1, inr (own.0, some_steps other earlier), own.2)
+last_own : (sizes : Sizes) (asked call : FileCall) (step : PassStep) (earlier : List PassStep) → AreOwnAs sizes asked call (step ∷ earlier) → IsLastOwn sizes asked call step earlier
+last_own sizes asked call step [] own = (own.1, inl own.0, tt)
+last_own sizes asked call step (other ∷ earlier) own = (own.1, inr (own.0, some_steps other earlier), own.2)
 
 -- what is so of a pass behind some
 pub record Stands (sizes : Sizes) (call : FileCall) (start : PassState) (steps : List PassStep) (now : PassState) : Type 0 where
@@ -190,9 +190,9 @@ stops_once true false entries once = omega arith
 stops_once false true entries once = omega arith
 stops_once false false entries once = omega arith
 
-module _ (laws : WordLaws) (tell : OwnEventsTell) (sizes : Sizes) (call : FileCall) (is_plain : plain_call call ≡ call) (start : PassState) (mount : IsMount (mount_of start.view.opened)) where
+module _ (laws : WordLaws) (tell : OwnEventsTell) (sizes : Sizes) (asked call : FileCall) (is_made : plain_call asked ≡ call) (start : PassState) (mount : IsMount (mount_of start.view.opened)) where
   -- a step behind some, with the pass as it finds it
-  module _ (step : PassStep) (earlier : List PassStep) (middle now : PassState) (was : Stands sizes call start earlier middle) (taken : HasTaken step middle now) (own : IsLastOwn sizes call step earlier)
+  module _ (step : PassStep) (earlier : List PassStep) (middle now : PassState) (was : Stands sizes call start earlier middle) (taken : HasTaken step middle now) (own : IsLastOwn sizes asked call step earlier)
       (stopped : stops_in earlier ≡ is_fault (refusal_in sizes call earlier)) where
     abbrev seen : PassView
     seen = taken.before.view
@@ -214,7 +214,7 @@ module _ (laws : WordLaws) (tell : OwnEventsTell) (sizes : Sizes) (call : FileCa
 
     there_makes : there.call ≡ call
     there_makes = elim own.1 [
-      | inl first ↦ ap (λ (p : Pass). p.call) (opened_with (Some call) first) ∙ is_plain
+      | inl first ↦ ap (λ (p : Pass). p.call) (opened_with (Some asked) first) ∙ is_made
       | inr later ↦
           ap (λ (p : Pass). p.call) (opened_with None later.0) ∙ calls_leave (λ (p : Pass). p.call) (λ sizes work p. refl) seen.opened.sizes works (pass_of seen)
           ∙ ap (λ (v : PassView). (pass_of v).call) taken.between.view ∙ was.makes later.1
@@ -292,13 +292,13 @@ module _ (laws : WordLaws) (tell : OwnEventsTell) (sizes : Sizes) (call : FileCa
     }
 
   -- where STOP is set the call is refused for that
-  stopped_so : (steps : List PassStep) (now : PassState) → HasMade steps start now → AreOwnIfAny sizes call steps → stops_in steps ≡ is_fault (refusal_in sizes call steps)
+  stopped_so : (steps : List PassStep) (now : PassState) → HasMade steps start now → AreOwnIfAny sizes asked call steps → stops_in steps ≡ is_fault (refusal_in sizes call steps)
   stopped_so [] now all own = refl
-  stopped_so (step ∷ earlier) now all own = sets_stop sizes call laws.sound tell start mount (step ∷ earlier) now all own
+  stopped_so (step ∷ earlier) now all own = sets_stop sizes call laws.sound tell start mount asked (step ∷ earlier) now all own
 
-  pub stands : (steps : List PassStep) (now : PassState) → HasMade steps start now → AreOwnIfAny sizes call steps → Stands sizes call start steps now
+  pub stands : (steps : List PassStep) (now : PassState) → HasMade steps start now → AreOwnIfAny sizes asked call steps → Stands sizes call start steps now
   stands [] now all own =
       record { opened = ap (λ (p : PassState). p.view.opened) all; head = omega arith; why = tt; makes = λ some. absurd (some refl); went = went_nowhere true start now all }
   stands (step ∷ earlier) now all own =
-      let last = last_own sizes call step earlier own in
+      let last = last_own sizes asked call step earlier own in
       stands_on step earlier all.0 now (stands earlier all.0 all.1 last.2) all.2 last (stopped_so earlier all.0 all.1 last.2)

@@ -101,8 +101,9 @@ again_mild refusal again = refl
 
 module _ (laws : WordLaws) (tell : OwnEventsTell) (fds : List Fd) where
   over_stands : (call : FileCall) (refusal : Option Refusal) (place : Option ℕ) (last now : PassState) → IsMount (mount_of last.view.opened) → (over : IsOver call refusal place last now)
-      → Stands last.view.opened.sizes call last over.steps now
-  over_stands call refusal place last now mount over = stands laws tell last.view.opened.sizes call over.plain last mount over.steps now over.made (own_any last.view.opened.sizes call over.steps over.own)
+      → Stands last.view.opened.sizes (plain_call call) last over.steps now
+  over_stands call refusal place last now mount over =
+      stands laws tell last.view.opened.sizes call (plain_call call) refl last mount over.steps now over.made (own_any last.view.opened.sizes call (plain_call call) over.steps over.own)
 
   -- a read
   read_went : (fd at : ℕ) (list : List ℕ) (last now : PassState) (result : Result Done Refusal) → IsMount (mount_of last.view.opened) → IsReadOver fds fd at list last now result → Went true 0 last now
@@ -134,7 +135,7 @@ module _ (laws : WordLaws) (tell : OwnEventsTell) (fds : List Fd) where
           let call = Write ended.0 at bytes in
           let done = ended.2 in
           let is = over_stands call (refusal_in_answer result) (place_in_answer result) last now mount done in
-          let set = sets_stop sizes call laws.sound tell last mount done.steps now done.made done.own in
+          let set = sets_stop sizes call laws.sound tell last mount call done.steps now done.made done.own in
           went_as true _ _ last now (ap (λ b. entries_if b pages) (set ∙ ap is_fault done.refused)) is.went
 
   -- ---- all tries

@@ -18,7 +18,7 @@ use Rattle.nv_table.specs.state.Views.{PassView, pass_of}
 use Rattle.nv_table.specs.steps.SeatSteps.{pass_before, pass_worked, with_call}
 use Rattle.nv_mirror.proofs.StopLaws.{sets_stop}
 use Rattle.nv_mirror.specs.Controls.{InCall, Mirror}
-use Rattle.nv_mirror.specs.OwnSteps.{AreOwn, gives_back, is_own}
+use Rattle.nv_mirror.specs.OwnSteps.{AreOwnAs, gives_back, is_own}
 use Rattle.nv_mirror.specs.PassSteps.{HasMade, HasTaken, PassStep, is_fault, is_stop, refusal_in, stops_in}
 use Rattle.nv_mirror.specs.declared.answers.Refusal.{Refusal}
 use Rattle.nv_clean.specs.OwnSteps as batches
@@ -80,20 +80,20 @@ unrefused call None op is own = refl
 unrefused call (Some refusal) op is own = let never : gives_back call refusal Stop ≡ true = sym (ap (gives_back call refusal) (stop_is op is)) ∙ own in absurd (cc)
 
 module _ (sizes : Sizes) (call : FileCall) (sound : RunsAreSound) (tell : OwnEventsTell) (start : PassState) (mount : IsMount (mount_of start.view.opened)) where
-  steps_fault : (steps : List PassStep) (now : PassState) → HasMade steps start now → AreOwn sizes call steps → FaultedBy (stops_in steps) start now
-  steps_fault [] now made own = absurd own
-  steps_fault (step ∷ []) now made own =
+  steps_fault : (asked : FileCall) (steps : List PassStep) (now : PassState) → HasMade steps start now → AreOwnAs sizes asked call steps → FaultedBy (stops_in steps) start now
+  steps_fault asked [] now made own = absurd own
+  steps_fault asked (step ∷ []) now made own =
       one_step step start made.0 now made.2 false (is_stop step.op) (ap (λ (p : PassState). (pass_of p.view).faulted) made.1) (λ is. absurd (true≢false (sym is))) (λ is. refl) refl
-  steps_fault (step ∷ (other ∷ earlier)) now made own =
-      one_step step start made.0 now made.2 (stops_in (other ∷ earlier)) (is_stop step.op) (steps_fault (other ∷ earlier) made.0 made.1 own.2) (λ is. own.0)
-      (λ is. sets_stop sizes call sound tell start mount (other ∷ earlier) made.0 made.1 own.2 ∙ ap is_fault (unrefused call (refusal_in sizes call (other ∷ earlier)) step.op is own.1)) refl
+  steps_fault asked (step ∷ (other ∷ earlier)) now made own =
+      one_step step start made.0 now made.2 (stops_in (other ∷ earlier)) (is_stop step.op) (steps_fault asked (other ∷ earlier) made.0 made.1 own.2) (λ is. own.0)
+      (λ is. sets_stop sizes call sound tell start mount asked (other ∷ earlier) made.0 made.1 own.2 ∙ ap is_fault (unrefused call (refusal_in sizes call (other ∷ earlier)) step.op is own.1)) refl
 
 -- So of a call in mid-call, by why it is refused, if it is.
 pub call_faults : {State : Type 0} (mirror : Mirror State) (call : FileCall) (opens : Option FileCall) (is : State) (refusal : Option Refusal) (place : Option ℕ) (begun now : PassState) → RunsAreSound → OwnEventsTell
     → IsMount (mount_of begun.view.opened) → InCall mirror call opens is refusal place begun now → FaultedBy (is_fault refusal) begun now
 call_faults mirror call None is refusal place begun now sound tell mount c =
     let sizes = now.view.opened.sizes in
-    subst (λ b. FaultedBy b begun now) (sets_stop sizes call sound tell begun mount c.steps now c.made c.own ∙ ap is_fault c.refused) (steps_fault sizes call sound tell begun mount c.steps now c.made c.own)
+    subst (λ b. FaultedBy b begun now) (sets_stop sizes call sound tell begun mount c.asked c.steps now c.made c.own ∙ ap is_fault c.refused) (steps_fault sizes call sound tell begun mount c.asked c.steps now c.made c.own)
 call_faults mirror call (Some one) is refusal place begun now sound tell mount c =
     let none : None ≡ refusal = ap (refusal_in now.view.opened.sizes call) (sym c.own.1) ∙ c.refused in
     subst (λ r. FaultedBy (is_fault r) begun now) none (ap (λ (p : PassState). (pass_of p.view).faulted) c.fresh)

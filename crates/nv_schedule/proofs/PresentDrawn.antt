@@ -31,7 +31,7 @@ use Rattle.nv_mirror.specs.declared.front.FrontMachine.{FrontMachine}
 use Rattle.nv_mirror.specs.declared.release.ReleaseControl.{ReleaseControl}
 use Rattle.nv_mirror.specs.declared.release.ReleaseControl.TheVariants as releases
 use Rattle.nv_mirror.specs.declared.release.ReleaseMachine.{ReleaseMachine}
-use Rattle.nv_mirror.specs.OwnSteps.{AreOwn}
+use Rattle.nv_mirror.specs.OwnSteps.{AreOwnAs}
 use Rattle.nv_mirror.specs.PassSteps.{either_of, is_fault, stops_in}
 use Rattle.nv_mirror.specs.declared.answers.Refusal.{Refusal}
 use Rattle.nv_mirror.specs.declared.answers.Refusal.TheVariants.{Busy, RegionFault, StoreFault}
@@ -105,19 +105,19 @@ open_most sizes call TakePlace = omega arith
 open_most sizes call SetStopAfterCommit = omega arith
 open_most sizes call control = omega arith
 
-placed_more : (sizes : Sizes) (calls : List Answered) (one : Answered) → plain_call one.call ≡ one.call → placed_entries sizes (calls ++ one ∷ []) ≡ placed_entries sizes calls + entries_of sizes one.call
-placed_more sizes [] one plain = let same = ap (entries_of sizes) plain in omega (arith, same)
-placed_more sizes (first ∷ rest) one plain = let again = placed_more sizes rest one plain in omega (arith, again)
+placed_more : (sizes : Sizes) (calls : List Answered) (one : Answered) (call : FileCall) → plain_call one.call ≡ call → placed_entries sizes (calls ++ one ∷ []) ≡ placed_entries sizes calls + entries_of sizes call
+placed_more sizes [] one call makes = let same = ap (entries_of sizes) makes in omega (arith, same)
+placed_more sizes (first ∷ rest) one call makes = let again = placed_more sizes rest one call makes in omega (arith, again)
 
 -- what a call's place adds to its pass's own entries
 abbrev pub placed_if : Option ℕ → (entries : ℕ) → ℕ
 placed_if None entries = 0
 placed_if (Some place) entries = entries
 
-placed_on : (sizes : Sizes) (call : FileCall) → plain_call call ≡ call → (place : Option ℕ) (begun now : PassState) → Told call place begun now
+placed_on : (sizes : Sizes) (asked call : FileCall) → plain_call asked ≡ call → (place : Option ℕ) (begun now : PassState) → Told asked place begun now
     → placed_entries sizes (pass_of now.view).mine ≡ placed_entries sizes (pass_of begun.view).mine + placed_if place (entries_of sizes call)
-placed_on sizes call plain None begun now told = let same = ap (placed_entries sizes) told.mine in omega (arith, same)
-placed_on sizes call plain (Some place) begun now told = ap (placed_entries sizes) told.2.mine ∙ placed_more sizes (pass_of begun.view).mine _ plain
+placed_on sizes asked call makes None begun now told = let same = ap (placed_entries sizes) told.mine in omega (arith, same)
+placed_on sizes asked call makes (Some place) begun now told = ap (placed_entries sizes) told.2.mine ∙ placed_more sizes (pass_of begun.view).mine _ call makes
 
 -- ---- a call in mid-call
 
@@ -135,14 +135,14 @@ module _ (laws : WordLaws) (tell : OwnEventsTell) where
   has_drawn_so mirror call is refusal place begun now mount c =
       let sizes = begun.view.opened.sizes in
       let entries = entries_of begun.view.opened.sizes call in
-      let stood = stands laws tell now.view.opened.sizes call c.plain begun mount c.steps now c.made (own_any now.view.opened.sizes call c.steps c.own) in
-      let set = sets_stop now.view.opened.sizes call laws.sound tell begun mount c.steps now c.made c.own in
-      let makes : (pass_of now.view).call ≡ call = stood.makes (λ none. subst (λ steps. AreOwn now.view.opened.sizes call steps) none c.own) in
+      let stood = stands laws tell now.view.opened.sizes c.asked call c.makes begun mount c.steps now c.made (own_any now.view.opened.sizes c.asked call c.steps c.own) in
+      let set = sets_stop now.view.opened.sizes call laws.sound tell begun mount c.asked c.steps now c.made c.own in
+      let makes : (pass_of now.view).call ≡ call = stood.makes (λ none. subst (λ steps. AreOwnAs now.view.opened.sizes c.asked call steps) none c.own) in
       let fault : entries_if (stops_in c.steps) entries ≡ entries_if (is_fault refusal) entries = ap (λ b. entries_if b entries) (set ∙ ap is_fault c.refused) in
       let faults : faulted_entries sizes (pass_of now.view).faulted ≡ faulted_entries sizes (pass_of begun.view).faulted + entries_if (is_fault refusal) entries =
       ap (λ (o : Opened). faulted_entries o.sizes (pass_of now.view).faulted) (sym c.mount) ∙ stood.went.faults ∙ ap (λ n. faulted_entries sizes (pass_of begun.view).faulted + n) fault in
       let before = idle_passes_have_drawn sizes (pass_of begun.view) c.idle.control in
-      let placed = placed_on sizes call c.plain place begun now c.told in
+      let placed = placed_on sizes c.asked call c.makes place begun now c.told in
       let open_is = ap (λ (one : FileCall). open_entries sizes one (pass_of now.view).control) makes in
       record { same = c.mount; makes = makes; faults = faults; all = omega (arith, faults, before, placed, open_is) }
 

@@ -6,7 +6,7 @@ use Rattle.nv_plain.specs.declared.call.FileCall.{FileCall}
 use Rattle.nv_plain.specs.declared.call.FileCall.TheVariants.{Sync}
 use Rattle.nv_plain.specs.declared.call.Reply.TheVariants.{Done as Replied}
 use Rattle.nv_core.specs.invariant.Ownership.{is_among}
-use Rattle.nv_core.specs.state.Passes.{first_page, end_page, page_count, is_write}
+use Rattle.nv_core.specs.state.Passes.{first_page, end_page, page_count, is_write, plain_call}
 use Rattle.nv_core.specs.state.Words.{Sizes, Word, STOP, ORDER, HEAD, TAIL, PAGE, place}
 use Rattle.nv_core.specs.steps.Ops.{Op, Load, Take, Place, Stop, Draw}
 use Rattle.nv_core.specs.steps.Order.{Work}
@@ -98,16 +98,16 @@ done_where_all_find sizes call steps (Err refusal) is find = let never : None �
 
 -- a call of a file that is over by such steps, and one that is refused by what it asks for
 made_complete : (asks : (file : ℕ) → FileCall) (early : Option Refusal) (file : Option ℕ) (one : ℕ) (start now : PassState) (result : Result Done Refusal) → file ≡ Some one → (steps : List PassStep) → HasMade steps start now
-    → refusal_in start.view.opened.sizes (asks one) steps ≡ refusal_in_answer result → IsComplete asks early file start now result
+    → refusal_in start.view.opened.sizes (plain_call (asks one)) steps ≡ refusal_in_answer result → IsComplete asks early file start now result
 made_complete asks early file one start now result at steps made refused = record {
   steps = steps;
   made = made;
   done = λ none other at_other find.
       let same : other ≡ one = some_same other one (sym at_other ∙ at) in
-      done_where_all_find start.view.opened.sizes (asks one) steps result refused (subst (λ f. AllFind start.view.opened.sizes (asks f) steps) same find);
+      done_where_all_find start.view.opened.sizes (plain_call (asks one)) steps result refused (subst (λ f. AllFind start.view.opened.sizes (plain_call (asks f)) steps) same find);
   needed = λ answer is other at_other sound.
       let same : one ≡ other = some_same one other (sym at ∙ at_other) in
-      subst (λ f. AllFind start.view.opened.sizes (asks f) steps) same (all_found start.view.opened.sizes (asks one) steps (refused ∙ ap refusal_in_answer is) sound);
+      subst (λ f. AllFind start.view.opened.sizes (plain_call (asks f)) steps) same (all_found start.view.opened.sizes (plain_call (asks one)) steps (refused ∙ ap refusal_in_answer is) sound);
 }
   where
     some_same : (one other : ℕ) → Some one ≡ Some other → one ≡ other

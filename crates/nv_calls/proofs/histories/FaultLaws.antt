@@ -29,7 +29,7 @@ use Rattle.nv_mirror.specs.declared.answers.Done.{Done}
 use Rattle.nv_mirror.specs.declared.answers.Refusal.{Refusal}
 use Rattle.nv_mirror.specs.declared.answers.Refusal.TheVariants.{BadFd, Busy, Raced, Stopped, Spent}
 use Rattle.nv_mirror.specs.Answers.{refusal_in_answer}
-use Rattle.nv_mirror.specs.OwnSteps.{AreOwn, gives_back, is_own}
+use Rattle.nv_mirror.specs.OwnSteps.{AreOwnAs, gives_back, is_own}
 use Rattle.nv_mirror.specs.PassSteps.{PassStep, HasMade, HasTaken, is_fault, is_stop, refusal_in, stops_in}
 use Rattle.nv_mirror.proofs.StopLaws.{own_plain, sets_stop}
 use Rattle.nv_calls.specs.calls.EarlyRefusals.{early_refusal}
@@ -108,7 +108,7 @@ bytes_at sizes pass (SetStopAfterPiece page number) facts fails = inl facts.0.0
 bytes_at sizes pass SetStopAfterCommit facts fails = inr facts.write
 bytes_at sizes pass control facts fails = absurd fails
 
-module _ (sizes : Sizes) (call : FileCall) (is_plain : plain_call call ≡ call) (sound : RunsAreSound) (tell : OwnEventsTell) (start : PassState) (mount : IsMount (mount_of start.view.opened)) where
+module _ (sizes : Sizes) (asked call : FileCall) (is_made : plain_call asked ≡ call) (sound : RunsAreSound) (tell : OwnEventsTell) (start : PassState) (mount : IsMount (mount_of start.view.opened)) where
   -- a step that sets STOP, where the call at hand is this one
   module _ (step : PassStep) (middle now : PassState) (opened : middle.view.opened ≡ start.view.opened) (taken : HasTaken step middle now) (refusal : Option Refusal) (own : is_own call refusal step.op ≡ true) where
     abbrev there : Pass
@@ -144,8 +144,8 @@ module _ (sizes : Sizes) (call : FileCall) (is_plain : plain_call call ≡ call)
     call_then : there.call ≡ call → (pass_of now.view).call ≡ call
     call_then same = ap (λ (p : Pass). p.call) taken.stepped.pass ∙ same
 
-    begins_call : step.opens ≡ Some call → there.call ≡ call
-    begins_call opens = ap (λ o. (with_call here_sizes o (pass_worked here_sizes taken.stepped.works (pass_of taken.before.view))).call) opens ∙ is_plain
+    begins_call : step.opens ≡ Some asked → there.call ≡ call
+    begins_call opens = ap (λ o. (with_call here_sizes o (pass_worked here_sizes taken.stepped.works (pass_of taken.before.view))).call) opens ∙ is_made
 
     goes_on_call : step.opens ≡ None → (pass_of middle.view).call ≡ call → there.call ≡ call
     goes_on_call opens before =
@@ -169,7 +169,7 @@ module _ (sizes : Sizes) (call : FileCall) (is_plain : plain_call call ≡ call)
     at_hand : (pass_of now.view).call ≡ call
     faulted : FaultedBy stops call start now
 
-  stands : (steps : List PassStep) (now : PassState) → start.view.opened.sizes ≡ sizes → HasMade steps start now → AreOwn sizes call steps → Stands (stops_in steps) now
+  stands : (steps : List PassStep) (now : PassState) → start.view.opened.sizes ≡ sizes → HasMade steps start now → AreOwnAs sizes asked call steps → Stands (stops_in steps) now
   stands [] now same made own = absurd own
   stands (step ∷ []) now same made own =
       let opened = ap (λ (p : PassState). p.view.opened) made.1 in
@@ -183,7 +183,7 @@ module _ (sizes : Sizes) (call : FileCall) (is_plain : plain_call call ≡ call)
       let opened = made_opened (other ∷ earlier) start made.0 made.1 in
       let refusal = refusal_in sizes call (other ∷ earlier) in
       let here = goes_on_call step made.0 now opened made.2 refusal own.1 own.0 was.at_hand in
-      let sets = sets_stop sizes call sound tell start mount (other ∷ earlier) made.0 made.1 own.2 in
+      let sets = sets_stop sizes call sound tell start mount asked (other ∷ earlier) made.0 made.1 own.2 in
       record {
         at_hand = call_then step made.0 now opened made.2 refusal own.1 here;
         faulted = step_on step made.0 now opened made.2 refusal own.1 (stops_in (other ∷ earlier)) here
@@ -211,7 +211,7 @@ module _ (sound : RunsAreSound) (tell : OwnEventsTell) where
   abbrev Ended : (early : Option Refusal) → (file : Option ℕ) → (asks : ℕ → FileCall) → (start now : PassState) → Result Done Refusal → Type 0
   Ended early file asks start now result =
       ((is_fault (refusal_in_answer result) ≡ false) × (now ≡ start))
-      ⊎ ((early ≡ None) × (one : ℕ) × (file ≡ Some one) × FaultedBy (is_fault (refusal_in_answer result)) (asks one) start now)
+      ⊎ ((early ≡ None) × (one : ℕ) × (file ≡ Some one) × FaultedBy (is_fault (refusal_in_answer result)) (plain_call (asks one)) start now)
 
   ended_by : (early : Option Refusal) (file : Option ℕ) (asks : ℕ → FileCall) (start now : PassState) (result : Result Done Refusal) → refusal_tells early ≡ false → IsMount (mount_of start.view.opened)
       → IsCallOver early file asks start now result → Ended early file asks start now result
@@ -220,9 +220,10 @@ module _ (sound : RunsAreSound) (tell : OwnEventsTell) where
   ended_by None file asks start now result silent mount over =
       let ended = over.2 in
       let sizes = start.view.opened.sizes in
-      let call = asks over.0 in
-      let sets = sets_stop sizes call sound tell start mount ended.steps now ended.made ended.own ∙ ap is_fault ended.refused in
-      inr (refl, over.0, over.1, subst (λ b. FaultedBy b call start now) sets (stands sizes call ended.plain sound tell start mount ended.steps now refl ended.made ended.own).faulted)
+      let asked = asks over.0 in
+      let call = plain_call asked in
+      let sets = sets_stop sizes call sound tell start mount asked ended.steps now ended.made ended.own ∙ ap is_fault ended.refused in
+      inr (refl, over.0, over.1, subst (λ b. FaultedBy b call start now) sets (stands sizes asked call refl sound tell start mount ended.steps now refl ended.made ended.own).faulted)
 
   ended_opened : (early : Option Refusal) (file : Option ℕ) (asks : ℕ → FileCall) (start now : PassState) (result : Result Done Refusal) → IsCallOver early file asks start now result → now.view.opened ≡ start.view.opened
   ended_opened (Some refusal) file asks start now result over = ap (λ (p : PassState). p.view.opened) over.1

@@ -1,11 +1,11 @@
 -- Going on: what a pass knows at the start of a call it knows at each step of it.
-use Rattle.std.proofs.Common.{◌≡◌, ℕ, ◌+◌, ◌≤◌, Bool, true, false, List, [], ◌∷◌, length, refl, sym, ap, subst, ◌∙◌, arith}
+use Rattle.std.proofs.Common.{◌≡◌, ℕ, ◌≤◌, true, List, [], ◌∷◌, length, refl, sym, ap, subst, ◌∙◌, arith}
 use Rattle.std.specs.Prelude.{Option, Some, None, Result, Ok, Err, IfOk}
 use Rattle.nv_plain.specs.declared.call.FileCall.{FileCall}
 use Rattle.nv_plain.specs.declared.call.FileCall.TheVariants.{Sync}
 use Rattle.nv_plain.specs.declared.call.Reply.TheVariants.{Done as Replied}
 use Rattle.nv_core.specs.invariant.InvariantLaws.{RunsAreSound}
-use Rattle.nv_core.specs.state.Passes.{Pass}
+use Rattle.nv_core.specs.state.Passes.{Pass, plain_call}
 use Rattle.nv_core.specs.state.Words.{STOP, ORDER}
 use Rattle.nv_core.specs.steps.Frames.{Covers, OwnEventsTell}
 use Rattle.nv_core.specs.steps.Opening.{IsMount}
@@ -21,13 +21,11 @@ use Rattle.nv_mount.specs.declared.fds.Fd.{Fd}
 use Rattle.nv_mirror.specs.declared.answers.Done.{Done}
 use Rattle.nv_mirror.specs.declared.answers.Refusal.{Refusal}
 use Rattle.nv_mirror.specs.declared.answers.Refusal.TheVariants.{BadFd, Stopped, Spent}
-use Rattle.nv_mirror.specs.Answers.{place_in_answer, refusal_in_answer}
-use Rattle.nv_mirror.specs.OwnSteps.{AreOwn}
-use Rattle.nv_mirror.specs.PassSteps.{PassStep, HasMade, HasTaken, either_of, place_by, place_in, refusal_in}
+use Rattle.nv_mirror.specs.Answers.{place_in_answer}
+use Rattle.nv_mirror.specs.PassSteps.{PassStep, HasMade, either_of, place_by, place_in}
 use Rattle.nv_calls.specs.calls.EndedCalls.{IsCallOver}
 use Rattle.nv_calls.specs.fsync.SyncRuns.{IsSyncRun, file_of_fd}
 use Rattle.nv_calls.specs.histories.GoingOn.{GoesOn, SyncGoesOn, SyncsGoOn}
-use Rattle.nv_calls.specs.histories.Heeds.{loads_stop}
 use Rattle.nv_calls.proofs.histories.HeedsLaws.{FindsStop, comes_to_stop, stopped_is}
 
 -- ---- what is known through some steps
@@ -109,7 +107,7 @@ module _ (sound : RunsAreSound) (tell : OwnEventsTell) (start : PassState) (moun
   by_goes None file asks now result over = record {
     steps = over.2.steps;
     made = over.2.made;
-    heeds = λ set loads. stopped_is result (sym over.2.refused ∙ comes_to_stop start.view.opened.sizes (asks over.0) start (stop_known set) over.2.steps now over.2.made over.2.own loads);
+    heeds = λ set loads. stopped_is result (sym over.2.refused ∙ comes_to_stop start.view.opened.sizes (plain_call (asks over.0)) start (stop_known set) (asks over.0) over.2.steps now over.2.made over.2.own loads);
     behind = ok_behind over.2.steps now result over.2.made over.2.placed;
     keeps = (knows_made over.2.steps now over.2.made).covers;
   }

@@ -10,7 +10,7 @@ use Rattle.nv_plain.specs.declared.call.Reply.TheVariants.{Done as Replied}
 use Rattle.nv_mount.specs.declared.fds.Fd.{Fd}
 use Rattle.nv_plain.specs.declared.call.FileCall.{FileCall}
 use Rattle.nv_core.specs.state.Words.{Sizes, STOP, ORDER, HEAD, TAIL, PAGE, place}
-use Rattle.nv_core.specs.state.Passes.{Pass, first_page, end_page}
+use Rattle.nv_core.specs.state.Passes.{Pass, first_page, end_page, plain_call}
 use Rattle.nv_core.specs.steps.Ops.{Op, Load, Take, Place, Stop, Draw, ByCleaner}
 use Rattle.nv_core.specs.state.Cleaner as cleaner
 use Rattle.nv_core.specs.invariant.Ownership.{is_among}
@@ -34,7 +34,7 @@ use Rattle.nv_mirror.specs.declared.answers.Refusal.TheVariants.{BadFd, TooFar, 
 use Rattle.nv_calls.specs.calls.EarlyRefusals.{early_range_refusal, early_fd_refusal, early_refusal}
 use Rattle.nv_calls.specs.fsync.SyncRuns.{file_of_fd, IsSyncRun}
 use Rattle.nv_calls.specs.histories.Heeds.{HasSeenStop, HeedsStop, is_stop_load, loads_stop, tells_stop, SyncsHeedStop}
-use Rattle.nv_mirror.specs.OwnSteps.{is_own, gives_back, AreOwn}
+use Rattle.nv_mirror.specs.OwnSteps.{is_own, gives_back, AreOwnAs}
 use Rattle.nv_mirror.specs.Answers.{refusal_in_answer}
 use Rattle.nv_calls.specs.calls.EndedCalls.{IsCallOver}
 use Rattle.nv_mirror.proofs.StopLaws.{IsFault, faults_are, sets_stop}
@@ -141,10 +141,10 @@ module _ (sizes : Sizes) (call : FileCall) (start : PassState) (set : FindsStop 
   own_open (Some refusal) op load own = let never : gives_back call refusal (Load STOP) ≡ true = sym (ap (gives_back call refusal) load) ∙ own in absurd (cc)
 
   -- a call that comes to its load of STOP is refused by it
-  pub comes_to_stop : (steps : List PassStep) (now : PassState) → HasMade steps start now → AreOwn sizes call steps → loads_stop steps ≡ true → refusal_in sizes call steps ≡ Some Stopped
-  comes_to_stop [] now made own loads = absurd own
-  comes_to_stop (step ∷ []) now made own loads = last_refuses step [] now made loads
-  comes_to_stop (step ∷ (other ∷ earlier)) now made own loads = by (loads_stop (other ∷ earlier)) refl (comes_to_stop (other ∷ earlier) made.0 made.1 own.2)
+  pub comes_to_stop : (asked : FileCall) (steps : List PassStep) (now : PassState) → HasMade steps start now → AreOwnAs sizes asked call steps → loads_stop steps ≡ true → refusal_in sizes call steps ≡ Some Stopped
+  comes_to_stop asked [] now made own loads = absurd own
+  comes_to_stop asked (step ∷ []) now made own loads = last_refuses step [] now made loads
+  comes_to_stop asked (step ∷ (other ∷ earlier)) now made own loads = by (loads_stop (other ∷ earlier)) refl (comes_to_stop asked (other ∷ earlier) made.0 made.1 own.2)
     where
       by : (b : Bool) → loads_stop (other ∷ earlier) ≡ b → (loads_stop (other ∷ earlier) ≡ true → refusal_in sizes call (other ∷ earlier) ≡ Some Stopped) → refusal_in sizes call (step ∷ (other ∷ earlier)) ≡ Some Stopped
       by true before then_ = ap (λ r. either_of r (refused_by sizes call (head_in (other ∷ earlier)) step.works step.op step.found)) (then_ before)
@@ -299,14 +299,14 @@ refused_heeds refusal start now result silent is same = record {
   sets = sym (ap (λ r. is_fault (refusal_in_answer r)) is ∙ untold_mild (Some refusal) silent);
 }
 
-made_heeds : RunsAreSound → (call : FileCall) (steps : List PassStep) (start now : PassState) (result : Result Done Refusal) → IsMount (mount_of start.view.opened) → HasMade steps start now → AreOwn start.view.opened.sizes call steps
+made_heeds : RunsAreSound → (asked call : FileCall) (steps : List PassStep) (start now : PassState) (result : Result Done Refusal) → IsMount (mount_of start.view.opened) → HasMade steps start now → AreOwnAs start.view.opened.sizes asked call steps
     → refusal_in start.view.opened.sizes call steps ≡ refusal_in_answer result → stops_in steps ≡ is_fault (refusal_in_answer result) → HeedsStop start now result
-made_heeds sound call steps start now result mount made own refused set = record {
+made_heeds sound asked call steps start now result mount made own refused set = record {
   steps = steps;
   made = made;
   stays = made_stays steps start now made;
   told = answer_seen start.view.opened.sizes call steps start now result made refused;
-  heeds = λ seen loads. stopped_is result (sym refused ∙ comes_to_stop start.view.opened.sizes call start (seen_finds sound start mount seen) steps now made own loads);
+  heeds = λ seen loads. stopped_is result (sym refused ∙ comes_to_stop start.view.opened.sizes call start (seen_finds sound start mount seen) asked steps now made own loads);
   looked = λ stopped. looked_at_stop start.view.opened.sizes call steps (refused ∙ ap refusal_in_answer stopped);
   sets = set;
 }
@@ -316,8 +316,8 @@ by_heeds : RunsAreSound → OwnEventsTell → (early : Option Refusal) (file : O
 by_heeds sound tell (Some refusal) file asks start now result silent mount over = refused_heeds refusal start now result silent over.0 over.1
 by_heeds sound tell None file asks start now result silent mount over =
     let ended = over.2 in
-    let sets = sets_stop start.view.opened.sizes (asks over.0) sound tell start mount ended.steps now ended.made ended.own in
-    made_heeds sound (asks over.0) ended.steps start now result mount ended.made ended.own ended.refused (sets ∙ ap is_fault ended.refused)
+    let sets = sets_stop start.view.opened.sizes (plain_call (asks over.0)) sound tell start mount (asks over.0) ended.steps now ended.made ended.own in
+    made_heeds sound (asks over.0) (plain_call (asks over.0)) ended.steps start now result mount ended.made ended.own ended.refused (sets ∙ ap is_fault ended.refused)
 
 pub over_heeds : RunsAreSound → OwnEventsTell → (may : Mode → Bool) (fds : List Fd) (fd at len : ℕ) (asks : ℕ → FileCall) (start now : PassState) (result : Result Done Refusal) → IsMount (mount_of start.view.opened)
     → IsCallOver (early_refusal may start.view.opened.sizes fds fd at len) (file_of_fd fds fd) asks start now result → HeedsStop start now result

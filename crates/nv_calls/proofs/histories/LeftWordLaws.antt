@@ -1,14 +1,13 @@
 -- Left words: which words the steps of a refused call change.
-use Rattle.std.proofs.Common.{◌≡◌, ◌≢◌, ℕ, ◌+◌, ◌==◌, not, ◌&&◌, nat_le, Bool, true, false, if◌then◌else◌, List, ◌++◌, refl, sym, ap, subst, ◌∙◌, eqb-true, append-nil}
+use Rattle.std.proofs.Common.{◌≡◌, ℕ, ◌+◌, ◌==◌, not, ◌&&◌, nat_le, Bool, true, false, if◌then◌else◌, List, ◌++◌, refl, sym, ap, subst, ◌∙◌, eqb-true, append-nil}
 use Rattle.std.proofs.lemmas.Bool.{and_parts}
 use Rattle.nv_plain.specs.Histories.{Answered}
 use Rattle.nv_core.specs.invariant.Loaded.{LooksSound}
 use Rattle.nv_core.specs.invariant.LogWindow.{entry_word_at}
 use Rattle.nv_core.specs.invariant.Sound.{Sound}
 use Rattle.nv_core.specs.state.Core.{Core, after_step, with_value}
-use Rattle.nv_core.specs.state.Passes.{HoldEntry, ReturnEntry, Pass, page_count}
+use Rattle.nv_core.specs.state.Passes.{Pass, page_count}
 use Rattle.nv_core.specs.state.Words.{Sizes, Word, HEAD, HAND, ENTRY, HINT, cleaned, family, held, is_entry_of, is_lock, kind_of, page_of, ready, slot_of_entry, was_readied}
-use Rattle.nv_core.specs.steps.Events.{FoundEnabled}
 use Rattle.nv_core.specs.steps.Ops.{Op, Load, Take, Give, Draw, Hold, Return, Turn, Hint, value_after}
 use Rattle.nv_core.specs.steps.Order.{Values}
 use Rattle.nv_core.specs.steps.PassSteps.{added}
@@ -16,7 +15,7 @@ use Rattle.nv_core.proofs.state.Changes.{word_else}
 use Rattle.nv_core.proofs.steps.ByKind.{FoundEnabledByKind, find_kind}
 use Rattle.nv_core.proofs.steps.WordLaws.{same_value, touches, untouched}
 use Rattle.nv_mirror.specs.OwnSteps.{is_passing}
-use Rattle.nv_calls.specs.histories.LeftWords.{LeavesAllButLocks, LeavesWhatStays, LockingStepsLeaveTheRest, PassingStepsLeaveWhatStays, is_fleeting}
+use Rattle.nv_calls.specs.histories.LeftWords.{LockingStepsLeaveTheRest, PassingStepsLeaveWhatStays, is_fleeting}
 use Rattle.nv_calls.specs.histories.Unmoved.{is_locking}
 
 -- ---- a word that isn't fleeting

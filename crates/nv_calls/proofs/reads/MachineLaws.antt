@@ -17,7 +17,7 @@ use Rattle.nv_mirror.specs.PassSteps.{either_of, fault_in, place_by}
 use Rattle.nv_cache.specs.declared.read.RunningRead.{RunningRead}
 use Rattle.nv_cache.specs.declared.read.RunningRead.TheVariants.{Pageless, Front, Search, Load, TakePlace, Release, Over}
 use Rattle.nv_cache.specs.ReadSteps.{HasMadeOne, answer_at, answer_of, read_answer, read_place}
-use Rattle.nv_cache.specs.RunningReads.{IsOpen, IsSettled, IsUnderWay}
+use Rattle.nv_cache.specs.RunningReads.{IsOpen, IsSettled, IsUnderWay, asked_in}
 use Rattle.nv_mirror.specs.Pageless.{pageless_place_at}
 use Rattle.nv_calls.specs.calls.Advances.{IsOneStep}
 use Rattle.nv_calls.specs.calls.CallAnswers.{done_of}
@@ -83,21 +83,23 @@ module _ (sound : RunsAreSound) (tell : OwnEventsTell) (fds : List Fd) (m : Read
   goes_on (Over result) runs of = (
     done_so result,
     refl,
-    over_by sound tell fds m.fd m.at list (take now.view.opened.sizes.page room) start now result (subst (λ (o : Opened). IsMount (mount_of o)) of.way.stands.0.mount mount) of.file
+    over_by sound tell fds m.fd m.at list (take now.view.opened.sizes.page room) start now result (subst (λ (o : Opened). IsMount (mount_of o)) of.way.stands.0.2.mount mount) of.file
         (ap (early_refusal can_read start.view.opened.sizes fds m.fd m.at) (size_so (Over result) of) ∙ of.early) of.file_is
-        (subst (λ n. IsUnderWay (Read of.file m.at n) (Over result) list (take now.view.opened.sizes.page room) start now) (sym (size_so (Over result) of)) of.way),
+        (subst (λ n. IsUnderWay (Read of.file m.at n) (Over result) list (take now.view.opened.sizes.page room) start now) (sym (size_so (Over result) of)) of.way)
+        (of.asks ∙ ap (Read of.file m.at) (sym (size_so (Over result) of))),
   )
 
 -- from an advance on, by which its read came to this, with what it has of a page in front of the room
 pub goes_after : RunsAreSound → OwnEventsTell → (fds : List Fd) (m : ReadMachine) (list front rest : List ℕ) (read after : RunningRead) (start old now : PassState) (progress : Progress) → IsMount (mount_of now.view.opened)
     → length front ≡ now.view.opened.sizes.page → progress ≡ progress_of after → IsSettled after → (of : (before : List ℕ) × IsOfFile fds m before read start old) → IsUnderWay (Read of.1.file m.at m.len) after list front start now
-    → ReadGoes fds start (moved m after (front ++ rest)) list now progress
-goes_after sound tell fds m list front rest read after start old now progress mount size is settled of way =
+    → asked_in (Read of.1.file m.at m.len) after now ≡ asked_in (Read of.1.file m.at m.len) read old → ReadGoes fds start (moved m after (front ++ rest)) list now progress
+goes_after sound tell fds m list front rest read after start old now progress mount size is settled of way asks =
     subst (ReadGoes fds start (moved m after (front ++ rest)) list now) (sym is)
     (goes_on sound tell fds m list (front ++ rest) start now mount after settled
     record {
       early = of.1.early;
       file = of.1.file;
       file_is = of.1.file_is;
+      asks = asks ∙ of.1.asks;
       way = subst (λ room. IsUnderWay (Read of.1.file m.at m.len) after list room start now) (sym (ap (λ n. take n (front ++ rest)) (sym size) ∙ take-append_seam front rest)) way;
     })

@@ -7,6 +7,7 @@ use Rattle.nv_core.specs.invariant.InvariantLaws.{RunsAreSound}
 use Rattle.nv_core.specs.steps.Frames.{OwnEventsTell}
 use Rattle.nv_core.specs.steps.Opening.{IsMount}
 use Rattle.nv_table.specs.invariant.Idle.{IsIdle, IsLater}
+use Rattle.nv_table.specs.state.Views.{pass_of}
 use Rattle.nv_table.specs.state.Opened.{Opened, mount_of}
 use Rattle.nv_table.specs.state.States.{PassState}
 use Rattle.nv_table.proofs.steps.CallLaws.{later_self}
@@ -33,19 +34,24 @@ use Rattle.nv_calls.specs.reads.Reads.{IsReadDone, IsReadOver}
 -- ---- a read that is over
 
 done_of_file : RunsAreSound → OwnEventsTell → (file at : ℕ) (list : List ℕ) (start now : PassState) (result : Result Done Refusal) → IsMount (mount_of start.view.opened)
-    → IsOver (Read file at (length list)) (refusal_in_answer result) (place_in_answer result) start now → HasTold file at list start.view now.view result → IsReadDone file at list start now result
+    → IsOver (Read file at (length list)) (refusal_in_answer result) (place_in_answer result) start now → HasTold (Read file at (length list)) list start.view now.view result → IsReadDone file at list start now result
 done_of_file sound tell file at list start now result mount over told =
     let sizes = start.view.opened.sizes in
-    let stopped = sets_stop sizes (Read file at (length list)) sound tell start mount over.steps now over.made over.own ∙ ap is_fault over.refused in
-    record { over = over; stopped = stopped; alone = λ unplaced mild. own_are_passing file at (length list) sizes over.steps over.own (over.placed ∙ unplaced) (stopped ∙ mild); told = told }
+    let stopped = sets_stop sizes (Read file at (length list)) sound tell start mount (Read file at (length list)) over.steps now over.made over.own ∙ ap is_fault over.refused in
+    record { over = over; stopped = stopped; alone = λ unplaced mild. own_are_passing file at (length list) sizes (Read file at (length list)) over.steps over.own (over.placed ∙ unplaced) (stopped ∙ mild); told = told }
 
 -- one that its descriptor's file was asked for
 pub over_by : RunsAreSound → OwnEventsTell → (fds : List Fd) (fd at : ℕ) (list room : List ℕ) (start now : PassState) (result : Result Done Refusal) → IsMount (mount_of start.view.opened) → (file : ℕ)
     → early_refusal can_read start.view.opened.sizes fds fd at (length list) ≡ None → file_of_fd fds fd ≡ Some file → IsUnderWay (Read file at (length list)) (Over result) list room start now
-    → IsReadOver fds fd at list start now result
-over_by sound tell fds fd at list room start now result mount file early known way =
-    subst (λ by. IsOverBy by (file_of_fd fds fd) (λ one. IsReadDone one at list start now result) start now result) (sym early)
-    (file, known, done_of_file sound tell file at list start now result mount way.stands.0 way.stands.1)
+    → (pass_of now.view).asked ≡ Read file at (length list) → IsReadOver fds fd at list start now result
+over_by sound tell fds fd at list room start now result mount file early known way asks =
+    subst (λ by. IsOverBy by (file_of_fd fds fd) (λ one. IsReadDone one at list start now result) start now result) (sym early) (
+      file,
+      known,
+      done_of_file sound tell file at list start now result mount
+          (subst (λ asked. IsOver asked (refusal_in_answer result) (place_in_answer result) start now) (sym way.stands.0.2.asks ∙ asks) way.stands.0.2)
+          (subst (λ asked. HasTold asked list start.view now.view result) asks way.stands.1),
+    )
 
 -- as any call
 steps_by : (by : Option Refusal) (file : Option ℕ) (at : ℕ) (list : List ℕ) (start now : PassState) (result : Result Done Refusal) → IsOverBy by file (λ one. IsReadDone one at list start now result) start now result
@@ -59,12 +65,12 @@ call_over fds fd at list start now result over = steps_by (early_refusal can_rea
 
 -- ---- what is told of each read
 
-told_done : (fds : List Fd) (fd file at : ℕ) (list : List ℕ) (start now : PassState) (result : Result Done Refusal) → file_of_fd fds fd ≡ Some file → HasTold file at list start.view now.view result
+told_done : (fds : List Fd) (fd file at : ℕ) (list : List ℕ) (start now : PassState) (result : Result Done Refusal) → file_of_fd fds fd ≡ Some file → HasTold (Read file at (length list)) list start.view now.view result
     → IfOk result (λ done. (file : ℕ) × (file_of_fd fds fd ≡ Some file) × IsReadPlaced file at list start.view now.view done)
 told_done fds fd file at list start now (Ok done) is told = (file, is, told)
 told_done fds fd file at list start now (Err refusal) is told = tt
 
-told_kept : (file at : ℕ) (list : List ℕ) (start now : PassState) (result : Result Done Refusal) → HasTold file at list start.view now.view result → OnErr result (IsUnplaced start.view now.view)
+told_kept : (file at : ℕ) (list : List ℕ) (start now : PassState) (result : Result Done Refusal) → HasTold (Read file at (length list)) list start.view now.view result → OnErr result (IsUnplaced start.view now.view)
 told_kept file at list start now (Ok done) told = tt
 told_kept file at list start now (Err refusal) told = told
 

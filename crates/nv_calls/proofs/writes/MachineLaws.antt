@@ -27,7 +27,9 @@ use Rattle.nv_mirror.specs.declared.release.ReleaseControl.TheVariants as releas
 use Rattle.nv_ring.specs.declared.write.RunningWrite.{RunningWrite}
 use Rattle.nv_ring.specs.declared.write.RunningWrite.TheVariants.{Pageless, Front, Draw, Append, Release, Over}
 use Rattle.nv_ring.specs.RunningWrites.{IsOpen, IsSettled, IsUnderWay, write_measure}
+use Rattle.nv_ring.proofs.AskedLaws.{asked_with_list}
 use Rattle.nv_ring.proofs.ListLaws.{list_way}
+use Rattle.nv_calls.proofs.calls.OverLaws.{over_asked}
 use Rattle.nv_mirror.specs.PassSteps.{either_of, fault_in, place_by}
 use Rattle.nv_ring.specs.WriteSteps.{HasMadeOne, with_list, write_fault, write_kind, write_place}
 use Rattle.nv_calls.specs.calls.Advances.{IsFewer, IsOneStep}
@@ -136,6 +138,7 @@ module _ (fds : List Fd) (m : WriteMachine) (list other : Bor (List ℕ)) (room 
         early = of.early;
         file = of.file;
         file_is = of.file_is;
+        asks = asked_with_list (Write of.file m.at list.now) list (with_list other write) now ∙ asked_with_list (Write of.file m.at list.now) other write now ∙ of.asks;
         way = subst (λ w. IsUnderWay (Write of.file m.at list.now) w start now) (sym (list_twice list other write)) (list_way list of.file m.at start now write of.way);
       },
     );
@@ -154,12 +157,12 @@ module _ (fds : List Fd) (m : WriteMachine) (list other : Bor (List ℕ)) (room 
   goes_on (Over (Ok place)) runs of = (
     refl,
     refl,
-    subst (λ by. IsCallOver by (file_of_fd fds m.fd) (λ file. Write file m.at list.now) start now (Ok record { place = place; len = m.len })) (sym (early_here (Over (Ok place)) of)) (of.file, of.file_is, of.way),
+    subst (λ by. IsCallOver by (file_of_fd fds m.fd) (λ file. Write file m.at list.now) start now (Ok record { place = place; len = m.len })) (sym (early_here (Over (Ok place)) of)) (of.file, of.file_is, over_asked _ _ _ start now (Write of.file m.at list.now) of.way of.asks),
   )
   goes_on (Over (Err refusal)) runs of = (
     refl,
     refl,
-    subst (λ by. IsCallOver by (file_of_fd fds m.fd) (λ file. Write file m.at list.now) start now (Err refusal)) (sym (early_here (Over (Err refusal)) of)) (of.file, of.file_is, of.way),
+    subst (λ by. IsCallOver by (file_of_fd fds m.fd) (λ file. Write file m.at list.now) start now (Err refusal)) (sym (early_here (Over (Err refusal)) of)) (of.file, of.file_is, over_asked _ _ _ start now (Write of.file m.at list.now) of.way of.asks),
   )
 
 -- by fewer steps
@@ -198,5 +201,11 @@ module _ (sizes : Sizes) (fds : List Fd) (m : WriteMachine) (list : Bor (List �
     fault = (list_same list write).fault ∙ ap fault_at (sym is);
     fewer = let same = (list_same list write).measure ∙ ap (measure_at sizes m) (sym is) in omega (arith, same);
     way = λ start now same way. let stands = subst (StandsAt fds m list.now start now) is way.stands in let of = stands.2 in
-        record { early = of.early; file = of.file; file_is = of.file_is; way = lent_on list stands.1 of.file m.at start now write of.way };
+        record {
+          early = of.early;
+          file = of.file;
+          file_is = of.file_is;
+          asks = asked_with_list (Write of.file m.at list.now) list write now ∙ sym (asked_with_list (Write of.file m.at list.now) stands.1 write now) ∙ of.asks;
+          way = lent_on list stands.1 of.file m.at start now write of.way;
+        };
   }

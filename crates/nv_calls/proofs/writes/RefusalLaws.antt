@@ -1,6 +1,5 @@
 -- Refusals of writes: what the step that refuses one has found.
-use Rattle.std.proofs.Common.{◌≡◌, ◌≢◌, ◌⊎◌, inl, inr, ℕ, ◌+◌, ◌*◌, ◌^◌, ◌<◌, ◌≤◌, ◌==◌, nat_lt, Bool, true, false, if◌then◌else◌, List, [], ◌∷◌, length, refl, sym, ap, subst, ◌∙◌, arith, eq-eqb}
-use Rattle.std.proofs.lemmas.Bool.{cases_eq}
+use Rattle.std.proofs.Common.{◌≡◌, ◌≢◌, ◌⊎◌, inl, inr, ℕ, ◌+◌, ◌*◌, ◌^◌, ◌≤◌, ◌==◌, nat_lt, Bool, true, false, if◌then◌else◌, List, [], ◌∷◌, length, refl, sym, ap, subst, ◌∙◌, arith, eq-eqb}
 use Rattle.std.specs.Prelude.{Option, Some, None, Result, Ok, Err, min}
 use Rattle.std.specs.List.{slice_get}
 use Rattle.nv_plain.specs.Layouts.{mount_layout}
@@ -12,7 +11,7 @@ use Rattle.nv_core.specs.invariant.ControlFacts.{FactsAt}
 use Rattle.nv_core.specs.invariant.InvariantLaws.{RunsAreSound}
 use Rattle.nv_core.specs.invariant.Ownership.{is_among}
 use Rattle.nv_core.specs.state.Core.{control_worked, worked, values_worked}
-use Rattle.nv_core.specs.state.Passes.{Control, Pass, Idle, TakePage, LoadLength, TakeSize, LoadStop, LoadOrder, TakeCleanup, TakeStore, ReadStore, VisitPage, Searching, LoadHint, ReadLoadTail, LoadEntry, ReadPiece, WriteLoadHead, WriteLoadTail, DrawNumbers, CommitGroup, TakePlace, GiveBack, SetStopAfterRead, SetStopAfterPiece, SetStopAfterCommit, Cleaning, first_page, end_page, is_read, is_write, page_count}
+use Rattle.nv_core.specs.state.Passes.{Control, Pass, TakePage, LoadLength, TakeSize, LoadStop, LoadOrder, TakeCleanup, TakeStore, ReadStore, VisitPage, Searching, LoadHint, ReadLoadTail, LoadEntry, ReadPiece, WriteLoadHead, WriteLoadTail, DrawNumbers, CommitGroup, TakePlace, SetStopAfterRead, SetStopAfterPiece, SetStopAfterCommit, Cleaning, first_page, end_page, is_read, is_write, page_count}
 use Rattle.nv_core.specs.state.Values.{CallEnding, Made, Failed, Refused}
 use Rattle.nv_core.specs.state.Words.{Sizes, Word, STOP, ORDER, HEAD, TAIL, LENGTH, SIZE, STORE, ENTRY, HINT, PAGE, CLEANUP, DIRTY, place}
 use Rattle.nv_core.specs.steps.ControlSteps.{after_load, control_after, first_control, leaving}
@@ -26,8 +25,8 @@ use Rattle.nv_core.proofs.state.Choices.{if_both, page_tried}
 use Rattle.nv_core.proofs.steps.CleanerControls.{of_cleaner_worked}
 use Rattle.nv_table.specs.invariant.BetweenSteps.{KnowsTaken}
 use Rattle.nv_table.specs.passes.Alone.{IsAlone, KnowsHead}
-use Rattle.nv_table.specs.passes.Known.{FindsNoLess, known_by}
-use Rattle.nv_table.specs.state.Opened.{Opened, mount_of}
+use Rattle.nv_table.specs.passes.Known.{known_by}
+use Rattle.nv_table.specs.state.Opened.{mount_of}
 use Rattle.nv_table.specs.state.States.{PassState}
 use Rattle.nv_table.specs.state.Views.{PassView, pass_of}
 use Rattle.nv_table.specs.steps.SeatSteps.{AreDue, pass_before, pass_worked, with_call}
@@ -47,7 +46,7 @@ use Rattle.nv_calls.specs.calls.EarlyRefusals.{early_refusal, early_fd_refusal, 
 use Rattle.nv_calls.specs.calls.EndedCalls.{IsCallOver}
 use Rattle.nv_calls.specs.fsync.SyncRuns.{file_of_fd}
 use Rattle.nv_calls.specs.writes.Refusals.{IsWriteRefusal, MeetsNobody, WritesAloneMeetNobody, WritesTellWhatIsKnown}
-use Rattle.nv_calls.proofs.histories.GoingOnLaws.{finds_known, knows_before, knows_made}
+use Rattle.nv_calls.proofs.histories.GoingOnLaws.{finds_known, knows_before}
 use Rattle.nv_calls.proofs.histories.WriteStages as stages
 use Rattle.nv_calls.proofs.histories.WriteStages.{IsEarly, call_on, is_early, first_makes, late_or_early, later_makes, later_on, not_at, stands_so, works_early}
 

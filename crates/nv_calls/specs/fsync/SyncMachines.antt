@@ -19,6 +19,7 @@ use Rattle.nv_mirror.specs.declared.pageless.PagelessControl.TheVariants.{Over}
 use Rattle.nv_mirror.specs.declared.pageless.PagelessControl.TheVariants as controls
 use Rattle.nv_mirror.specs.declared.pageless.PagelessMachine.{PagelessMachine}
 use Rattle.nv_mirror.specs.Answers.{IsSyncPlaced, IsUnplaced}
+use Rattle.nv_mirror.specs.Controls.{asked_at}
 use Rattle.nv_mirror.specs.Pageless as pageless
 use Rattle.nv_mirror.specs.Pageless.{pageless_measure, pageless_op, pageless_place_at}
 use Rattle.nv_calls.specs.calls.Advances.{Standing}
@@ -82,6 +83,7 @@ SyncSteps file (Over result) start now = IsSyncRun (Some file) start now (answer
 -- The sync of a file has made these steps, or is over.
 pub record IsRunning (file : ℕ) (sync : PagelessMachine) (start now : PassState) : Type 0 where
   pub asked : sync.asked ≡ AsksSync file
+  pub asks : asked_at (Sync file) (pageless.has_begun sync.control) now ≡ Sync file
   pub way : pageless.IsUnderWay sync start now
   pub steps : SyncSteps file sync.control start now
 

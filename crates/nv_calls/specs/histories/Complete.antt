@@ -4,7 +4,7 @@ use Rattle.nv_plain.specs.Modes.{can_read}
 use Rattle.nv_plain.specs.declared.call.FileCall.{FileCall}
 use Rattle.nv_plain.specs.declared.call.FileCall.TheVariants.{Read, Sync}
 use Rattle.nv_core.specs.invariant.Ownership.{is_among}
-use Rattle.nv_core.specs.state.Passes.{first_page, end_page, page_count, is_write}
+use Rattle.nv_core.specs.state.Passes.{first_page, end_page, page_count, is_write, plain_call}
 use Rattle.nv_core.specs.state.Words.{Sizes, STOP, ORDER, HEAD, TAIL, PAGE}
 use Rattle.nv_core.specs.steps.Ops.{Op, Load, Take, Draw}
 use Rattle.nv_table.specs.state.States.{PassState}
@@ -42,8 +42,8 @@ NoneFailed (step ∷ earlier) = (fault_in step.works ≡ None) × NoneFailed ear
 pub record IsComplete (asks : (file : ℕ) → FileCall) (early : Option Refusal) (file : Option ℕ) (start now : PassState) (result : Result Done Refusal) : Type 0 where
   pub steps : List PassStep
   pub made : HasMade steps start now
-  pub done : early ≡ None → (one : ℕ) → file ≡ Some one → AllFind start.view.opened.sizes (asks one) steps → (answer : Done) × (result ≡ Ok answer)
-  pub needed : (answer : Done) → result ≡ Ok answer → (one : ℕ) → file ≡ Some one → NoneFailed steps → AllFind start.view.opened.sizes (asks one) steps
+  pub done : early ≡ None → (one : ℕ) → file ≡ Some one → AllFind start.view.opened.sizes (plain_call (asks one)) steps → (answer : Done) × (result ≡ Ok answer)
+  pub needed : (answer : Done) → result ≡ Ok answer → (one : ℕ) → file ≡ Some one → NoneFailed steps → AllFind start.view.opened.sizes (plain_call (asks one)) steps
 
 -- ---- reads
 

@@ -15,7 +15,7 @@ use Rattle.nv_mirror.specs.PassSteps.{device_fault}
 use Rattle.nv_cache.specs.declared.read.RunningRead.{RunningRead}
 use Rattle.nv_cache.specs.declared.read.RunningRead.TheVariants.{Over}
 use Rattle.nv_cache.specs.ReadSteps.{first_kind, read_answer, read_fault, read_kind}
-use Rattle.nv_cache.specs.RunningReads.{IsOpen, IsUnderWay, page_steps, read_measure}
+use Rattle.nv_cache.specs.RunningReads.{IsOpen, IsUnderWay, asked_in, page_steps, read_measure}
 use Rattle.nv_calls.specs.calls.Advances.{Standing}
 use Rattle.nv_calls.specs.calls.CallAnswers.{done_of}
 use Rattle.nv_calls.specs.calls.EarlyRefusals.{early_refusal}
@@ -68,6 +68,7 @@ pub record IsOfFile (fds : List Fd) (m : ReadMachine) (list : List ℕ) (read : 
   pub early : early_of start.view.opened.sizes fds m ≡ None
   pub file : ℕ
   pub file_is : file_of_fd fds m.fd ≡ Some file
+  pub asks : asked_in (Read file m.at m.len) read now ≡ Read file m.at m.len
   pub way : IsUnderWay (Read file m.at m.len) read list (take now.view.opened.sizes.page m.room) start now
 
 -- Its pass was idle at the start. It has made no step yet, or is under way.

@@ -23,7 +23,7 @@ pub record IsReadDone (file at : ℕ) (list : List ℕ) (start now : PassState) 
   pub over : IsOver (Read file at (length list)) (refusal_in_answer result) (place_in_answer result) start now
   pub stopped : stops_in over.steps ≡ is_fault (refusal_in_answer result)
   pub alone : LeftAlone over.steps result
-  pub told : HasTold file at list start.view now.view result
+  pub told : HasTold (Read file at (length list)) list start.view now.view result
 
 -- It is over: what it asks for is refused before any step, or it was a read of its descriptor's file.
 abbrev pub IsReadOver : List Fd → (fd at : ℕ) → (list : List ℕ) → (start now : PassState) → Result Done Refusal → Type 0

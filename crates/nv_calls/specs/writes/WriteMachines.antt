@@ -14,7 +14,7 @@ use Rattle.nv_mirror.specs.declared.answers.Refusal.{Refusal}
 use Rattle.nv_mirror.specs.Answers.{refusal_in_answer}
 use Rattle.nv_ring.specs.declared.write.RunningWrite.{RunningWrite}
 use Rattle.nv_ring.specs.declared.write.RunningWrite.TheVariants.{Over}
-use Rattle.nv_ring.specs.RunningWrites.{IsOpen, IsUnderWay, write_measure}
+use Rattle.nv_ring.specs.RunningWrites.{IsOpen, IsUnderWay, asked_in, write_measure}
 use Rattle.nv_ring.specs.WriteSteps.{first_kind, part_fault, with_list, write_fault, write_kind, write_place}
 use Rattle.nv_calls.specs.calls.Advances.{Standing}
 use Rattle.nv_calls.specs.calls.CallAnswers.{answer_of, done_at, done_of}
@@ -71,6 +71,7 @@ pub record IsOfFile (fds : List Fd) (m : WriteMachine) (list : List ℕ) (write 
   pub early : early_of start.view.opened.sizes fds m ≡ None
   pub file : ℕ
   pub file_is : file_of_fd fds m.fd ≡ Some file
+  pub asks : asked_in (Write file m.at list) write now ≡ Write file m.at list
   pub way : IsUnderWay (Write file m.at list) write start now
 
 -- Its pass was idle at the start. It has made no step yet, or is under way with a list of its bytes put in.

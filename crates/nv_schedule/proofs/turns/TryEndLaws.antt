@@ -6,6 +6,7 @@ use Rattle.nv_plain.specs.Modes.{can_read, can_write}
 use Rattle.nv_plain.specs.declared.call.FileCall.{FileCall}
 use Rattle.nv_plain.specs.declared.call.FileCall.TheVariants.{Read, Write, Sync}
 use Rattle.nv_plain.specs.declared.call.Reply.TheVariants.{Done as Replied}
+use Rattle.nv_core.specs.state.Passes.{plain_call}
 use Rattle.nv_core.specs.state.Words.{ORDER, STOP}
 use Rattle.nv_core.specs.steps.Opening.{IsMount}
 use Rattle.nv_core.specs.steps.Ops.{Load, Op, Place}
@@ -18,7 +19,7 @@ use Rattle.nv_mount.specs.declared.fds.Fd.{Fd}
 use Rattle.nv_op.specs.Ops.{call_asked}
 use Rattle.nv_mirror.specs.Answers.{place_in_answer, refusal_in_answer}
 use Rattle.nv_mirror.specs.Controls.{IsOver}
-use Rattle.nv_mirror.specs.OwnSteps.{AreOwn, is_own}
+use Rattle.nv_mirror.specs.OwnSteps.{AreOwn, AreOwnAs, is_own}
 use Rattle.nv_mirror.specs.PassSteps.{HasMade, HasTaken, PassStep, either_of, refusal_in}
 use Rattle.nv_mirror.specs.declared.answers.Done.{Done}
 use Rattle.nv_mirror.specs.declared.answers.Refusal.{Refusal}
@@ -79,6 +80,12 @@ ends_by : (fds : List Fd) (call : TraceCall) (start now : PassState) (result : R
 ends_by fds call start now result (Some refusal) file IsDone early by over = inl record { refusal = refusal; early = early; result_is = over.0; same = over.1 }
 ends_by fds call start now result None file IsDone early by over = inr (by over.0 over.1 early over.2)
 
+-- a traced call is made as itself
+plain_on : (call : TraceCall) (file : ℕ) → plain_call (call_on call file) ≡ call_on call file
+plain_on (Pread fd at len) file = refl
+plain_on (Pwrite fd at bytes) file = refl
+plain_on (Fsync fd) file = refl
+
 by_over : (fds : List Fd) (call : TraceCall) (file : ℕ) (start now : PassState) (refusal : Option Refusal) (place : Option ℕ) → file_of_fd fds (fd_of call) ≡ Some file → early_of_call start.view.opened.sizes fds call ≡ None
     → IsOver (call_on call file) refusal place start now → HasEndedBy fds call start now refusal
 by_over fds call file start now refusal place file_is none over = record {
@@ -88,8 +95,10 @@ by_over fds call file start now refusal place file_is none over = record {
   file_is = file_is;
   steps = over.steps;
   made = over.made;
-  own = subst (λ (o : Opened). AreOwn o.sizes (call_on call file) over.steps) (sym over.mount) over.own;
-  refused = ap (λ (o : Opened). refusal_in o.sizes (call_on call file) over.steps) over.mount ∙ over.refused;
+  own = subst (λ (o : Opened). AreOwn o.sizes (call_on call file) over.steps) (sym over.mount)
+      (subst (λ made. AreOwnAs start.view.opened.sizes (call_on call file) made over.steps) (plain_on call file) over.own);
+  refused = ap (λ (o : Opened). refusal_in o.sizes (call_on call file) over.steps) over.mount
+      ∙ ap (λ made. refusal_in start.view.opened.sizes made over.steps) (sym (plain_on call file)) ∙ over.refused;
 }
 
 read_ends : (fds : List Fd) (fd at len : ℕ) (list : List ℕ) (start now : PassState) (result : Result Done Refusal) → length list ≡ len → IsReadOver fds fd at list start now result → EndsSo fds (Pread fd at len) start now result
@@ -201,21 +210,21 @@ trying_on fds call hand start now trying = by hand trying
         at_read read_controls.Begin s = inl s.1
         at_read (read_controls.Running running) s =
             on_file fds (Pread r.machine.fd r.machine.at r.machine.len) s.1.file start now same s.1.file_is s.1.early
-            (read_way start now (Read s.1.file r.machine.at r.machine.len) r.list.items _ running s.0 s.1.way.stands)
+            (read_way start now (Read s.1.file r.machine.at r.machine.len) r.list.items _ running s.0 s.1.way.stands s.1.asks)
     by (Writing m) t = subst (λ (c : TraceCall). TriesOn fds c start now) (sym t.1) (at_write m.control t.2.stands)
       where
         at_write : (control : WriteControl) → writes.StandsAt fds m t.0 start now control → TriesOn fds (Pwrite m.fd m.at t.0) start now
         at_write write_controls.Begin s = inl s.1
         at_write (write_controls.Running running) s =
             on_file fds (Pwrite m.fd m.at t.0) s.2.file start now same s.2.file_is (ap (early_refusal can_write start.view.opened.sizes fds m.fd m.at) t.2.room ∙ s.2.early)
-            (lent_way start now (Write s.2.file m.at t.0) s.1 running s.0 s.2.way)
+            (lent_way start now (Write s.2.file m.at t.0) s.1 running s.0 s.2.way s.2.asks)
     by (Syncing m) t = subst (λ (c : TraceCall). TriesOn fds c start now) (sym t.0) (at_sync m.control t.1)
       where
         at_sync : (control : SyncControl) → syncs.StandsAt fds m.fd start now control → TriesOn fds (Fsync m.fd) start now
         at_sync sync_controls.Begin s = inl s.1
         at_sync (sync_controls.Running running) s =
             on_file fds (Fsync m.fd) s.1.file start now same s.1.file_is (ap unless_file s.1.file_is)
-            (sync_way start now (Sync s.1.file) running.asked running.control (ap call_asked s.1.running.asked) s.0 s.1.running.way.1)
+            (sync_way start now (Sync s.1.file) running.asked running.control (ap call_asked s.1.running.asked) s.0 s.1.running.way.1 s.1.running.asks)
 
 -- ---- tries before it began anew
 

@@ -1,11 +1,14 @@
 -- It goes on with its call, step by step.
-use Rattle.std.proofs.Common.{[]}
+use Rattle.std.proofs.Common.{[], ◌∙◌}
+use Rattle.std.specs.Prelude.{None}
+use Rattle.nv_mirror.proofs.AskedLaws.{asked_then}
 use Rattle.nv_cache.proofs.RunningLaws.{open_release, place_goes, release_goes, release_over}
 use Rattle.nv_cache.proofs.read_run.end.Goals as goal
 
 pub loop-release-init : goal.loop-release-init
 loop-release-init g c = record {
   board = c.take_place-release.ensures.board;
+  asks = asked_then None _ c.take_place-release.ensures.one.0 c.args.pass.now c.take_place-release.new.pass c.take_place-release.ensures.one.1;
   way = λ call list start before.
       place_goes c.args.visit c.take_place-release.result c.take_place-release.ensures.one.0 call list [] [] start c.args.pass.now c.take_place-release.new.pass c.take_place-release.ensures.one.2
       (c.take_place-release.ensures.way list start before.stands.2) (c.take_place-release.ensures.placed list start before.stands.2) before;
@@ -21,6 +24,7 @@ advance-requires g c = record {
 pub loop-release-preserved : goal.loop-release-preserved
 loop-release-preserved g c = record {
   board = c.advance.ensures.board;
+  asks = asked_then None _ c.advance.ensures.one.0 c.loop-release.pass c.advance.new.pass c.advance.ensures.one.1 ∙ c.loop-release.invariant.asks;
   way = λ call list start before.
       release_goes c.loop-release.release c.advance.new.self c.args.visit.copied c.advance.ensures.one.0 call list [] [] start c.loop-release.pass c.advance.new.pass
       (open_release c.loop-release.release.control c.in_default.not-Over) c.advance.ensures.one.1 c.advance.ensures.one.2 (c.advance.ensures.way start) (c.loop-release.invariant.way call list start before);

@@ -1,7 +1,8 @@
 -- It has its place, and gives back what it holds.
-use Rattle.std.proofs.Common.{List, ℕ, []}
+use Rattle.std.proofs.Common.{◌≡◌, List, ℕ, []}
 use Rattle.nv_plain.specs.declared.call.FileCall.{FileCall}
 use Rattle.nv_table.specs.state.States.{IsOf, PassState}
+use Rattle.nv_table.specs.state.Views.{pass_of}
 use Rattle.nv_mirror.specs.Releases.{release_measure}
 use Rattle.nv_cache.specs.declared.read.RunningRead.TheVariants.{TakePlace, Release}
 use Rattle.nv_cache.specs.RunningReads.{IsUnderWay}
@@ -10,6 +11,7 @@ use Rattle.nv_cache.proofs.read_run.end.Given as goal
 abbrev pub invariant-loop-release : goal.invariant-loop-release
 invariant-loop-release g l = record {
   board : IsOf l.board l.pass;
+  asks : (pass_of l.pass.view).asked ≡ (pass_of l.fn.pass.view).asked;
   way : (call : FileCall) (list : List ℕ) (start : PassState) → IsUnderWay call (TakePlace l.fn.visit) list [] start l.fn.pass → IsUnderWay call (Release l.release l.fn.visit.copied) list [] start l.pass;
 }
 

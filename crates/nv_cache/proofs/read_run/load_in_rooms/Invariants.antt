@@ -2,7 +2,7 @@
 use Rattle.std.proofs.Common.{◌≡◌, ◌≤◌, [], length, take, true}
 use Rattle.nv_plain.specs.declared.call.FileCall.{FileCall}
 use Rattle.nv_table.specs.state.States.{IsOf, PassState}
-use Rattle.nv_cache.specs.RunningReads.{IsSettled, IsUnderWay, needs_rooms, read_measure}
+use Rattle.nv_cache.specs.RunningReads.{IsSettled, IsUnderWay, asked_in, needs_rooms, read_measure}
 use Rattle.nv_cache.proofs.read_run.load_in_rooms.Given as goal
 
 abbrev pub invariant-loop-room : goal.invariant-loop-room
@@ -15,6 +15,7 @@ invariant-loop-room g l = record {
   short : l.page ≤ 4096;
   room : length l.room ≡ 4096;
   piece : length l.piece ≡ 4096;
+  asks : asked_in g.A.Asks.call l.read l.pass ≡ asked_in g.A.Asks.call l.fn.read l.fn.pass;
   way : (call : FileCall) (start : PassState) → IsUnderWay call l.fn.read l.fn.list [] start l.fn.pass → IsUnderWay call l.read l.list (take l.page l.room) start l.pass;
 }
 

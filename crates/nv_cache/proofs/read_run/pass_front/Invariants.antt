@@ -1,15 +1,16 @@
 -- Its front is under way.
-use Rattle.std.proofs.Common.{[]}
+use Rattle.std.proofs.Common.{◌≡◌, []}
 use Rattle.nv_plain.specs.declared.call.FileCall.{FileCall}
 use Rattle.nv_table.specs.state.States.{IsOf, PassState}
 use Rattle.nv_mirror.specs.Fronts.{front_measure}
 use Rattle.nv_cache.specs.declared.read.RunningRead.TheVariants.{Front}
-use Rattle.nv_cache.specs.RunningReads.{IsUnderWay}
+use Rattle.nv_cache.specs.RunningReads.{IsUnderWay, asked_in}
 use Rattle.nv_cache.proofs.read_run.pass_front.Given as goal
 
 abbrev pub invariant-loop-front : goal.invariant-loop-front
 invariant-loop-front g l = record {
   board : IsOf l.board l.pass;
+  asks : asked_in g.A.Asks.call (Front l.front) l.pass ≡ asked_in g.A.Asks.call (Front l.fn.front) l.fn.pass;
   way : (call : FileCall) (start : PassState) → IsUnderWay call (Front l.fn.front) l.fn.list [] start l.fn.pass → IsUnderWay call (Front l.front) l.list [] start l.pass;
 }
 

@@ -2,7 +2,7 @@
 use Rattle.std.proofs.Common.{◌≡◌, [], false}
 use Rattle.nv_plain.specs.declared.call.FileCall.{FileCall}
 use Rattle.nv_table.specs.state.States.{IsOf, PassState}
-use Rattle.nv_cache.specs.RunningReads.{IsSettled, IsUnderWay, holds_page, read_measure}
+use Rattle.nv_cache.specs.RunningReads.{IsSettled, IsUnderWay, asked_in, holds_page, read_measure}
 use Rattle.nv_cache.proofs.read_run.read_on.Given as goal
 
 abbrev pub invariant-loop-read : goal.invariant-loop-read
@@ -10,6 +10,7 @@ invariant-loop-read g l = record {
   board : IsOf l.board l.pass;
   settled : IsSettled l.read;
   bare : holds_page l.read ≡ false;
+  asks : asked_in g.A.Asks.call l.read l.pass ≡ asked_in g.A.Asks.call l.fn.read l.fn.pass;
   way : (call : FileCall) (start : PassState) → IsUnderWay call l.fn.read l.fn.list [] start l.fn.pass → IsUnderWay call l.read l.list [] start l.pass;
 }
 

@@ -7,7 +7,10 @@ use Rattle.nv_core.specs.state.Passes.{len_of}
 use Rattle.nv_table.specs.state.Opened.{Opened}
 use Rattle.nv_table.specs.state.States.{BoardState}
 use Rattle.nv_cache.specs.declared.read.RunningRead.TheVariants.{Over}
-use Rattle.nv_cache.specs.RunningReads.{IsUnderWay}
+use Rattle.nv_core.specs.state.Passes.{plain_call}
+use Rattle.nv_table.specs.state.Views.{pass_of}
+use Rattle.nv_cache.specs.RunningReads.{IsUnderWay, asked_in}
+use Rattle.nv_cache.proofs.AskedLaws.{made_is}
 use Rattle.nv_calls.specs.calls.EarlyRefusals.{early_refusal}
 use Rattle.nv_calls.specs.reads.Reads.{IsReadOver}
 use Rattle.nv_calls.proofs.reads.OverLaws.{over_by, over_told}
@@ -35,7 +38,9 @@ returns-in_err-file-clause-alone g c =
 pub run-requires-clause-way : goal.run-requires-clause-way
 run-requires-clause-way g c =
     let same = ap (λ (o : Opened). o.sizes) c.requires.board.same_mount ∙ sym (c.layout.ensures ∙ ap (λ (b : BoardState). b.opened.sizes) c.board-board.ensures) in
-    (Read c.in_ok-file.file c.args.at (length c.args.buf.now), c.args.pass.now, c.new.ensures.begins c.args.buf.now [] c.args.pass.now refl same c.requires.idle)
+    let call = Read c.in_ok-file.file c.args.at (length c.args.buf.now) in
+    let way = c.new.ensures.begins c.args.buf.now [] c.args.pass.now refl same c.requires.idle in
+    (c.args.pass.now, subst (λ made. IsUnderWay (plain_call made) c.new.result c.args.buf.now [] c.args.pass.now c.args.pass.now) (sym (made_is call c.new.result _ _ _ _ c.new.ensures.open way)) way)
 
 pub returns-clause-over : goal.returns-clause-over
 returns-clause-over g c =
@@ -45,13 +50,17 @@ returns-clause-over g c =
     let list = c.run.new.list in
     let call = Read c.in_ok-file.file c.args.at (length c.args.buf.now) in
     let same = ap (λ (o : Opened). o.sizes) c.requires.board.same_mount ∙ sym (c.layout.ensures ∙ ap (λ (b : BoardState). b.opened.sizes) c.board-board.ensures) in
-    let way = c.run.ensures.way call start (c.new.ensures.begins c.args.buf.now [] start refl same c.requires.idle) in
+    let before = c.new.ensures.begins c.args.buf.now [] start refl same c.requires.idle in
+    let way = c.run.ensures.way call start before in
     let size : length c.args.buf.now ≡ length list = ap len_of way.asks in
     let early : early_refusal can_read start.view.opened.sizes fds c.args.fd c.args.at (length list) ≡ None =
     ap (λ (o : Opened). early_refusal can_read o.sizes fds c.args.fd c.args.at (length list)) c.requires.board.same_mount
     ∙ ap (early_refusal can_read c.args.mount.now.board.opened.sizes fds c.args.fd c.args.at) (sym size) ∙ c.in_ok-file.ensures.early in
     over_by c.runs_are_sound.ensures.runs c.passes_are_left_alone.ensures.own fds c.args.fd c.args.at list [] start now c.run.result c.sees_a_run.ensures.mount c.in_ok-file.file early c.in_ok-file.ensures.file_is
     (subst (λ n. IsUnderWay (Read c.in_ok-file.file c.args.at n) (Over c.run.result) list [] start now) size way)
+    (subst (λ made. (pass_of now.view).asked ≡ asked_in made c.new.result start) (made_is call c.new.result _ _ start start c.new.ensures.open before) c.run.ensures.asks
+    ∙ c.new.ensures.asks call start
+    ∙ ap (Read c.in_ok-file.file c.args.at) size)
 
 pub returns-clause-idle : goal.returns-clause-idle
 returns-clause-idle g c = (over_told c.args.mount.now.fds c.args.fd c.args.at c.run.new.list c.args.pass.now c.run.new.pass c.run.result c.requires.idle (returns-clause-over g c)).idle

@@ -2,6 +2,7 @@
 use Rattle.nv_table.specs.state.States.{IsOf}
 use Rattle.nv_mirror.specs.Pageless.{pageless_measure}
 use Rattle.nv_calls.specs.fsync.SyncMachines.{IsOfFile}
+use Rattle.nv_op.specs.Ops.{call_asked}
 use Rattle.nv_calls.proofs.sync.try_fsync.Given as goal
 
 abbrev pub invariant-loop-sync : goal.invariant-loop-sync
@@ -12,3 +13,6 @@ invariant-loop-sync g l = record {
 
 abbrev pub decreases-loop-sync : goal.decreases-loop-sync
 decreases-loop-sync g l = pageless_measure l.sync.control
+
+abbrev pub ghosts-advance : goal.ghosts-advance
+ghosts-advance g a = record { call = call_asked a.self.now.asked }

@@ -2,7 +2,7 @@
 use Rattle.std.proofs.Common.{◌≡◌, true, ◌∷◌, refl, sym, subst, ◌∙◌}
 use Rattle.std.specs.Prelude.{Result, Ok, Err, OnErr}
 use Rattle.nv_table.specs.passes.Known.{known_by}
-use Rattle.nv_table.proofs.passes.KnownLaws.{covers_all, covers_same}
+use Rattle.nv_table.proofs.passes.KnownLaws.{covers_all}
 use Rattle.nv_table.proofs.steps.CallLaws.{later_on}
 use Rattle.nv_mirror.specs.declared.answers.Done.{Done}
 use Rattle.nv_mirror.specs.declared.answers.Refusal.{Refusal}

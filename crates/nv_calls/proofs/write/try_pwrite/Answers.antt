@@ -1,5 +1,9 @@
 -- What is so of a write that is over, by the laws of such writes.
-use Rattle.std.proofs.Common.{rules, length}
+use Rattle.std.proofs.Common.{◌≡◌, rules, length, sym, subst, ◌∙◌}
+use Rattle.nv_plain.specs.declared.call.FileCall.TheVariants.{Write}
+use Rattle.nv_core.specs.state.Passes.{plain_call}
+use Rattle.nv_ring.specs.RunningWrites.{IsOpen, IsUnderWay, asked_in}
+use Rattle.nv_ring.proofs.AskedLaws.{made_is}
 use Rattle.std.specs.Prelude.{Ok, Err}
 use Rattle.nv_calls.proofs.write.try_pwrite.Goals as goal
 
@@ -74,3 +78,32 @@ pub returns-in-Over-Err-clause-alone : goal.returns-in-Over-Err-clause-alone
 returns-in-Over-Err-clause-alone g c = λ alone.
     c.a_write_alone_meets_nobody.ensures c.args.mount.now.fds c.args.fd c.args.at c.args.bytes.now c.args.pass.now c.loop-write.pass (Err c.in-Over-Err.refusal) c.sees_a_run.ensures.mount
     (c.has_taken_in.ensures alone.zero) alone (returns-in-Over-Err-clause-over g c)
+
+-- ---- each step
+
+pub advance-requires : goal.advance-requires
+advance-requires g c =
+    let call = Write c.in_ok-file.file c.args.at c.args.bytes.now in
+    let runs : IsOpen c.loop-write.write = search rules in record {
+      board = search rules;
+      «open» = runs;
+      bare = search rules;
+      places = search rules;
+      way = (
+        c.args.pass.now,
+        subst (λ made. IsUnderWay (plain_call made) c.loop-write.write c.args.pass.now c.loop-write.pass) (sym (made_is call c.loop-write.write c.args.pass.now c.loop-write.pass runs c.loop-write.invariant.way)) c.loop-write.invariant.way,
+      );
+    }
+
+pub loop-write-preserved : goal.loop-write-preserved
+loop-write-preserved g c =
+    let call = Write c.in_ok-file.file c.args.at c.args.bytes.now in
+    let runs : IsOpen c.loop-write.write = search rules in record {
+      board = search rules;
+      way = c.advance.ensures.way call c.args.pass.now c.loop-write.invariant.way;
+      asks = subst (λ made. asked_in made c.advance.new.self c.advance.new.pass ≡ asked_in made c.loop-write.write c.loop-write.pass) (made_is call c.loop-write.write c.args.pass.now c.loop-write.pass runs c.loop-write.invariant.way) c.advance.ensures.asks
+          ∙ c.loop-write.invariant.asks;
+      settled = search rules;
+      workspace = search rules;
+      bare = search rules;
+    }

@@ -1,5 +1,5 @@
 -- An operation that is due is ready.
-use Rattle.std.proofs.Common.{◌≡◌, ◌≤◌, sym, ap, ap₂, subst, ◌∙◌}
+use Rattle.std.proofs.Common.{◌≡◌, ◌≤◌, sym, ap, subst, ◌∙◌}
 use Rattle.nv_core.specs.steps.Ops.{Op as CoreOp, move_of}
 use Rattle.nv_core.specs.state.Words.{Sizes, place}
 use Rattle.nv_table.specs.state.Layout.{slot_of_cell}
@@ -19,8 +19,8 @@ use Rattle.nv_table.specs.declared.acting.Change.{Change}
 use Rattle.nv_table.specs.declared.stepping.Moves.{Moves}
 use Rattle.nv_core.specs.state.Words.{IsWord}
 use Rattle.nv_op.specs.Words.{core_word}
-use Rattle.nv_op.specs.Ops.{Fits, word_of_op, moves_for, marks_for, core_op_of}
-use Rattle.nv_op.proofs.OpLaws.{op_stands, op_ready, moves_so, marks_so, head_so}
+use Rattle.nv_op.specs.Ops.{word_of_op, moves_for, marks_for, core_op_of, opened_by}
+use Rattle.nv_op.proofs.OpLaws.{op_stands, op_ready, moves_so, marks_alike, marks_so, head_so}
 use Rattle.nv_op.proofs.performing.perform_by.Goals as goal
 
 -- the word is one of the board's mount
@@ -32,21 +32,18 @@ pub place-requires : goal.place-requires
 place-requires g c =
     let pass = c.args.pass.now in
     word_there _ pass c.layout-layout.result c.args.op c.requires.board.same_mount c.layout-layout.ensures
-    (op_stands pass g.E.StepSpec.opens g.E.StepSpec.op c.args.op c.requires.op
-    (subst (λ opens. Fits pass.view.opened.sizes opens (pass_of pass.view) c.args.op) (sym c.requires.opens) c.requires.fits) c.due_steps_stand.ensures c.requires.due.0).0
+    (op_stands pass g.E.StepSpec.opens g.E.StepSpec.op c.args.op c.requires.op c.requires.fits c.due_steps_stand.ensures c.requires.due.0).0
 
 pub change-requires : goal.change-requires
 change-requires g c =
     let pass = c.args.pass.now in
-    (op_stands pass g.E.StepSpec.opens g.E.StepSpec.op c.args.op c.requires.op
-    (subst (λ opens. Fits pass.view.opened.sizes opens (pass_of pass.view) c.args.op) (sym c.requires.opens) c.requires.fits) c.due_steps_stand.ensures c.requires.due.0).1
+    (op_stands pass g.E.StepSpec.opens g.E.StepSpec.op c.args.op c.requires.op c.requires.fits c.due_steps_stand.ensures c.requires.due.0).1
 
 pub moves-requires : goal.moves-requires
 moves-requires g c =
     let pass = c.args.pass.now in
     word_there _ pass c.layout-layout.result c.args.op c.requires.board.same_mount c.layout-layout.ensures
-    (op_stands pass g.E.StepSpec.opens g.E.StepSpec.op c.args.op c.requires.op
-    (subst (λ opens. Fits pass.view.opened.sizes opens (pass_of pass.view) c.args.op) (sym c.requires.opens) c.requires.fits) c.due_steps_stand.ensures c.requires.due.0).0
+    (op_stands pass g.E.StepSpec.opens g.E.StepSpec.op c.args.op c.requires.op c.requires.fits c.due_steps_stand.ensures c.requires.due.0).0
 
 pub step-requires-clause-next : goal.step-requires-clause-next
 step-requires-clause-next g c =
@@ -61,7 +58,7 @@ step-requires-clause-next g c =
     (sym c.requires.op)
     (λ due.
     subst (λ (change : Change). (is : PreconditionAt pass g.E.StepSpec.opens (core_op_of view c.args.op) c.place.result (changed change)) × g.E.StepSpec.said is.works) (sym c.change.ensures)
-    (op_ready c.no_sound_state_allows.ensures.dirty pass g.E.StepSpec.opens reply c.args.op c.place.result g.E.StepSpec.said due.0 (subst (λ opens. Fits view.opened.sizes opens (pass_of view) c.args.op) (sym c.requires.opens) c.requires.fits) few there due.1)))
+    (op_ready c.no_sound_state_allows.ensures.dirty pass g.E.StepSpec.opens reply c.args.op c.place.result g.E.StepSpec.said due.0 c.requires.fits few there due.1)))
     c.requires.due
 
 pub step-requires-clause-moves : goal.step-requires-clause-moves
@@ -80,11 +77,13 @@ pub step-requires-clause-marks : goal.step-requires-clause-marks
 step-requires-clause-marks g c =
     let view = c.args.pass.now.view in
     let reply = reply_at view.opened.sizes (values_of view) (pass_of view) (pass_of view).control in
-    ap₂ marks_of c.requires.opens c.requires.op ∙ marks_so c.args.opens reply c.args.op ∙ sym c.marks.ensures
+    ap (marks_of g.E.StepSpec.opens) c.requires.op
+    ∙ marks_alike g.E.StepSpec.opens (opened_by c.args.opens) (core_op_of view c.args.op) c.requires.opens
+    ∙ marks_so c.args.opens reply c.args.op ∙ sym c.marks.ensures
 
 pub step-requires-clause-head : goal.step-requires-clause-head
 step-requires-clause-head g c =
     let view = c.args.pass.now.view in
     subst (λ (marks : Marks). IsFromHead marks c.change.result (pass_of view).head) (sym c.marks.ensures)
     (subst (λ (change : Change). IsFromHead (marks_for c.args.opens c.args.op) change (pass_of view).head) (sym c.change.ensures)
-    (head_so view.opened.sizes (pass_of view) c.args.opens c.args.op c.requires.fits))
+    (head_so view.opened.sizes (pass_of view) g.E.StepSpec.opens c.args.opens c.args.op c.requires.fits))

@@ -4,6 +4,7 @@ use Rattle.nv_mirror.specs.Visits.{IsInCall, visit_call_of}
 use Rattle.nv_cache.specs.declared.read.RunningRead.TheVariants.{Search, Load, TakePlace}
 use Rattle.nv_cache.specs.RunningReads.{IsUnderWay}
 use Rattle.nv_cache.specs.Ways.{search_for}
+use Rattle.nv_cache.proofs.AskedLaws.{asked_same}
 use Rattle.nv_cache.proofs.ReadMeasures.{load_few, page_within, search_few}
 use Rattle.nv_cache.proofs.RunningLaws.{looked_load, looked_place, looked_search}
 use Rattle.nv_cache.proofs.read.RunningRead.looked.Goals as goal
@@ -44,3 +45,12 @@ returns-in-Load-clause-few g c =
     let way = c.look.ensures.way start c.requires.way.1 in
     let on = subst (λ control. IsInCall m control c.look.new.list start c.look.new.pass) c.in-Load.is way.1 in
     load_few c.args.pass.now.view.opened.sizes c.args.visit m c.look.ensures.machine way.1.later (page_within m c.look.new.pass.view.opened.sizes way.0 on.knows.0) c.load-in-Load.result c.load-in-Load.ensures.machine
+
+pub returns-in-Search-clause-asks : goal.returns-in-Search-clause-asks
+returns-in-Search-clause-asks g c asked = asked_same c.args.pass.now c.look.new.pass c.look.ensures.same
+
+pub returns-in-Load-clause-asks : goal.returns-in-Load-clause-asks
+returns-in-Load-clause-asks g c asked = asked_same c.args.pass.now c.look.new.pass c.look.ensures.same
+
+pub returns-in-TakePlace-clause-asks : goal.returns-in-TakePlace-clause-asks
+returns-in-TakePlace-clause-asks g c asked = asked_same c.args.pass.now c.look.new.pass c.look.ensures.same

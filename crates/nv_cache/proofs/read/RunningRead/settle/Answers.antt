@@ -5,7 +5,11 @@ use Rattle.nv_table.specs.state.Opened.{Opened}
 use Rattle.nv_mirror.specs.Visits.{visit_call_of}
 use Rattle.nv_cache.specs.declared.read.RunningRead.{RunningRead}
 use Rattle.nv_cache.specs.declared.read.RunningRead.TheVariants.{Over}
-use Rattle.nv_cache.specs.RunningReads.{IsUnderWay}
+use Rattle.nv_mirror.specs.declared.front.FrontMachine.{FrontMachine}
+use Rattle.nv_mirror.specs.Controls.{asked_at}
+use Rattle.nv_mirror.specs.Fronts as front
+use Rattle.nv_mirror.specs.Pageless as pageless
+use Rattle.nv_cache.specs.RunningReads.{IsUnderWay, asked_in}
 use Rattle.nv_cache.proofs.RunningLaws.{front_over, pageless_over, release_over, search_loads}
 use Rattle.nv_cache.proofs.read.RunningRead.settle.Goals as goal
 
@@ -53,3 +57,32 @@ pub returns-in-Over-control-3-clause-way : goal.returns-in-Over-control-3-clause
 returns-in-Over-control-3-clause-way g c call start way =
     release_over c.in-Release.release c.in-Release.copied call c.args.list.now c.args.room.now start c.args.pass.now c.in-Over-control-3.is
     (subst (λ (w : RunningRead). IsUnderWay call w c.args.list.now c.args.room.now start c.args.pass.now) c.in-Release.is way)
+
+-- ---- what it is asked as
+
+pub returns-in-Over-control-clause-asks : goal.returns-in-Over-control-clause-asks
+returns-in-Over-control-clause-asks g c asked =
+    sym (ap (λ (w : RunningRead). asked_in asked w c.args.pass.now) c.in-Pageless.is ∙ ap (λ control. asked_at asked (pageless.has_begun control) c.args.pass.now) c.in-Over-control.is)
+
+pub returns-in-Passed-clause-asks : goal.returns-in-Passed-clause-asks
+returns-in-Passed-clause-asks g c asked =
+    c.looked.ensures.asks asked
+    ∙ sym (ap (λ (w : RunningRead). asked_in asked w c.args.pass.now) c.in-Front.is ∙ ap (λ control. asked_at asked (front.has_begun control) c.args.pass.now) c.in-Passed.is)
+
+pub returns-in-Over-control-2-clause-asks : goal.returns-in-Over-control-2-clause-asks
+returns-in-Over-control-2-clause-asks g c asked =
+    sym (ap (λ (w : RunningRead). asked_in asked w c.args.pass.now) c.in-Front.is ∙ ap (λ control. asked_at asked (front.has_begun control) c.args.pass.now) c.in-Over-control-2.is)
+
+pub returns-in-Loaded-clause-asks : goal.returns-in-Loaded-clause-asks
+returns-in-Loaded-clause-asks g c asked = c.looked-in-Loaded.ensures.asks asked ∙ sym (ap (λ (w : RunningRead). asked_in asked w c.args.pass.now) c.in-Load.is)
+
+pub returns-in-Refused-clause-asks : goal.returns-in-Refused-clause-asks
+returns-in-Refused-clause-asks g c asked =
+    ap (λ (f : FrontMachine). asked_at asked (front.has_begun f.control) c.args.pass.now) c.give_back.ensures.machine.2
+    ∙ sym (ap (λ (w : RunningRead). asked_in asked w c.args.pass.now) c.in-Load.is)
+
+pub returns-in-Found-clause-asks : goal.returns-in-Found-clause-asks
+returns-in-Found-clause-asks g c asked = sym (ap (λ (w : RunningRead). asked_in asked w c.args.pass.now) c.in-Search.is)
+
+pub returns-in-Over-control-3-clause-asks : goal.returns-in-Over-control-3-clause-asks
+returns-in-Over-control-3-clause-asks g c asked = sym (ap (λ (w : RunningRead). asked_in asked w c.args.pass.now) c.in-Release.is)

@@ -4,7 +4,9 @@ use Rattle.nv_plain.specs.declared.call.FileCall.TheVariants.{Read}
 use Rattle.nv_core.specs.state.Words.{Sizes}
 use Rattle.nv_core.specs.steps.Opening.{IsMount}
 use Rattle.nv_table.specs.state.Opened.{Opened, mount_of}
-use Rattle.nv_cache.specs.RunningReads.{IsUnderWay}
+use Rattle.nv_core.specs.state.Passes.{plain_call}
+use Rattle.nv_cache.specs.RunningReads.{IsUnderWay, asked_in}
+use Rattle.nv_cache.proofs.AskedLaws.{made_is}
 use Rattle.nv_calls.specs.reads.ReadMachines.{IsBegunAs}
 use Rattle.nv_calls.proofs.reads.MachineLaws.{goes_after, steps_on}
 use Rattle.nv_calls.proofs.reading.ReadMachine.advance.Goals as goal
@@ -16,7 +18,9 @@ advance_in-requires-clause-way g c =
     let start = c.requires.under_way.0 in
     let of = c.in-Ok.ensures.way start pass (ap (λ (o : Opened). o.sizes) c.requires.board.same_mount) c.requires.under_way.1 in
     let page : pass.view.opened.sizes.page ≡ c.layout-page.result.page = search rules in
-    (Read of.file m.at m.len, start, subst (λ n. IsUnderWay (Read of.file m.at m.len) c.in-Ok.read c.args.list.now (take n m.room) start pass) page of.way)
+    let call = Read of.file m.at m.len in
+    let way = subst (λ n. IsUnderWay call c.in-Ok.read c.args.list.now (take n m.room) start pass) page of.way in
+    (start, subst (λ made. IsUnderWay (plain_call made) c.in-Ok.read c.args.list.now (take c.layout-page.result.page m.room) start pass) (sym (made_is call c.in-Ok.read _ _ start pass c.in-Ok.ensures.more way)) way)
 
 pub returns-clause-one : goal.returns-clause-one
 returns-clause-one g c =
@@ -35,6 +39,9 @@ returns-clause-goes g c start way =
     let page : pass.view.opened.sizes.page ≡ c.layout-page.result.page = search rules in
     let same : new.view.opened ≡ pass.view.opened = search rules in
     let size : length room ≡ new.view.opened.sizes.page = search rules in
+    let call = Read of.file m.at m.len in
+    let way_in = subst (λ n. IsUnderWay call c.in-Ok.read c.args.list.now (take n m.room) start pass) page of.way in
     goes_after c.runs_are_sound.ensures.runs c.passes_are_left_alone.ensures.own c.args.mount.now.fds m list room _ c.in-Ok.read c.advance_in.new.read start pass new c.progress.result
     (subst (λ (o : Opened). IsMount (mount_of o)) (sym same) c.sees_a_run.ensures.mount) size c.progress.ensures c.advance_in.ensures.settled (c.args.list.now, of)
-    (c.advance_in.ensures.way (Read of.file m.at m.len) start (subst (λ n. IsUnderWay (Read of.file m.at m.len) c.in-Ok.read c.args.list.now (take n m.room) start pass) page of.way))
+    (c.advance_in.ensures.way call start way_in)
+    (subst (λ made. asked_in made c.advance_in.new.read new ≡ asked_in made c.in-Ok.read pass) (made_is call c.in-Ok.read _ _ start pass c.in-Ok.ensures.more way_in) c.advance_in.ensures.asks)

@@ -48,6 +48,7 @@ returns-clause-one g c =
       failed = false;
       step = record { opens = None; works = stepped.works; op = op; found = found };
       taken = taken_by pass pass new None op found (between_self pass) stepped;
+      opens = refl;
       op = refl;
       fault = no_fault pass new None op found (load_free m c.requires.way.0 c.requires.way.1 pass m.control c.requires.plain c.requires.way.2.1) stepped ∙ sym (unfaulted m.control);
       next = c.after.ensures ∙ ap (λ (s : Sizes). load_after s m false found) same;

@@ -3,8 +3,9 @@ use Rattle.std.proofs.Common.{sym, ap, subst, ◌∙◌}
 use Rattle.nv_core.specs.state.Words.{Sizes}
 use Rattle.nv_table.specs.state.Limits.{MountIsWithinLimits}
 use Rattle.nv_table.specs.state.Opened.{Opened}
+use Rattle.nv_table.specs.state.Views.{pass_of}
 use Rattle.nv_mirror.specs.declared.release.ReleaseMachine.{ReleaseMachine}
-use Rattle.nv_mirror.specs.Answers.{IsReadPlaced}
+use Rattle.nv_mirror.specs.Answers.{IsListPlaced}
 use Rattle.nv_mirror.specs.Releases.{IsUnderWay}
 use Rattle.nv_mirror.specs.Visits.{IsInCall}
 use Rattle.nv_mirror.proofs.VisitPlaces.{place_due, place_told, place_on}
@@ -21,7 +22,7 @@ returns-clause-placed g c list start way =
     let m = c.args.self in
     let pass = c.args.pass.now in
     let new = c.perform-place.new.pass in
-    subst (λ (r : ReleaseMachine). IsReadPlaced m.file m.at list start.view new.view record { place = r.place; len = m.copied }) (sym c.released.ensures)
+    subst (λ (r : ReleaseMachine). IsListPlaced (pass_of new.view).asked list start.view new.view record { place = r.place; len = m.copied }) (sym c.released.ensures)
     (place_told m list start pass (subst (λ control. IsInCall m control list start pass) c.requires.at way.1) new c.perform-place.result way.0
     (record { sound = c.runs_are_sound.ensures.runs; content = c.runs_keep_content.ensures.runs; legally = c.history_goes_on.ensures.legal; mount = c.sees_a_run.ensures.mount }) c.perform-place.ensures.stepped)
 

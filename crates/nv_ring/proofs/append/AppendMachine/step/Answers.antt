@@ -40,6 +40,7 @@ returns-clause-one g c =
       failed = false;
       step = record { opens = None; works = stepped.works; op = core_op_of pass.view (append_op m false); found = found };
       taken = taken_by pass pass c.perform-found.new.pass None (core_op_of pass.view (append_op m false)) found (between_self pass) stepped;
+      opens = refl;
       op = refl;
       fault = no_fault pass c.perform-found.new.pass None (core_op_of pass.view (append_op m false)) found (append_free m m.control c.requires.way.0 pass c.requires.plain c.requires.way.1.1) stepped ∙ sym (sets_no_stop pass.view m m.control);
       next = c.after.ensures ∙ ap (λ (s : Sizes). append_after s m false found) same;

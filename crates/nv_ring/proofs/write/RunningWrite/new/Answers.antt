@@ -6,7 +6,9 @@ use Rattle.nv_core.specs.state.Words.{Sizes}
 use Rattle.nv_table.specs.state.Keys.{sizes_of}
 use Rattle.nv_mirror.specs.declared.pageless.PagelessMachine.{PagelessMachine}
 use Rattle.nv_ring.specs.declared.write.RunningWrite.TheVariants.{Pageless}
-use Rattle.nv_mirror.specs.Fronts.{Fits}
+use Rattle.nv_mirror.specs.Fronts.{Fits, has_begun}
+use Rattle.nv_mirror.specs.Controls.{asked_at}
+use Rattle.nv_mirror.specs.Pageless as pageless
 use Rattle.nv_ring.specs.WriteSteps.{IsFresh}
 use Rattle.nv_ring.proofs.WriteStepLaws.{fresh_pageless, fresh_front}
 use Rattle.nv_mirror.proofs.FrontLaws.{front_begins}
@@ -28,3 +30,9 @@ returns-then-size-eq0-clause-fresh c =
 pub returns-else-size-eq0-clause-fresh : goal.returns-else-size-eq0-clause-fresh
 returns-else-size-eq0-clause-fresh c =
     fresh_front (sizes_of c.args.layout) c.args.asked c.new-else-size-eq0.result c.new-else-size-eq0.ensures.asked c.new-else-size-eq0.ensures.begins c.new-else-size-eq0.ensures.fits
+
+pub returns-then-size-eq0-clause-asks : goal.returns-then-size-eq0-clause-asks
+returns-then-size-eq0-clause-asks c call pass = ap (λ (m : PagelessMachine). asked_at call (pageless.has_begun m.control) pass) c.new.ensures.machine
+
+pub returns-else-size-eq0-clause-asks : goal.returns-else-size-eq0-clause-asks
+returns-else-size-eq0-clause-asks c call pass = ap (λ control. asked_at call (has_begun control) pass) c.new-else-size-eq0.ensures.begins

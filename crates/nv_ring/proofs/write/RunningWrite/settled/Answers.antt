@@ -10,7 +10,10 @@ use Rattle.nv_mirror.specs.Releases as release
 use Rattle.nv_ring.specs.declared.append.AppendMachine.{AppendMachine}
 use Rattle.nv_ring.specs.Appends.{append_call_of}
 use Rattle.nv_ring.specs.Draws.{append_of}
-use Rattle.nv_ring.specs.RunningWrites.{IsUnderWay, front_part, write_measure}
+use Rattle.nv_ring.specs.RunningWrites.{IsUnderWay, asked_in, front_part, write_measure}
+use Rattle.nv_mirror.specs.Controls.{asked_at}
+use Rattle.nv_mirror.specs.Fronts as front
+use Rattle.nv_mirror.specs.Pageless as pageless
 use Rattle.nv_mirror.specs.Pageless.{pageless_place_at, pageless_refusal_at}
 use Rattle.nv_ring.specs.WriteSteps.{part_fault, write_fault, write_place}
 use Rattle.nv_ring.proofs.WriteStepLaws.{over_fault, over_place}
@@ -78,3 +81,36 @@ returns-in-Over-control-clause-place c =
 pub returns-in-Over-control-clause-fault : goal.returns-in-Over-control-clause-fault
 returns-in-Over-control-clause-fault c =
     ap part_fault (over_fault c.in-Over-control.result ∙ ap pageless_refusal_at (sym c.in-Over-control.is)) ∙ ap write_fault (sym c.in-Pageless.is)
+
+-- ---- what it is asked as
+
+pub returns-in-Over-control-clause-asks : goal.returns-in-Over-control-clause-asks
+returns-in-Over-control-clause-asks c asked now =
+    sym (ap (λ (w : RunningWrite). asked_in asked w now) c.in-Pageless.is ∙ ap (λ control. asked_at asked (pageless.has_begun control) now) c.in-Over-control.is)
+
+pub returns-in-Passed-clause-asks : goal.returns-in-Passed-clause-asks
+returns-in-Passed-clause-asks c asked now =
+    sym (ap (λ (w : RunningWrite). asked_in asked w now) c.in-Front.is ∙ ap (λ control. asked_at asked (front.has_begun control) now) c.in-Passed.is)
+
+pub returns-in-Over-control-2-clause-asks : goal.returns-in-Over-control-2-clause-asks
+returns-in-Over-control-2-clause-asks c asked now =
+    sym (ap (λ (w : RunningWrite). asked_in asked w now) c.in-Front.is ∙ ap (λ control. asked_at asked (front.has_begun control) now) c.in-Over-control-2.is)
+
+pub returns-in-Drawn-clause-asks : goal.returns-in-Drawn-clause-asks
+returns-in-Drawn-clause-asks c asked now = sym (ap (λ (w : RunningWrite). asked_in asked w now) c.in-Draw.is)
+
+pub returns-in-Refused-clause-asks : goal.returns-in-Refused-clause-asks
+returns-in-Refused-clause-asks c asked now =
+    ap (λ (f : FrontMachine). asked_at asked (front.has_begun f.control) now) c.give_back.ensures.machine.2
+    ∙ sym (ap (λ (w : RunningWrite). asked_in asked w now) c.in-Draw.is)
+
+pub returns-in-Appended-clause-asks : goal.returns-in-Appended-clause-asks
+returns-in-Appended-clause-asks c asked now = sym (ap (λ (w : RunningWrite). asked_in asked w now) c.in-Append.is)
+
+pub returns-in-Refused-control-clause-asks : goal.returns-in-Refused-control-clause-asks
+returns-in-Refused-control-clause-asks c asked now =
+    ap (λ (f : FrontMachine). asked_at asked (front.has_begun f.control) now) c.give_back-in-Refused-control.ensures.machine.2
+    ∙ sym (ap (λ (w : RunningWrite). asked_in asked w now) c.in-Append.is)
+
+pub returns-in-Over-control-3-clause-asks : goal.returns-in-Over-control-3-clause-asks
+returns-in-Over-control-3-clause-asks c asked now = sym (ap (λ (w : RunningWrite). asked_in asked w now) c.in-Release.is)

@@ -1,7 +1,10 @@
 -- Its part makes a step, and goes on with the same call.
-use Rattle.std.proofs.Common.{◌<◌, sym, subst}
+use Rattle.std.proofs.Common.{◌<◌, sym, ap, subst, ◌∙◌}
+use Rattle.std.specs.Prelude.{None}
+use Rattle.nv_core.specs.state.Passes.{plain_call}
+use Rattle.nv_mirror.proofs.AskedLaws.{asked_taken, asked_then, front_asks, pageless_asks}
 use Rattle.nv_ring.specs.declared.write.RunningWrite.{RunningWrite}
-use Rattle.nv_ring.specs.RunningWrites.{IsOpen, IsUnderWay, write_measure}
+use Rattle.nv_ring.specs.RunningWrites.{IsOpen, IsUnderWay, asked_in, write_measure}
 use Rattle.nv_ring.specs.WriteSteps.{HasMadeOne}
 use Rattle.nv_ring.specs.declared.write.RunningWrite.TheVariants.{Pageless, Front, Draw, Append, Release}
 use Rattle.nv_ring.proofs.RunningLaws.{front_goes, draw_goes, draw_falls, append_goes, append_falls}
@@ -26,8 +29,8 @@ returns-in-Draw-clause-falls g c =
 pub returns-in-Draw-clause-one : goal.returns-in-Draw-clause-one
 returns-in-Draw-clause-one g c =
     let pass = c.args.pass.now in
-    let start = c.requires.way.1 in
-    let way = subst (λ (w : RunningWrite). IsUnderWay c.requires.way.0 w start pass) c.in-Draw.is c.requires.way.2 in
+    let start = c.requires.way.0 in
+    let way = subst (λ (w : RunningWrite). IsUnderWay (plain_call g.A.Asks.call) w start pass) c.in-Draw.is c.requires.way.1 in
     subst (λ (w : RunningWrite). HasMadeOne w (Draw c.advance-in-Draw.new.self) pass c.advance-in-Draw.new.pass) (sym c.in-Draw.is)
     (draw_one c.in-Draw.m c.advance-in-Draw.new.self start pass c.advance-in-Draw.new.pass c.advance-in-Draw.ensures.one.0 (subst IsOpen c.in-Draw.is c.requires.open) way.1 c.advance-in-Draw.ensures.one.1 c.advance-in-Draw.ensures.one.2)
 
@@ -44,16 +47,16 @@ returns-in-Append-clause-falls g c =
 pub returns-in-Pageless-clause-one : goal.returns-in-Pageless-clause-one
 returns-in-Pageless-clause-one g c =
     let pass = c.args.pass.now in
-    let start = c.requires.way.1 in
-    let way = subst (λ (w : RunningWrite). IsUnderWay c.requires.way.0 w start pass) c.in-Pageless.is c.requires.way.2 in
+    let start = c.requires.way.0 in
+    let way = subst (λ (w : RunningWrite). IsUnderWay (plain_call g.A.Asks.call) w start pass) c.in-Pageless.is c.requires.way.1 in
     subst (λ (w : RunningWrite). HasMadeOne w (Pageless c.advance.new.self) pass c.advance.new.pass) (sym c.in-Pageless.is)
     (pageless_one c.in-Pageless.m c.advance.new.self start pass c.advance.new.pass c.advance.ensures.one.0 (subst IsOpen c.in-Pageless.is c.requires.open) way.1 c.advance.ensures.one.1 c.advance.ensures.one.2)
 
 pub returns-in-Front-clause-one : goal.returns-in-Front-clause-one
 returns-in-Front-clause-one g c =
     let pass = c.args.pass.now in
-    let start = c.requires.way.1 in
-    let way = subst (λ (w : RunningWrite). IsUnderWay c.requires.way.0 w start pass) c.in-Front.is c.requires.way.2 in
+    let start = c.requires.way.0 in
+    let way = subst (λ (w : RunningWrite). IsUnderWay (plain_call g.A.Asks.call) w start pass) c.in-Front.is c.requires.way.1 in
     subst (λ (w : RunningWrite). HasMadeOne w (Front c.advance-in-Front.new.self) pass c.advance-in-Front.new.pass) (sym c.in-Front.is)
     (front_one c.in-Front.m c.advance-in-Front.new.self start pass c.advance-in-Front.new.pass c.advance-in-Front.ensures.one.0 (subst IsOpen c.in-Front.is c.requires.open) way.2 c.advance-in-Front.ensures.one.1 c.advance-in-Front.ensures.one.2)
 
@@ -66,7 +69,35 @@ returns-in-Append-clause-one g c =
 pub returns-in-Release-clause-one : goal.returns-in-Release-clause-one
 returns-in-Release-clause-one g c =
     let pass = c.args.pass.now in
-    let start = c.requires.way.1 in
-    let way = subst (λ (w : RunningWrite). IsUnderWay c.requires.way.0 w start pass) c.in-Release.is c.requires.way.2 in
+    let start = c.requires.way.0 in
+    let way = subst (λ (w : RunningWrite). IsUnderWay (plain_call g.A.Asks.call) w start pass) c.in-Release.is c.requires.way.1 in
     subst (λ (w : RunningWrite). HasMadeOne w (Release c.advance-in-Release.new.self) pass c.advance-in-Release.new.pass) (sym c.in-Release.is)
     (release_one c.in-Release.m c.advance-in-Release.new.self start pass c.advance-in-Release.new.pass c.advance-in-Release.ensures.one.0 (subst IsOpen c.in-Release.is c.requires.open) way.1 c.advance-in-Release.ensures.one.1 c.advance-in-Release.ensures.one.2)
+
+-- ---- what it is asked as
+
+pub returns-in-Pageless-clause-asks : goal.returns-in-Pageless-clause-asks
+returns-in-Pageless-clause-asks g c =
+    pageless_asks g.A.Asks.call c.in-Pageless.m c.advance.new.self _ c.advance.ensures.one.0 c.args.pass.now c.advance.new.pass c.advance.ensures.one.1 c.advance.ensures.one.2
+    ∙ sym (ap (λ (w : RunningWrite). asked_in g.A.Asks.call w c.args.pass.now) c.in-Pageless.is)
+
+pub returns-in-Front-clause-asks : goal.returns-in-Front-clause-asks
+returns-in-Front-clause-asks g c =
+    front_asks g.A.Asks.call c.in-Front.m c.advance-in-Front.new.self _ c.advance-in-Front.ensures.one.0 c.args.pass.now c.advance-in-Front.new.pass (subst IsOpen c.in-Front.is c.requires.open) c.advance-in-Front.ensures.one.1
+    c.advance-in-Front.ensures.one.2
+    ∙ sym (ap (λ (w : RunningWrite). asked_in g.A.Asks.call w c.args.pass.now) c.in-Front.is)
+
+pub returns-in-Draw-clause-asks : goal.returns-in-Draw-clause-asks
+returns-in-Draw-clause-asks g c =
+    asked_then None _ c.advance-in-Draw.ensures.one.0 c.args.pass.now c.advance-in-Draw.new.pass c.advance-in-Draw.ensures.one.1
+    ∙ sym (ap (λ (w : RunningWrite). asked_in g.A.Asks.call w c.args.pass.now) c.in-Draw.is)
+
+pub returns-in-Append-clause-asks : goal.returns-in-Append-clause-asks
+returns-in-Append-clause-asks g c =
+    asked_taken c.advance-in-Append.ensures.one.step c.args.pass.now c.advance-in-Append.new.pass c.advance-in-Append.ensures.one.opens c.advance-in-Append.ensures.one.taken
+    ∙ sym (ap (λ (w : RunningWrite). asked_in g.A.Asks.call w c.args.pass.now) c.in-Append.is)
+
+pub returns-in-Release-clause-asks : goal.returns-in-Release-clause-asks
+returns-in-Release-clause-asks g c =
+    asked_then None _ c.advance-in-Release.ensures.one.0 c.args.pass.now c.advance-in-Release.new.pass c.advance-in-Release.ensures.one.1
+    ∙ sym (ap (λ (w : RunningWrite). asked_in g.A.Asks.call w c.args.pass.now) c.in-Release.is)
