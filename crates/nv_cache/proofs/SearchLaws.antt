@@ -14,7 +14,7 @@ use Rattle.nv_core.specs.state.Words.{Sizes, Word, HINT, PAGE, DIRTY, page_total
 use Rattle.nv_core.specs.steps.Opening.{IsMount}
 use Rattle.nv_core.specs.steps.Ops.{Op as CoreOp, Load, Take, Give, Turn, Hint, Comes, Stays, moved}
 use Rattle.nv_core.specs.steps.Order.{Values, Enabled, miss, next_step, step_at}
-use Rattle.nv_core.specs.steps.PassSteps.{stepped}
+use Rattle.nv_core.specs.steps.PassSteps.{stepped, pages_after}
 use Rattle.nv_core.specs.steps.StepKinds.{JustNow}
 use Rattle.nv_core.proofs.state.Changes.{word_here, word_else}
 use Rattle.nv_core.proofs.steps.NextSteps.{steps_are_next}
@@ -136,16 +136,17 @@ between_altered change old new is = record { table = is.table; view = is.view; s
 
 -- ---- what a step leaves
 
-is_same_but : (sizes : Sizes) (number : ℕ) (history : List Answered) (view : PassView) (m : SearchMachine) (control : SearchControl) (found : ℕ) (pass : Pass) → IsOpen control
+is_same_but : (sizes : Sizes) (number : ℕ) (history : List Answered) (view : PassView) (m : SearchMachine) (control : SearchControl) (found : ℕ) (pass : Pass) → IsOpen control → pass.control ≡ search_control_at m control
     → IsSameBut pass (stepped sizes number history (core_op_of view (search_op_at m control)) found pass)
-is_same_but sizes number history view m (searches.Begin from) found pass runs = refl
-is_same_but sizes number history view m (searches.TurnHand given) found pass runs = refl
-is_same_but sizes number history view m (searches.LoadHint buffer) found pass runs = refl
-is_same_but sizes number history view m (searches.TakeVictim buffer victim) found pass runs = refl
-is_same_but sizes number history view m (searches.GiveVictim buffer victim) found pass runs = refl
-is_same_but sizes number history view m (searches.SetHint buffer) found pass runs = refl
-is_same_but sizes number history view m (Found buffer) found pass runs = absurd runs
-is_same_but sizes number history view m (NotFound given) found pass runs = absurd runs
+is_same_but sizes number history view m (searches.Begin from) found pass runs stands = refl
+is_same_but sizes number history view m (searches.TurnHand given) found pass runs stands = refl
+is_same_but sizes number history view m (searches.LoadHint buffer) found pass runs stands = refl
+is_same_but sizes number history view m (searches.TakeVictim buffer victim) found pass runs stands =
+    ap (λ s. record (stepped sizes number history (Take (PAGE victim)) found pass) { pages = pages_after pass (Take (PAGE victim)) found s }) stands
+is_same_but sizes number history view m (searches.GiveVictim buffer victim) found pass runs stands = refl
+is_same_but sizes number history view m (searches.SetHint buffer) found pass runs stands = refl
+is_same_but sizes number history view m (Found buffer) found pass runs stands = absurd runs
+is_same_but sizes number history view m (NotFound given) found pass runs stands = absurd runs
 
 -- the page, and a victim that is held, are among the owned cells
 pub page_there : (sizes : Sizes) (m : SearchMachine) (control : SearchControl) → Fits sizes m → FitsAt sizes m control → times (PAGE m.page) (search_owned_at m control) ≢ 0
@@ -184,7 +185,7 @@ module _ (m : SearchMachine) (start now before new : PassState) (found : ℕ) (f
     pub same_but : IsSameBut pass_now (pass_of new.view)
     same_but =
         subst (IsSameBut pass_now) (sym (pass_there now before new (made control) found between step is_free))
-        (is_same_but sizes_now before.view.number (history_before now before new (made control) found between step is_free) before.view m control found pass_now runs)
+        (is_same_but sizes_now before.view.number (history_before now before new (made control) found between step is_free) before.view m control found pass_now runs (ap (λ (c : MirroredControl). c.control) called.mirrors))
 
     pub moves : (cell : Word) → times cell pass_now.owned ≢ 0 → values_of new.view cell ≡ values_moved_at m control values_now cell
     moves cell some =

@@ -1,11 +1,11 @@
 -- Lone steps: what a step of a batch finds while no other pass is out.
-use Rattle.std.proofs.Common.{◌≡◌, ◌≢◌, inl, inr, ℕ, zero, suc, ◌+◌, ◌-◌, ◌<◌, ◌≤◌, ◌==◌, ◌&&◌, true, false, if◌then◌else◌, List, [], ◌∷◌, length, take, refl, sym, ap, ap₂, subst, ◌∙◌, arith, ne_eqb}
+use Rattle.std.proofs.Common.{◌≡◌, ◌≢◌, inl, inr, ℕ, zero, suc, ◌+◌, ◌-◌, ◌<◌, ◌≤◌, ◌==◌, ◌&&◌, true, false, if◌then◌else◌, List, [], ◌∷◌, length, take, refl, sym, ap, subst, ◌∙◌, arith, ne_eqb}
 use Rattle.std.specs.Prelude.{None, slice_index}
-use Rattle.std.proofs.lemmas.Bool.{cases_eq, le-leb, lt-ltb}
+use Rattle.std.proofs.lemmas.Bool.{cases_eq}
 use Rattle.nv_core.specs.state.Words.{Sizes, Word, STOP, ENTRY, PAGE, free, filling, ready, held, cleaned, broken, is_lock, is_shut, kind_of, slot_of_entry}
 use Rattle.nv_core.specs.state.Cleaner.{Batch, CleanerControl, CleanerOp}
 use Rattle.nv_core.specs.state.Core.{Core, with_value}
-use Rattle.nv_core.specs.state.Passes.{Control, Cleaning, Fault, IsFilling, IsOneOf, IsUnseized, Pass, SeizeEntry, times, first_page, end_page}
+use Rattle.nv_core.specs.state.Passes.{Control, Cleaning, Fault, IsFilling, IsOneOf, IsUnseized, Pass, SeizeEntry, times, first_page}
 use Rattle.nv_core.specs.steps.CleanerSteps.{cleaner_value, cleaner_word, group_page}
 use Rattle.nv_core.specs.steps.Frames.{OwnEventsTell}
 use Rattle.nv_core.specs.steps.Opening.{IsMount}
@@ -13,16 +13,17 @@ use Rattle.nv_core.specs.steps.Ops.{ByCleaner}
 use Rattle.nv_core.specs.steps.Order.{Values, Work}
 use Rattle.nv_core.specs.invariant.CleanerNumbers.{IsCleaned, IsFreed}
 use Rattle.nv_core.specs.invariant.CleanerOwnership.{count_in}
-use Rattle.nv_core.specs.invariant.ControlFacts.{FactsAt}
+use Rattle.nv_core.specs.invariant.ControlFacts.{FactsAt, PagesAt}
 use Rattle.nv_core.specs.invariant.EntryWords.{IsEntryWord, SaysFree, SaysFilling, SaysBroken, SaysReadied}
 use Rattle.nv_core.specs.invariant.InvariantLaws.{RunsAreSound}
 use Rattle.nv_core.specs.invariant.LogWindow.{Drawn, Filling, Fills, Freed, HasUnseized, InWindow, IsNumbered, Kept, entry_word_at}
-use Rattle.nv_core.specs.invariant.Ownership.{HoldsLocks, is_among, one_if}
+use Rattle.nv_core.specs.invariant.Ownership.{HoldsLocks}
 use Rattle.nv_core.specs.invariant.Sound.{Sound}
 use Rattle.nv_core.specs.log.Groups.{Log}
 use Rattle.nv_core.specs.log.Progress.{HasLoadedTail, HasWholeGroup, IsBatchUnderWay, IsLooked}
 use Rattle.nv_core.proofs.content.PatchSteps.{word_page}
 use Rattle.nv_core.proofs.invariant.KeepsLocks.{kind_is}
+use Rattle.nv_core.proofs.invariant.PageLists.{pages_once}
 use Rattle.nv_core.proofs.state.Changes.{differ}
 use Rattle.nv_core.proofs.steps.ByKind.{FoundEnabledByKind, find_kind}
 use Rattle.nv_core.proofs.steps.CleanerOps.{sole_cleaner}
@@ -96,20 +97,20 @@ module _ (sizes : Sizes) (first : Values) (core : Core) (sound : Sound sizes fir
     word = entry_word_at sizes core number
 
     -- a pass that has drawn a number holds the first page of its call
-    none_drawn : (pass : Pass) (control : Control) → HoldsLocks sizes pass control → FactsAt sizes pass control → ((cell : Word) → times cell pass.owned ≡ 0) → IsUnseized control pass.first pass.entries number → ⊥
-    none_drawn pass (SeizeEntry next) holds facts none drawn =
+    none_drawn : (pass : Pass) (control : Control) → PagesAt sizes pass control → HoldsLocks sizes pass control → FactsAt sizes pass control → ((cell : Word) → times cell pass.owned ≡ 0) → IsUnseized control pass.first pass.entries number → ⊥
+    none_drawn pass (SeizeEntry next) pages holds facts none drawn =
         let page = first_page sizes pass.call in
         let has = facts.0 in let many = has.many in let some = has.some in
-        let among : one_if (is_among page (end_page sizes pass.call) page) ≡ 1 = ap₂ (λ a b. one_if (a && b)) (le-leb page page (omega arith)) (lt-ltb page (end_page sizes pass.call) (omega (arith, many, some))) in
+        let once = pages_once sizes pass.call pass.pages pages page (omega arith, omega (arith, many, some)) in
         let is = holds (PAGE page) (λ slot. differ (PAGE page) (ENTRY slot) refl) in
         let zero_times = none (PAGE page) in
-        omega (arith, among, is, zero_times)
-    none_drawn pass control holds facts none drawn = absurd drawn
+        omega (arith, once, is, zero_times)
+    none_drawn pass control pages holds facts none drawn = absurd drawn
 
     not_drawn : (n : ℕ) → HasUnseized (core.passes n) number → ⊥
     not_drawn n drawn = elim (cases_eq n by) [
       | inl mine ↦ subst (λ c. IsUnseized c (core.passes by).first (core.passes by).entries number) at (subst (λ m. HasUnseized (core.passes m) number) mine drawn)
-      | inr other ↦ none_drawn (core.passes n) (core.passes n).control (sound.ownership n).locks (sound.control_facts n).at (λ cell. others cell n other) drawn
+      | inr other ↦ none_drawn (core.passes n) (core.passes n).control (sound.control_facts n).pages (sound.ownership n).locks (sound.control_facts n).at (λ cell. others cell n other) drawn
     ]
 
     not_filled : (n : ℕ) → Fills (core.passes n) number → ⊥

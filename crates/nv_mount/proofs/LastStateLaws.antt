@@ -1,6 +1,6 @@
 -- Laws about the last state of a mount: its log and its region, and its passes where none of them holds a cell.
-use Rattle.std.proofs.Common.{◌≡◌, ℕ, ◌+◌, ◌<◌, ◌≤◌, ◌&&◌, nat_le, nat_lt, Bool, true, false, List, [], length, get_or, inl, inr, refl, sym, ap, ap₂, subst, ◌∙◌, arith}
-use Rattle.std.proofs.lemmas.Bool.{cases_eq, cases_lt, lt-ltb, le-leb}
+use Rattle.std.proofs.Common.{◌≡◌, ℕ, ◌+◌, ◌<◌, ◌≤◌, Bool, false, List, [], length, get_or, inl, inr, refl, sym, ap, subst, ◌∙◌, arith}
+use Rattle.std.proofs.lemmas.Bool.{cases_eq, cases_lt}
 use Rattle.nv_plain.specs.Files.{Files}
 use Rattle.nv_plain.specs.Images.{Image}
 use Rattle.nv_pmem.specs.Images.{IsPartImage}
@@ -12,10 +12,10 @@ use Rattle.nv_core.specs.state.Core.{Core}
 use Rattle.nv_core.specs.steps.Opening.{IsMount, opening}
 use Rattle.nv_core.specs.steps.Frames.{OwnEventsTell}
 use Rattle.nv_core.specs.steps.Order.{Values}
-use Rattle.nv_core.specs.invariant.ControlFacts.{HasDrawn}
+use Rattle.nv_core.specs.invariant.ControlFacts.{HasDrawn, PagesAt}
 use Rattle.nv_core.specs.invariant.InvariantLaws.{RunsAreSound}
 use Rattle.nv_core.specs.invariant.LogWindow.{InWindow}
-use Rattle.nv_core.specs.invariant.Ownership.{HoldsLocks, one_if, is_among}
+use Rattle.nv_core.specs.invariant.Ownership.{HoldsLocks}
 use Rattle.nv_core.specs.invariant.Sound.{Sound}
 use Rattle.nv_core.specs.content.Content.{Opens}
 use Rattle.nv_core.specs.crash.CrashImages.{HasRegion, OpensRegion, RunsKeepRegion}
@@ -40,33 +40,31 @@ use Rattle.nv_mount.specs.WholeWrites.{WasDrawn}
 use Rattle.nv_mount.proofs.DrawnGroups.{run_drawn}
 use Rattle.nv_mount.proofs.PlacedCalls.{AreNumbered, calls_are_numbered}
 use Rattle.nv_mount.proofs.WholeRunLaws.{all_taken, joined_then}
+use Rattle.nv_core.proofs.invariant.PageLists.{pages_once}
 
 -- ---- a pass that holds nothing has no write that is to be placed
 
-both_true : (a b : Bool) → a ≡ true → b ≡ true → (a && b) ≡ true
-both_true a b one other = ap₂ (λ x y. x && y) one other
-
-waits_not : (sizes : Sizes) (pass : Pass) (control : Control) → HoldsLocks sizes pass control → (IsFlying pass control → HasDrawn sizes pass.call pass.entries) → pass.owned ≡ []
+waits_not : (sizes : Sizes) (pass : Pass) (control : Control) → PagesAt sizes pass control → HoldsLocks sizes pass control → (IsFlying pass control → HasDrawn sizes pass.call pass.entries) → pass.owned ≡ []
     → is_waiting pass control ≡ false
-waits_not sizes pass TakePlace held drawn none = unless_true (is_write pass.call) (λ write.
+waits_not sizes pass TakePlace pages held drawn none = unless_true (is_write pass.call) (λ write.
     let has = drawn write in
     let many = has.many in
     let some = has.some in
     let first = first_page sizes pass.call in
     let end = end_page sizes pass.call in
     let less : first < end = omega (arith, many, some) in
-    let is : one_if (is_among first end first) ≡ 1 = ap one_if (both_true (nat_le first first) (nat_lt first end) (le-leb first first (omega arith)) (lt-ltb first end less)) in
+    let is = pages_once sizes pass.call pass.pages pages first (omega arith, less) in
     let holds = held (PAGE first) (λ slot. differ (PAGE first) (ENTRY slot) refl) in
     let zero_times : times (PAGE first) pass.owned ≡ 0 = ap (times (PAGE first)) none in
     omega (arith, is, holds, zero_times))
-waits_not sizes pass control held drawn none = refl
+waits_not sizes pass control pages held drawn none = refl
 
 pub none_to_place : (sizes : Sizes) (first : Values) (log : Log) (placed : ℕ → Bool) (core : Core) → Sound sizes first core → InFlight sizes log placed core
     → ((by : ℕ) → (core.passes by).owned ≡ []) → to_place core ≡ []
 none_to_place sizes first log placed core sound flight idle =
     rising_none (λ by. call_if (is_waiting (core.passes by) (core.passes by).control) (core.passes by).call) 0 (core.made + 1)
     (λ by low high. ap (λ b. call_if b (core.passes by).call)
-    (waits_not sizes (core.passes by) (core.passes by).control (sound.ownership by).locks (flight.drawn by) (idle by)))
+    (waits_not sizes (core.passes by) (core.passes by).control (sound.control_facts by).pages (sound.ownership by).locks (flight.drawn by) (idle by)))
 
 -- ---- where pass 0 holds nothing, and none of those that it took in does, no pass holds a cell
 

@@ -17,11 +17,11 @@ use Rattle.nv_plain.specs.declared.call.FileCall.{FileCall}
 use Rattle.nv_plain.specs.declared.call.FileCall.TheVariants.{Read, Write, Readv, Writev, Sync}
 use Rattle.nv_header.specs.Regions.{ReadsAs}
 use Rattle.nv_core.specs.state.Words.{Sizes, HEAD, TAIL, PAGE, ENTRY, slot_of_entry}
-use Rattle.nv_core.specs.state.Passes.{Cleaning, Control, Idle, SeizeEntry, CommitGroup, PledgePage, ReadyEntry, TakePlace, SetStopAfterCommit, Fault, Pass, IsOneOf, is_write, first_page, page_count, times, plain_call}
+use Rattle.nv_core.specs.state.Passes.{Cleaning, Control, Idle, SeizeEntry, CommitGroup, PledgePage, ReadyEntry, TakePlace, SetStopAfterCommit, Fault, Pass, IsOneOf, is_write, first_page, page_count, times, plain_call, pages_of}
 use Rattle.nv_core.specs.state.Core.{Core}
 use Rattle.nv_core.specs.steps.Frames.{OwnEventsTell}
 use Rattle.nv_core.specs.steps.Opening.{IsMount, opening}
-use Rattle.nv_core.specs.invariant.ControlFacts.{FactsAt, IsPage}
+use Rattle.nv_core.specs.invariant.ControlFacts.{FactsAt, IsPage, PagesAt}
 use Rattle.nv_core.specs.invariant.CleanerNumbers.{IsFreed}
 use Rattle.nv_core.specs.invariant.FaultedWrites.{HasChecked}
 use Rattle.nv_core.specs.invariant.Flights.{HasInFlight, FlightsAreNumbered, NoTwoInFlightOfAPage}
@@ -76,13 +76,22 @@ locks_at sizes pass TakePlace is held = held
 locks_at sizes pass SetStopAfterCommit is held = held
 locks_at sizes pass control is held = absurd is
 
+pages_at : (sizes : Sizes) (pass : Pass) (control : Control) → IsInFlight control → PagesAt sizes pass control → pass.pages ≡ pages_of sizes pass.call
+pages_at sizes pass (SeizeEntry number) is pages = pages
+pages_at sizes pass (CommitGroup calls) is pages = pages
+pages_at sizes pass (PledgePage page) is pages = pages
+pages_at sizes pass (ReadyEntry number) is pages = pages
+pages_at sizes pass TakePlace is pages = pages
+pages_at sizes pass SetStopAfterCommit is pages = pages
+pages_at sizes pass control is pages = absurd is
+
 first_of : (sizes : Sizes) (call : FileCall) → is_write call ≡ true → IsPage sizes call (first_page sizes call)
 first_of sizes call write = let some = write_pages sizes call write in (omega arith, omega (arith, some))
 
-flight_holds : (sizes : Sizes) (pass : Pass) → HoldsLocks sizes pass pass.control → IsInFlight pass.control → is_write pass.call ≡ true → pass.owned ≡ [] → ⊥
-flight_holds sizes pass held flies write none =
+flight_holds : (sizes : Sizes) (pass : Pass) → PagesAt sizes pass pass.control → HoldsLocks sizes pass pass.control → IsInFlight pass.control → is_write pass.call ≡ true → pass.owned ≡ [] → ⊥
+flight_holds sizes pass pages held flies write none =
     let page = first_page sizes pass.call in
-    let one = holds_page sizes pass page (first_of sizes pass.call write) (locks_at sizes pass pass.control flies held (PAGE page) (λ slot. differ (PAGE page) (ENTRY slot) refl)) in
+    let one = holds_page sizes pass page (pages_at sizes pass pass.control flies pages) (first_of sizes pass.call write) (locks_at sizes pass pass.control flies held (PAGE page) (λ slot. differ (PAGE page) (ENTRY slot) refl)) in
     let zero_times : times (PAGE page) pass.owned ≡ 0 = ap (times (PAGE page)) none in
     omega (arith, one, zero_times)
 
@@ -557,7 +566,7 @@ module _ (right : HistoriesAreMadeRight) (sound : RunsAreSound) (tell : OwnEvent
       }
       (λ past there write has. subst (λ (p : Pass). IsOneOf p.faulted write) (pass_is past there) (elim has.1 [
         | inr ended ↦ ended
-        | inl at ↦ absurd (flight_holds sizes (core.passes past.number) (is_sound.ownership past.number).locks at.0 (subst (λ (f : Fault). is_write f.call ≡ true) at.1 has.0)
+        | inl at ↦ absurd (flight_holds sizes (core.passes past.number) (is_sound.control_facts past.number).pages (is_sound.ownership past.number).locks at.0 (subst (λ (f : Fault). is_write f.call ≡ true) at.1 has.0)
             (none_hold sound view mount is_run zero_is knows all tell owned taken past.number))
       ]))
 

@@ -12,7 +12,7 @@ use Rattle.nv_core.specs.steps.StepKinds.{CleanerEnabled}
 use Rattle.nv_core.specs.invariant.ControlFacts.{FactsAt}
 use Rattle.nv_core.specs.invariant.DirtyCounters.{owed, owed_by_all}
 use Rattle.nv_core.specs.invariant.Sound.{Sound}
-use Rattle.nv_core.proofs.invariant.CleanerLocks.{count_drop}
+use Rattle.nv_core.proofs.invariant.PageLists.{count_drop}
 use Rattle.nv_core.proofs.state.Choices.{when_true, when_false}
 use Rattle.nv_core.proofs.state.TotalLaws.{total_at}
 use Rattle.nv_core.proofs.steps.CleanerOps.{tending, cleaner_hold_hand, cleans_hand, cleaner_return_hand}

@@ -1,10 +1,10 @@
 -- Buffers: what a step leaves of what its pass's pages have, and of what a read has gathered.
-use Rattle.std.proofs.Common.{◌≡◌, ◌≢◌, ℕ, ◌+◌, ◌^◌, ◌<◌, ◌≤◌, ◌==◌, nat_lt, nat_le, not, ◌&&◌, true, false, if◌then◌else◌, List, [], ◌∷◌, Option, inl, inr, refl, sym, ap, subst, ◌∙◌, arith}
+use Rattle.std.proofs.Common.{◌≡◌, ◌≢◌, ℕ, ◌+◌, ◌^◌, ◌≤◌, ◌==◌, nat_lt, nat_le, not, ◌&&◌, true, false, if◌then◌else◌, List, [], ◌∷◌, Option, inl, inr, refl, sym, ap, subst, ◌∙◌, arith}
 use Rattle.std.specs.Prelude.{Some, None}
 use Rattle.std.proofs.lemmas.Bool.{cases_lt, eq-eqb, ne_eqb}
 use Rattle.nv_plain.specs.declared.call.FileCall.{FileCall}
 use Rattle.nv_core.specs.state.Words.{Sizes, Word, STOP, ORDER, HEAD, TAIL, SIZE, LENGTH, STORE, ENTRY, PAGE, CLEANUP, DIRTY, ready, is_entry_of, same, HINT, CLEANER, HEADER, is_lock, slot_of_entry}
-use Rattle.nv_core.specs.state.Passes.{Control, Idle, LoadLength, TakeSize, LoadStop, LoadOrder, VisitPage, TakeCleanup, TakeStore, ReadStore, GiveStore, ReadLoadHead, ReadLoadTail, LoadEntry, HoldEntry, ReadPiece, ReturnEntry, GiveCleanup, WriteLoadHead, WriteLoadTail, DrawNumbers, SeizeEntry, CommitGroup, PledgePage, ReadyEntry, TakePlace, GrowLength, GiveSize, GivePage, GiveBack, SetStopAfterRead, SetStopAfterPiece, SetStopAfterCommit, BreakEntry, Pass, IsLastTaken, is_write, is_read, page_count, first_page, end_page, without, times, Searching, GiveVictim, Search}
+use Rattle.nv_core.specs.state.Passes.{Control, Idle, LoadLength, TakeSize, LoadStop, LoadOrder, VisitPage, TakeCleanup, TakeStore, ReadStore, GiveStore, ReadLoadHead, ReadLoadTail, LoadEntry, HoldEntry, ReadPiece, ReturnEntry, GiveCleanup, WriteLoadHead, WriteLoadTail, DrawNumbers, SeizeEntry, CommitGroup, PledgePage, ReadyEntry, TakePlace, GrowLength, GiveSize, GivePage, GiveBack, SetStopAfterRead, SetStopAfterPiece, SetStopAfterCommit, BreakEntry, Pass, IsLastTaken, is_write, is_read, page_count, first_page, end_page, without, times, Searching, GiveVictim, Search, pages_of}
 use Rattle.nv_core.specs.steps.Ops.{Op, Load, Take, Give, Place, Stop, Draw, Seize, Pledge, Ready, Grow, Break, Hold, Return, Stays, Comes, move_of, cleaner_move, moved, Turn, Hint, ByCleaner}
 use Rattle.nv_core.specs.state.Cleaner.{Batch, CleanerControl, TakeHeader, GiveStores, CleanerOp, TakeCleaner, Clean}
 use Rattle.nv_core.specs.state.Cleaner as cleaner
@@ -12,16 +12,17 @@ use Rattle.nv_core.specs.steps.CleanerSteps.{next_cleaner_op, group_page, group_
 use Rattle.nv_core.specs.steps.ControlSteps.{control_after, after_load, after_give, after_stop, after_head, after_tail, after_look, after_hold, after_return, scanning, leaving, giving, ending, ordered, copying, exceeds}
 use Rattle.nv_core.specs.steps.Order.{Values, IsFailing}
 use Rattle.nv_core.specs.steps.StepKinds.{MayLoad, MayTake, MayGive, CleanerEnabled, EnabledByKind}
-use Rattle.nv_core.specs.invariant.ControlFacts.{IsPage, FactsAt, IsElsewhere}
+use Rattle.nv_core.specs.invariant.ControlFacts.{IsPage, FactsAt, IsElsewhere, PagesAt}
 use Rattle.nv_core.specs.invariant.Ownership.{one_if, is_among, HoldsLocks}
 use Rattle.nv_core.specs.content.ValidBuffers.{patched_page, with_own_pieces}
 use Rattle.nv_core.proofs.state.Changes.{differ}
 use Rattle.nv_core.proofs.state.Choices.{if_both, when_true, when_false, leaving_both, IsGivingBack, gives_back, page_tried}
 use Rattle.nv_core.proofs.steps.CleanerControls.{tended, tended_to}
 use Rattle.nv_core.proofs.invariant.LockLaws.{times_here, times_else}
-use Rattle.nv_core.proofs.invariant.OwnershipLaws.{among_in, among_below, among_above}
 use Rattle.nv_core.proofs.content.FileLaws.{own_none}
 use Rattle.nv_core.proofs.steps.SearchLaws.{turned_at, looked_at, hinting_at, hinting_next, tried_at, hinted_at}
+use Rattle.nv_core.proofs.invariant.PageLists.{among_in, among_below, among_above, pages_among, pages_once, end_less}
+use Rattle.nv_core.specs.invariant.CleanerOwnership.{count_in}
 
 -- ---- which pages a pass holds
 
@@ -48,46 +49,44 @@ IsWhole TakePlace = Unit {0}
 IsWhole control = ⊥
 
 -- the victim of a search is no page of the call
-pub not_own : (sizes : Sizes) (call : FileCall) (buffer victim page : ℕ) → IsElsewhere sizes call (GiveVictim buffer victim) → IsPage sizes call page → page ≢ victim
-not_own sizes call buffer victim page other is e =
-    let inside : one_if (is_among (first_page sizes call) (end_page sizes call) page) ≡ 1 = among_in (first_page sizes call) (end_page sizes call) page is.0 is.1 in
-    let outside : one_if (is_among (first_page sizes call) (end_page sizes call) victim) ≡ 0 = when_false (is_among (first_page sizes call) (end_page sizes call) victim) 1 0 other in
-    let same = ap (λ p. one_if (is_among (first_page sizes call) (end_page sizes call) p)) e in omega (arith, inside, outside, same)
+pub not_own : (sizes : Sizes) (call : FileCall) (pages : List ℕ) → pages ≡ pages_of sizes call → (buffer victim page : ℕ) → IsElsewhere pages (GiveVictim buffer victim) → IsPage sizes call page → page ≢ victim
+not_own sizes call pages all buffer victim page other is e =
+    let inside = pages_once sizes call pages all page is in let same = ap (count_in pages) e in omega (arith, inside, other, same)
 
-whole_pages : (sizes : Sizes) (pass : Pass) (control : Control) → IsWhole control → HoldsLocks sizes pass control → (page : ℕ) → times (PAGE page) pass.owned ≡ one_if (is_among (first_page sizes pass.call) (end_page sizes pass.call) page)
-whole_pages sizes pass LoadOrder whole held page = held (PAGE page) (λ slot. differ (PAGE page) (ENTRY slot) refl)
-whole_pages sizes pass (VisitPage next) whole held page = held (PAGE page) (λ slot. differ (PAGE page) (ENTRY slot) refl)
-whole_pages sizes pass (TakeCleanup next) whole held page = held (PAGE page) (λ slot. differ (PAGE page) (ENTRY slot) refl)
-whole_pages sizes pass (TakeStore next dirty) whole held page = held (PAGE page) (λ slot. differ (PAGE page) (ENTRY slot) refl)
-whole_pages sizes pass (ReadStore next dirty) whole held page = held (PAGE page) (λ slot. differ (PAGE page) (ENTRY slot) refl)
-whole_pages sizes pass (GiveStore next dirty) whole held page = held (PAGE page) (λ slot. differ (PAGE page) (ENTRY slot) refl)
-whole_pages sizes pass (ReadLoadHead next) whole held page = held (PAGE page) (λ slot. differ (PAGE page) (ENTRY slot) refl)
-whole_pages sizes pass (ReadLoadTail next) whole held page = held (PAGE page) (λ slot. differ (PAGE page) (ENTRY slot) refl)
-whole_pages sizes pass (LoadEntry next number) whole held page = held (PAGE page) (λ slot. differ (PAGE page) (ENTRY slot) refl)
-whole_pages sizes pass (HoldEntry next number) whole held page = held (PAGE page) (λ slot. differ (PAGE page) (ENTRY slot) refl)
-whole_pages sizes pass (ReadPiece next number) whole held page = held (PAGE page) (λ slot. differ (PAGE page) (ENTRY slot) refl)
-whole_pages sizes pass (ReturnEntry next number failed) whole held page = held (PAGE page) (λ slot. differ (PAGE page) (ENTRY slot) refl)
-whole_pages sizes pass (GiveCleanup next) whole held page = held (PAGE page) (λ slot. differ (PAGE page) (ENTRY slot) refl)
-whole_pages sizes pass (SetStopAfterPiece next number) whole held page = held (PAGE page) (λ slot. differ (PAGE page) (ENTRY slot) refl)
-whole_pages sizes pass (CommitGroup calls) whole held page = held (PAGE page) (λ slot. differ (PAGE page) (ENTRY slot) refl)
-whole_pages sizes pass (PledgePage next) whole held page = held (PAGE page) (λ slot. differ (PAGE page) (ENTRY slot) refl)
-whole_pages sizes pass (ReadyEntry number) whole held page = held (PAGE page) (λ slot. differ (PAGE page) (ENTRY slot) refl)
-whole_pages sizes pass TakePlace whole held page = held (PAGE page) (λ slot. differ (PAGE page) (ENTRY slot) refl)
-whole_pages sizes pass control whole held page = absurd whole
+whole_pages : (sizes : Sizes) (pass : Pass) (control : Control) → IsWhole control → PagesAt sizes pass control → HoldsLocks sizes pass control → (page : ℕ) → times (PAGE page) pass.owned ≡ one_if (is_among (first_page sizes pass.call) (end_page sizes pass.call) page)
+whole_pages sizes pass LoadOrder whole pages held page = held (PAGE page) (λ slot. differ (PAGE page) (ENTRY slot) refl) ∙ pages_among sizes pass.call pass.pages pages page
+whole_pages sizes pass (VisitPage next) whole pages held page = held (PAGE page) (λ slot. differ (PAGE page) (ENTRY slot) refl) ∙ pages_among sizes pass.call pass.pages pages page
+whole_pages sizes pass (TakeCleanup next) whole pages held page = held (PAGE page) (λ slot. differ (PAGE page) (ENTRY slot) refl) ∙ pages_among sizes pass.call pass.pages pages page
+whole_pages sizes pass (TakeStore next dirty) whole pages held page = held (PAGE page) (λ slot. differ (PAGE page) (ENTRY slot) refl) ∙ pages_among sizes pass.call pass.pages pages page
+whole_pages sizes pass (ReadStore next dirty) whole pages held page = held (PAGE page) (λ slot. differ (PAGE page) (ENTRY slot) refl) ∙ pages_among sizes pass.call pass.pages pages page
+whole_pages sizes pass (GiveStore next dirty) whole pages held page = held (PAGE page) (λ slot. differ (PAGE page) (ENTRY slot) refl) ∙ pages_among sizes pass.call pass.pages pages page
+whole_pages sizes pass (ReadLoadHead next) whole pages held page = held (PAGE page) (λ slot. differ (PAGE page) (ENTRY slot) refl) ∙ pages_among sizes pass.call pass.pages pages page
+whole_pages sizes pass (ReadLoadTail next) whole pages held page = held (PAGE page) (λ slot. differ (PAGE page) (ENTRY slot) refl) ∙ pages_among sizes pass.call pass.pages pages page
+whole_pages sizes pass (LoadEntry next number) whole pages held page = held (PAGE page) (λ slot. differ (PAGE page) (ENTRY slot) refl) ∙ pages_among sizes pass.call pass.pages pages page
+whole_pages sizes pass (HoldEntry next number) whole pages held page = held (PAGE page) (λ slot. differ (PAGE page) (ENTRY slot) refl) ∙ pages_among sizes pass.call pass.pages pages page
+whole_pages sizes pass (ReadPiece next number) whole pages held page = held (PAGE page) (λ slot. differ (PAGE page) (ENTRY slot) refl) ∙ pages_among sizes pass.call pass.pages pages page
+whole_pages sizes pass (ReturnEntry next number failed) whole pages held page = held (PAGE page) (λ slot. differ (PAGE page) (ENTRY slot) refl) ∙ pages_among sizes pass.call pass.pages pages page
+whole_pages sizes pass (GiveCleanup next) whole pages held page = held (PAGE page) (λ slot. differ (PAGE page) (ENTRY slot) refl) ∙ pages_among sizes pass.call pass.pages pages page
+whole_pages sizes pass (SetStopAfterPiece next number) whole pages held page = held (PAGE page) (λ slot. differ (PAGE page) (ENTRY slot) refl) ∙ pages_among sizes pass.call pass.pages pages page
+whole_pages sizes pass (CommitGroup calls) whole pages held page = held (PAGE page) (λ slot. differ (PAGE page) (ENTRY slot) refl) ∙ pages_among sizes pass.call pass.pages pages page
+whole_pages sizes pass (PledgePage next) whole pages held page = held (PAGE page) (λ slot. differ (PAGE page) (ENTRY slot) refl) ∙ pages_among sizes pass.call pass.pages pages page
+whole_pages sizes pass (ReadyEntry number) whole pages held page = held (PAGE page) (λ slot. differ (PAGE page) (ENTRY slot) refl) ∙ pages_among sizes pass.call pass.pages pages page
+whole_pages sizes pass TakePlace whole pages held page = held (PAGE page) (λ slot. differ (PAGE page) (ENTRY slot) refl) ∙ pages_among sizes pass.call pass.pages pages page
+whole_pages sizes pass control whole pages held page = absurd whole
 
 -- one in a search holds them too
-pub searching_holds : (sizes : Sizes) (pass : Pass) (missed tries : ℕ) (search : Search) → FactsAt sizes pass (Searching missed tries search) → HoldsLocks sizes pass (Searching missed tries search) → (page : ℕ) → IsPage sizes pass.call page → times (PAGE page) pass.owned ≡ 1
-searching_holds sizes pass missed tries (GiveVictim buffer victim) stands held page is =
-    let a = held (PAGE page) (λ slot. differ (PAGE page) (ENTRY slot) refl) in let b = among_in (first_page sizes pass.call) (end_page sizes pass.call) page is.0 is.1 in
-    let c : one_if (page == victim) ≡ 0 = when_false (page == victim) 1 0 (ne_eqb page victim (not_own sizes pass.call buffer victim page stands.2 is)) in omega (arith, a, b, c)
-searching_holds sizes pass missed tries search stands held page is = held (PAGE page) (λ slot. differ (PAGE page) (ENTRY slot) refl) ∙ among_in (first_page sizes pass.call) (end_page sizes pass.call) page is.0 is.1
+pub searching_holds : (sizes : Sizes) (pass : Pass) (missed tries : ℕ) (search : Search) → FactsAt sizes pass (Searching missed tries search) → PagesAt sizes pass (Searching missed tries search) → HoldsLocks sizes pass (Searching missed tries search) → (page : ℕ) → IsPage sizes pass.call page → times (PAGE page) pass.owned ≡ 1
+searching_holds sizes pass missed tries (GiveVictim buffer victim) stands pages held page is =
+    let a = held (PAGE page) (λ slot. differ (PAGE page) (ENTRY slot) refl) in let b = pages_once sizes pass.call pass.pages pages page is in
+    let c : one_if (page == victim) ≡ 0 = when_false (page == victim) 1 0 (ne_eqb page victim (not_own sizes pass.call pass.pages pages buffer victim page stands.2 is)) in omega (arith, a, b, c)
+searching_holds sizes pass missed tries search stands pages held page is = held (PAGE page) (λ slot. differ (PAGE page) (ENTRY slot) refl) ∙ pages_once sizes pass.call pass.pages pages page is
 
-pub whole_holds : (sizes : Sizes) (pass : Pass) (control : Control) → IsWhole control → HoldsLocks sizes pass control → (page : ℕ) → IsPage sizes pass.call page → times (PAGE page) pass.owned ≡ 1
-whole_holds sizes pass control whole held page is = whole_pages sizes pass control whole held page ∙ among_in (first_page sizes pass.call) (end_page sizes pass.call) page is.0 is.1
+pub whole_holds : (sizes : Sizes) (pass : Pass) (control : Control) → IsWhole control → PagesAt sizes pass control → HoldsLocks sizes pass control → (page : ℕ) → IsPage sizes pass.call page → times (PAGE page) pass.owned ≡ 1
+whole_holds sizes pass control whole pages held page is = whole_pages sizes pass control whole pages held page ∙ among_in (first_page sizes pass.call) (end_page sizes pass.call) page is.0 is.1
 
-pub whole_page : (sizes : Sizes) (pass : Pass) (control : Control) → IsWhole control → HoldsLocks sizes pass control → (page : ℕ) → times (PAGE page) pass.owned ≡ 1 → IsPage sizes pass.call page
-whole_page sizes pass control whole held page has =
-    let is = whole_pages sizes pass control whole held page in
+pub whole_page : (sizes : Sizes) (pass : Pass) (control : Control) → IsWhole control → PagesAt sizes pass control → HoldsLocks sizes pass control → (page : ℕ) → times (PAGE page) pass.owned ≡ 1 → IsPage sizes pass.call page
+whole_page sizes pass control whole pages held page has =
+    let is = whole_pages sizes pass control whole pages held page in
     elim (cases_lt page (first_page sizes pass.call)) [
       | inl below ↦ absurd (let a = among_below (first_page sizes pass.call) (end_page sizes pass.call) page below in omega (arith, is, has, a))
       | inr low ↦ elim (cases_lt page (end_page sizes pass.call)) [
@@ -101,15 +100,18 @@ last_held : (cell : Word) (owned : List Word) → IsLastTaken cell owned → 1 �
 last_held cell [] last = absurd last
 last_held cell (first ∷ rest) last = subst (λ w. 1 ≤ times cell (w ∷ rest)) (sym last) (let t = times_here cell rest in omega (arith, t))
 
-pub page_given : (sizes : Sizes) (pass : Pass) (page : ℕ) (control : Control) → ((next : ℕ) → control ≡ GivePage next → next < end_page sizes pass.call) → HoldsLocks sizes pass control → MayGive pass (PAGE page) control → 1 ≤ times (PAGE page) pass.owned
-page_given sizes pass page (GivePage next) below held may =
-    let a = held (PAGE page) (λ slot. differ (PAGE page) (ENTRY slot) refl) in
-    let b = subst (λ p. one_if (is_among next (end_page sizes pass.call) p) ≡ 1) (sym may) (among_in next (end_page sizes pass.call) next (omega arith) (below next refl)) in omega (arith, a, b)
-page_given sizes pass page (Searching missed tries (GiveVictim buffer victim)) below held may =
+pub page_given : (sizes : Sizes) (pass : Pass) (page : ℕ) (control : Control) → ((next : ℕ) → control ≡ GivePage next → IsPage sizes pass.call next) → PagesAt sizes pass control → HoldsLocks sizes pass control → MayGive pass (PAGE page) control → 1 ≤ times (PAGE page) pass.owned
+page_given sizes pass page (GivePage next) on pages held may =
+    subst (λ p. 1 ≤ times (PAGE p) pass.owned) (sym may) (
+    let a = held (PAGE next) (λ slot. differ (PAGE next) (ENTRY slot) refl) in
+    let b = end_less sizes pass.call pass.pages pages next next (on next refl) in
+    let c : one_if (next == next) ≡ 1 = when_true (next == next) 1 0 (eq-eqb next next refl) in omega (arith, a, b, c)
+    )
+page_given sizes pass page (Searching missed tries (GiveVictim buffer victim)) on pages held may =
     let a = held (PAGE page) (λ slot. differ (PAGE page) (ENTRY slot) refl) in
     let b : one_if (page == victim) ≡ 1 = when_true (page == victim) 1 0 (eq-eqb page victim may) in omega (arith, a, b)
-page_given sizes pass page GiveBack below held may = last_held (PAGE page) pass.owned may
-page_given sizes pass page control below held may = absurd may
+page_given sizes pass page GiveBack on pages held may = last_held (PAGE page) pass.owned may
+page_given sizes pass page control on pages held may = absurd may
 
 pub less_times : (cell other : Word) (owned : List Word) → times cell (without other owned) ≤ times cell owned
 less_times cell other [] = omega arith

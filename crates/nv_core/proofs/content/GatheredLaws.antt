@@ -10,7 +10,7 @@ use Rattle.nv_core.specs.steps.Ops.{Op, Load, Take, Give, Place, Stop, Draw, Sei
 use Rattle.nv_core.specs.steps.ControlSteps.{control_after, after_load, after_give, after_stop, after_head, after_tail, after_look, after_hold, after_return, scanning, leaving, giving, ending, ordered, copying, exceeds}
 use Rattle.nv_core.specs.steps.Order.{Values, IsFailing, page_bytes}
 use Rattle.nv_core.specs.steps.StepKinds.{MayLoad, MayTake, IsMiss, JustNow, AfterTries, EnabledByKind}
-use Rattle.nv_core.specs.invariant.ControlFacts.{FactsAt, IsPage}
+use Rattle.nv_core.specs.invariant.ControlFacts.{FactsAt, IsPage, PagesAt}
 use Rattle.nv_core.specs.invariant.Ownership.{HoldsLocks}
 use Rattle.nv_core.specs.content.ValidBuffers.{Gathered, Halfway, GatheredAt}
 use Rattle.nv_core.proofs.steps.CleanerControls.{tended_to}
@@ -42,29 +42,29 @@ module _ (sizes : Sizes) (now later : ℕ → List ℕ) (values others : Values)
   )
 
   -- where the pages that the pass holds and what they have stay the same
-  pub gathered_same : (control : Control) → FactsAt sizes pass control → HoldsLocks sizes pass control → ((page : ℕ) → times (PAGE page) pass.owned ≡ 1 → (others (PAGE page) ≡ values (PAGE page)) × (later page ≡ now page))
+  pub gathered_same : (control : Control) → FactsAt sizes pass control → PagesAt sizes pass control → HoldsLocks sizes pass control → ((page : ℕ) → times (PAGE page) pass.owned ≡ 1 → (others (PAGE page) ≡ values (PAGE page)) × (later page ≡ now page))
       → GatheredAt sizes now values pass.call pass.fetched control → GatheredAt sizes later others pass.call pass.fetched control
-  gathered_same (VisitPage next) stands held same was = more next (whole_holds sizes pass (VisitPage next) tt held) same was
-  gathered_same (TakeCleanup next) stands held same was = more next (whole_holds sizes pass (TakeCleanup next) tt held) same was
-  gathered_same (TakeStore next dirty) stands held same was = more next (whole_holds sizes pass (TakeStore next dirty) tt held) same was
-  gathered_same (ReadStore next dirty) stands held same was = more next (whole_holds sizes pass (ReadStore next dirty) tt held) same was
-  gathered_same (GiveStore next false) stands held same was = more (next + 1) (whole_holds sizes pass (GiveStore next false) tt held) same was
-  gathered_same (GiveStore next true) stands held same was = half next (whole_holds sizes pass (GiveStore next true) tt held) same was
-  gathered_same (ReadLoadHead next) stands held same was = half next (whole_holds sizes pass (ReadLoadHead next) tt held) same was
-  gathered_same (ReadLoadTail next) stands held same was = half next (whole_holds sizes pass (ReadLoadTail next) tt held) same was
-  gathered_same (LoadEntry next number) stands held same was = half next (whole_holds sizes pass (LoadEntry next number) tt held) same was
-  gathered_same (HoldEntry next number) stands held same was = half next (whole_holds sizes pass (HoldEntry next number) tt held) same was
-  gathered_same (ReadPiece next number) stands held same was = half next (whole_holds sizes pass (ReadPiece next number) tt held) same was
-  gathered_same (ReturnEntry next number false) stands held same was = half next (whole_holds sizes pass (ReturnEntry next number false) tt held) same was
-  gathered_same (GiveCleanup next) stands held same was = half next (whole_holds sizes pass (GiveCleanup next) tt held) same was
-  gathered_same (TakePage page) stands held same was = was
-  gathered_same LoadLength stands held same was = was
-  gathered_same TakeSize stands held same was = was
-  gathered_same LoadStop stands held same was = was
-  gathered_same LoadOrder stands held same was = was
-  gathered_same TakePlace stands held same was = was
-  gathered_same (Searching next tries search) stands held same was = more next (searching_holds sizes pass next tries search stands held) same was
-  gathered_same control stands held same was = tt
+  gathered_same (VisitPage next) stands pages held same was = more next (whole_holds sizes pass (VisitPage next) tt pages held) same was
+  gathered_same (TakeCleanup next) stands pages held same was = more next (whole_holds sizes pass (TakeCleanup next) tt pages held) same was
+  gathered_same (TakeStore next dirty) stands pages held same was = more next (whole_holds sizes pass (TakeStore next dirty) tt pages held) same was
+  gathered_same (ReadStore next dirty) stands pages held same was = more next (whole_holds sizes pass (ReadStore next dirty) tt pages held) same was
+  gathered_same (GiveStore next false) stands pages held same was = more (next + 1) (whole_holds sizes pass (GiveStore next false) tt pages held) same was
+  gathered_same (GiveStore next true) stands pages held same was = half next (whole_holds sizes pass (GiveStore next true) tt pages held) same was
+  gathered_same (ReadLoadHead next) stands pages held same was = half next (whole_holds sizes pass (ReadLoadHead next) tt pages held) same was
+  gathered_same (ReadLoadTail next) stands pages held same was = half next (whole_holds sizes pass (ReadLoadTail next) tt pages held) same was
+  gathered_same (LoadEntry next number) stands pages held same was = half next (whole_holds sizes pass (LoadEntry next number) tt pages held) same was
+  gathered_same (HoldEntry next number) stands pages held same was = half next (whole_holds sizes pass (HoldEntry next number) tt pages held) same was
+  gathered_same (ReadPiece next number) stands pages held same was = half next (whole_holds sizes pass (ReadPiece next number) tt pages held) same was
+  gathered_same (ReturnEntry next number false) stands pages held same was = half next (whole_holds sizes pass (ReturnEntry next number false) tt pages held) same was
+  gathered_same (GiveCleanup next) stands pages held same was = half next (whole_holds sizes pass (GiveCleanup next) tt pages held) same was
+  gathered_same (TakePage page) stands pages held same was = was
+  gathered_same LoadLength stands pages held same was = was
+  gathered_same TakeSize stands pages held same was = was
+  gathered_same LoadStop stands pages held same was = was
+  gathered_same LoadOrder stands pages held same was = was
+  gathered_same TakePlace stands pages held same was = was
+  gathered_same (Searching next tries search) stands pages held same was = more next (searching_holds sizes pass next tries search stands pages held) same was
+  gathered_same control stands pages held same was = tt
 
 -- ---- the pass's own steps
 

@@ -19,7 +19,7 @@ use Rattle.nv_core.specs.steps.Order.{Values, Work, CallEnabled, IsFailing, Call
 use Rattle.nv_core.specs.steps.StepKinds.{MayTake, EnabledByKind}
 use Rattle.nv_core.specs.state.Core.{Core, changes, changed_pass, after_step, after_begin, after_work, worked, control_worked, fetched_worked}
 use Rattle.nv_core.proofs.steps.ByKind.{FoundEnabledByKind}
-use Rattle.nv_core.specs.invariant.ControlFacts.{FactsAt, ReadsPage, CleanerFactsAt}
+use Rattle.nv_core.specs.invariant.ControlFacts.{FactsAt, ReadsPage, CleanerFactsAt, PagesAt}
 use Rattle.nv_core.specs.invariant.Ownership.{HoldsLocks, one_if}
 use Rattle.nv_core.specs.invariant.LogWindow.{InWindow, entry_word_at}
 use Rattle.nv_core.specs.invariant.Loaded.{LooksSound}
@@ -39,7 +39,7 @@ use Rattle.nv_core.specs.log.Written.{IsPart, IsWritten}
 use Rattle.nv_core.specs.log.EntryImages.{EntryImages}
 use Rattle.nv_core.specs.log.LivePieces.{is_ready, store_bytes, store_files}
 use Rattle.nv_core.specs.content.PatchedPages.{is_on, patched_from, IsStill}
-use Rattle.nv_core.specs.content.PatchedReads.{in_window_from, HasStores, LacksFrom, HasAll, PatchedAt, PatchedReads}
+use Rattle.nv_core.specs.content.PatchedReads.{HasAll, in_window_from, HasStores, LacksFrom, PatchedAt, PatchedReads}
 use Rattle.nv_core.specs.log.LogContent.{LogContent}
 use Rattle.nv_core.specs.invariant.Sound.{Sound}
 use Rattle.nv_core.specs.content.PlainLaws.{PlainLaws}
@@ -72,7 +72,7 @@ page_stays plain sizes first opening core by (Place reply) found count sound may
     ap (λ f. page_in sizes f page) (files_placed plain sizes first opening by core reply sound)
     ∙ page_else plain sizes (core.passes by).call (files_now opening core) page ((sound.control_facts by).allowed (step_idle sizes core.values (core.passes by) (Place reply) may.may))
     (known_file plain sizes first opening by core (Place reply) sound count may.may)
-    (λ is. let h = whole_holds sizes (core.passes by) (core.passes by).control (place_whole sizes core.values (core.passes by) reply (core.passes by).control may.may) (sound.ownership by).locks page is in omega (arith, h, none))
+    (λ is. let h = whole_holds sizes (core.passes by) (core.passes by).control (place_whole sizes core.values (core.passes by) reply (core.passes by).control may.may) (sound.control_facts by).pages (sound.ownership by).locks page is in omega (arith, h, none))
 page_stays plain sizes first opening core by op found count sound may page none = ap (λ h. page_in sizes (after h opening) page) (same_history by core op tt)
 
 -- ---- what a read has with its page, by where it stands
@@ -102,7 +102,7 @@ module _ (sizes : Sizes) (first : Values) (log : Log) (opening : Files) (core : 
       → (HoldsLocks sizes (core.passes n) control → times (CLEANUP page) (core.passes n).owned ≡ one_if (page == page)) → IsReading core (core.passes n) page
   reading_at n control whole at page reads cleans = (
     reads.0,
-    whole_holds sizes (core.passes n) control whole (subst (HoldsLocks sizes (core.passes n)) at (sound.ownership n).locks) page reads.1,
+    whole_holds sizes (core.passes n) control whole (subst (PagesAt sizes (core.passes n)) at (sound.control_facts n).pages) (subst (HoldsLocks sizes (core.passes n)) at (sound.ownership n).locks) page reads.1,
     cleans (subst (HoldsLocks sizes (core.passes n)) at (sound.ownership n).locks) ∙ ap one_if (eq-eqb page page refl),
   )
 

@@ -17,7 +17,7 @@ use Rattle.nv_core.specs.steps.StepKinds.{MayGive, MayPlace, CleanerEnabled}
 use Rattle.nv_core.specs.state.Core.{Core, changes, changed_pass, with_value, after_step, after_begin, after_work, worked, control_worked, fetched_worked, values_given, values_stepped, values_read, values_worked, values_robbed}
 use Rattle.nv_core.specs.steps.Events.{CallMayBegin}
 use Rattle.nv_core.proofs.steps.ByKind.{FoundEnabledByKind}
-use Rattle.nv_core.specs.invariant.ControlFacts.{FactsAt}
+use Rattle.nv_core.specs.invariant.ControlFacts.{FactsAt, PagesAt}
 use Rattle.nv_core.specs.invariant.Ownership.{HoldsLocks}
 use Rattle.nv_core.specs.invariant.Loaded.{SawClean}
 use Rattle.nv_core.specs.content.StorePages.{store_of_value, StoresTell, StorePages}
@@ -41,7 +41,7 @@ use Rattle.nv_core.proofs.content.FileLaws.{own_none, page_placed, page_else, pa
 use Rattle.nv_core.proofs.steps.Placed.{IsUnplaced, same_history}
 use Rattle.nv_core.proofs.content.BufferLaws.{not_own, IsWhole, whole_holds, whole_page, page_given, no_more, IsUnpatched, unpatched, giving_back, IsKeeping, IsUnfilling, plain_after, patch_stays, old_ending, by_cleaner_no_more}
 use Rattle.nv_core.proofs.state.ValueLaws.{robbed_valid, IsUnmoving}
-use Rattle.nv_core.proofs.invariant.KeepsSearches.{robbed_apart, rob_stands, rob_others}
+use Rattle.nv_core.proofs.invariant.KeepsSearches.{robbed_apart, rob_stands, rob_others, rob_pages}
 use Rattle.nv_core.proofs.content.GatheredLaws.{gathered_same, gathered_on, AreRight, at_ending, page_bytes_same}
 
 -- ---- a step that neither places nor pledges
@@ -91,7 +91,7 @@ free_after sizes first opening by core found (Give cell) keeping sound may was p
     by_word (λ w v. w ≡ PAGE page → v ≡ 0 → HasNow sizes opening core page) core.words cell 0
     (λ e z valid. let gives : MayGive (core.passes by) (PAGE page) (core.passes by).control = subst (λ w. MayGive (core.passes by) w (core.passes by).control) e may.may in
     was.held by page (once sizes first core sound by page (page_given sizes (core.passes by) page (core.passes by).control
-    (λ next is. let s : FactsAt sizes (core.passes by) (GivePage next) = subst (FactsAt sizes (core.passes by)) is (sound.control_facts by).at in s.1) (sound.ownership by).locks gives)) valid
+    (λ next is. let s : FactsAt sizes (core.passes by) (GivePage next) = subst (FactsAt sizes (core.passes by)) is (sound.control_facts by).at in s) (sound.control_facts by).pages (sound.ownership by).locks gives)) valid
     ∙ unpatched sizes (core.passes by).call (core.passes by).control page (page_now sizes opening core page) (giving_back (core.passes by).control (gives_back (core.passes by) cell (core.passes by).control may.may)))
     (λ w ne e z. was.free page (ap core.words (sym e) ∙ z)) (PAGE page) refl free
 free_after sizes first opening by core found (Place reply) keeping sound may was page free = absurd keeping
@@ -148,7 +148,7 @@ held_after sizes first opening by core found op keeping sound may was page has v
 ordering_right : (sizes : Sizes) (first : Values) (opening : Files) (by : ℕ) (core : Core) → Sound sizes first core → ValidBuffers sizes opening core → (control : Control) → IsWhole control → IsUnpatched control → (core.passes by).control ≡ control
     → AreRight sizes (page_now sizes opening core) core.values (core.passes by).call
 ordering_right sizes first opening by core sound was control whole un at page is valid =
-    was.held by page (whole_holds sizes (core.passes by) control whole (subst (HoldsLocks sizes (core.passes by)) at (sound.ownership by).locks) page is) valid
+    was.held by page (whole_holds sizes (core.passes by) control whole (subst (PagesAt sizes (core.passes by)) at (sound.control_facts by).pages) (subst (HoldsLocks sizes (core.passes by)) at (sound.ownership by).locks) page is) valid
     ∙ unpatched sizes (core.passes by).call (core.passes by).control page (page_now sizes opening core page) (subst IsUnpatched (sym at) un)
 
 abbrev HasGathered : Sizes → Files → Core → Pass → Type 0
@@ -182,7 +182,7 @@ buffers_robbed sizes first opening by core found cell sound was kept (Searching 
   held = λ n page has valid. let same = robbed_valid (Searching missed tries (GiveVictim buffer victim)) core.values (PAGE page) valid in ap bytes_in same ∙ kept.held n page has (sym (ap is_valid same) ∙ valid);
   gathered = by_number (λ n (p : Pass). GatheredAt sizes (page_now sizes opening core) later p.call p.fetched p.control) core.passes by (changed_pass sizes by core (Give cell) found)
       (subst (λ s. GatheredAt sizes (page_now sizes opening core) later (core.passes by).call (core.passes by).fetched (after_give sizes (core.passes by) cell s)) (sym at) own)
-      (λ n ne. gathered_same sizes (page_now sizes opening core) (page_now sizes opening core) core.values later (core.passes n) (core.passes n).control (sound.control_facts n).at (sound.ownership n).locks
+      (λ n ne. gathered_same sizes (page_now sizes opening core) (page_now sizes opening core) core.values later (core.passes n) (core.passes n).control (sound.control_facts n).at (sound.control_facts n).pages (sound.ownership n).locks
       (λ page has. (rob_others sizes first by core missed tries buffer victim sound at n page ne (omega (arith, has)), refl)) (was.gathered n));
 }
   where
@@ -196,7 +196,7 @@ buffers_robbed sizes first opening by core found cell sound was kept (Searching 
     own page is passed = elim passed [
       | inl low ↦
           page_bytes_same (core.passes by).fetched core.values (values_robbed (Searching missed tries (GiveVictim buffer victim)) core.values) page
-          (robbed_apart missed tries buffer victim core.values page (λ e. omega (arith, e, low)) (not_own sizes (core.passes by).call buffer victim page (rob_stands sizes first by core missed tries buffer victim sound at).2 is))
+          (robbed_apart missed tries buffer victim core.values page (λ e. omega (arith, e, low)) (not_own sizes (core.passes by).call (core.passes by).pages (rob_pages sizes first by core missed tries buffer victim sound at) buffer victim page (rob_stands sizes first by core missed tries buffer victim sound at).2 is))
           ∙ before page is (inl low)
       | inr valid ↦
           let same = robbed_valid (Searching missed tries (GiveVictim buffer victim)) core.values (PAGE page) valid in
@@ -252,12 +252,12 @@ module _ (plain : PlainLaws) (sizes : Sizes) (first : Values) (opening : Files) 
   now_else page none =
       ap (λ f. page_in sizes f page) (files_placed plain sizes first opening by core reply sound)
       ∙ page_else plain sizes (core.passes by).call (files_now opening core) page allowed there
-      (λ is. let h = whole_holds sizes (core.passes by) (core.passes by).control whole (sound.ownership by).locks page is in omega (arith, h, none))
+      (λ is. let h = whole_holds sizes (core.passes by) (core.passes by).control whole (sound.control_facts by).pages (sound.ownership by).locks page is in omega (arith, h, none))
 
   now_own : (page : ℕ) → times (PAGE page) (core.passes by).owned ≡ 1 → page_now sizes opening (after_step sizes by (Place reply) found core) page ≡ with_own_pieces sizes (core.passes by).call page (page_now sizes opening core page)
   now_own page has =
       ap (λ f. page_in sizes f page) (files_placed plain sizes first opening by core reply sound)
-      ∙ page_placed plain sizes (core.passes by).call (files_now opening core) page allowed there (whole_page sizes (core.passes by) (core.passes by).control whole (sound.ownership by).locks page has)
+      ∙ page_placed plain sizes (core.passes by).call (files_now opening core) page allowed there (whole_page sizes (core.passes by) (core.passes by).control whole (sound.control_facts by).pages (sound.ownership by).locks page has)
 
   unpatched_then : (page : ℕ) (old : List ℕ) → patched_page sizes (core.passes by).call (changed_pass sizes by core (Place reply) found).control page old ≡ old
   unpatched_then page old = if_both (λ s. patched_page sizes (core.passes by).call s page old ≡ old) (is_write (core.passes by).call && exceeds (core.passes by) (core.passes by).length) GrowLength (ending sizes (core.passes by))
@@ -280,7 +280,7 @@ module _ (plain : PlainLaws) (sizes : Sizes) (first : Values) (opening : Files) 
     gathered = by_number (λ n (p : Pass). HasGathered sizes opening (after_step sizes by (Place reply) found core) p) core.passes by (changed_pass sizes by core (Place reply) found)
         (if_both (GatheredAt sizes (page_now sizes opening (after_step sizes by (Place reply) found core)) core.values (core.passes by).call (core.passes by).fetched) (is_write (core.passes by).call && exceeds (core.passes by) (core.passes by).length)
         GrowLength (ending sizes (core.passes by)) (λ _. tt) (λ _. at_ending sizes (page_now sizes opening (after_step sizes by (Place reply) found core)) core.values (core.passes by)))
-        (λ n ne. gathered_same sizes (page_now sizes opening core) (page_now sizes opening (after_step sizes by (Place reply) found core)) core.values core.values (core.passes n) (core.passes n).control (sound.control_facts n).at (sound.ownership n).locks
+        (λ n ne. gathered_same sizes (page_now sizes opening core) (page_now sizes opening (after_step sizes by (Place reply) found core)) core.values core.values (core.passes n) (core.passes n).control (sound.control_facts n).at (sound.control_facts n).pages (sound.ownership n).locks
         (λ page has. (refl, now_else page (others_none sizes first core sound page n by has (λ e. ne (sym e))))) (was.gathered n));
   }
 
@@ -303,8 +303,11 @@ module _ (sizes : Sizes) (first : Values) (opening : Files) (by : ℕ) (core : C
   locks : HoldsLocks sizes (core.passes by) (PledgePage own)
   locks = subst (HoldsLocks sizes (core.passes by)) may.may (sound.ownership by).locks
 
+  pages_own : PagesAt sizes (core.passes by) (PledgePage own)
+  pages_own = subst (PagesAt sizes (core.passes by)) may.may (sound.control_facts by).pages
+
   has_own : times (PAGE own) (core.passes by).owned ≡ 1
-  has_own = pledged_page sizes (core.passes by) own (subst (FactsAt sizes (core.passes by)) may.may (sound.control_facts by).at) locks
+  has_own = pledged_page sizes (core.passes by) own (subst (FactsAt sizes (core.passes by)) may.may (sound.control_facts by).at) pages_own locks
 
   -- the buffers of other pages stay
   value_else : (page : ℕ) → page ≢ own → values_stepped sizes (core.passes by) (Pledge own) core.values (PAGE page) ≡ core.values (PAGE page)
@@ -328,7 +331,7 @@ module _ (sizes : Sizes) (first : Values) (opening : Files) (by : ℕ) (core : C
   then_else : (page : ℕ) (old : List ℕ) → page ≢ own → times (PAGE page) (core.passes by).owned ≡ 1
       → patched_page sizes (core.passes by).call (core.passes by).control page old ≡ patched_page sizes (core.passes by).call (changed_pass sizes by core (Pledge own) found).control page old
   then_else page old ne has =
-      let is = whole_page sizes (core.passes by) (PledgePage own) tt locks page has in
+      let is = whole_page sizes (core.passes by) (PledgePage own) tt pages_own locks page has in
       ap (λ s. patched_page sizes (core.passes by).call s page old) may.may
       ∙ if_both (λ s. (if nat_lt page own then with_own_pieces sizes (core.passes by).call page old else old) ≡ patched_page sizes (core.passes by).call s page old) (own + 1 == end_page sizes (core.passes by).call)
       (ReadyEntry (if (core.passes by).entries == 1 then (core.passes by).first else (core.passes by).first + 1)) (PledgePage (own + 1))
@@ -360,7 +363,7 @@ module _ (sizes : Sizes) (first : Values) (opening : Files) (by : ℕ) (core : C
     gathered = by_number (λ n (p : Pass). GatheredAt sizes (page_now sizes opening core) (values_stepped sizes (core.passes by) (Pledge own) core.values) p.call p.fetched p.control) core.passes by (changed_pass sizes by core (Pledge own) found)
         (if_both (GatheredAt sizes (page_now sizes opening core) (values_stepped sizes (core.passes by) (Pledge own) core.values) (core.passes by).call (core.passes by).fetched) (own + 1 == end_page sizes (core.passes by).call)
         (ReadyEntry (if (core.passes by).entries == 1 then (core.passes by).first else (core.passes by).first + 1)) (PledgePage (own + 1)) (λ _. tt) (λ _. tt))
-        (λ n ne. gathered_same sizes (page_now sizes opening core) (page_now sizes opening core) core.values (values_stepped sizes (core.passes by) (Pledge own) core.values) (core.passes n) (core.passes n).control (sound.control_facts n).at (sound.ownership n).locks
+        (λ n ne. gathered_same sizes (page_now sizes opening core) (page_now sizes opening core) core.values (values_stepped sizes (core.passes by) (Pledge own) core.values) (core.passes n) (core.passes n).control (sound.control_facts n).at (sound.control_facts n).pages (sound.ownership n).locks
         (λ page has. (value_else page (apart n page ne has), refl)) (was.gathered n));
   }
 
@@ -388,7 +391,7 @@ module _ (sizes : Sizes) (first : Values) (opening : Files) (by : ℕ) (core : C
   locks_unlock = subst (HoldsLocks sizes (core.passes by)) at (sound.ownership by).locks
 
   has_unlock : times (PAGE own) (core.passes by).owned ≡ 1
-  has_unlock = whole_holds sizes (core.passes by) (GiveCleanup own) tt locks_unlock own (subst (FactsAt sizes (core.passes by)) at (sound.control_facts by).at).1
+  has_unlock = whole_holds sizes (core.passes by) (GiveCleanup own) tt (subst (PagesAt sizes (core.passes by)) at (sound.control_facts by).pages) locks_unlock own (subst (FactsAt sizes (core.passes by)) at (sound.control_facts by).at).1
 
   cell_is : cell ≡ CLEANUP own
   cell_is = unlock_cell (core.passes by) cell own (subst (MayGive (core.passes by) cell) at may.may)
@@ -449,7 +452,7 @@ module _ (sizes : Sizes) (first : Values) (opening : Files) (by : ℕ) (core : C
         (λ n ne has valid. let far = filled_else page (off_unlock n page ne has) in ap bytes_in far ∙ was.held n page has (sym (ap is_valid far) ∙ valid)) n;
     gathered = by_number (λ n (p : Pass). GatheredAt sizes (page_now sizes opening core) (values_stepped sizes (core.passes by) (Give cell) core.values) p.call p.fetched p.control) core.passes by (changed_pass sizes by core (Give cell) found)
         (subst (GatheredAt sizes (page_now sizes opening core) (values_stepped sizes (core.passes by) (Give cell) core.values) (core.passes by).call (core.passes by).fetched) (sym control_unlock) gathered_unlock)
-        (λ n ne. gathered_same sizes (page_now sizes opening core) (page_now sizes opening core) core.values (values_stepped sizes (core.passes by) (Give cell) core.values) (core.passes n) (core.passes n).control (sound.control_facts n).at (sound.ownership n).locks
+        (λ n ne. gathered_same sizes (page_now sizes opening core) (page_now sizes opening core) core.values (values_stepped sizes (core.passes by) (Give cell) core.values) (core.passes n) (core.passes n).control (sound.control_facts n).at (sound.control_facts n).pages (sound.ownership n).locks
         (λ page has. (filled_else page (off_unlock n page ne has), refl)) (was.gathered n));
   }
 
@@ -488,7 +491,7 @@ buffers_one sizes first opening core by pass values same held gathered sound was
       (λ has valid. ap bytes_in (same page) ∙ held page has (sym (ap is_valid (same page)) ∙ valid))
       (λ n ne has valid. ap bytes_in (same page) ∙ was.held n page has (sym (ap is_valid (same page)) ∙ valid)) n;
   gathered = by_number (λ n (p : Pass). GatheredAt sizes (page_now sizes opening core) values p.call p.fetched p.control) core.passes by pass gathered
-      (λ n ne. gathered_same sizes (page_now sizes opening core) (page_now sizes opening core) core.values values (core.passes n) (core.passes n).control (sound.control_facts n).at (sound.ownership n).locks (λ page has. (same page, refl)) (was.gathered n));
+      (λ n ne. gathered_same sizes (page_now sizes opening core) (page_now sizes opening core) core.values values (core.passes n) (core.passes n).control (sound.control_facts n).at (sound.control_facts n).pages (sound.ownership n).locks (λ page has. (same page, refl)) (was.gathered n));
 }
 
 pub valid_begin : (sizes : Sizes) (first : Values) (opening : Files) (by : ℕ) (core : Core) (call : FileCall) → Sound sizes first core → CallMayBegin sizes call (core.passes by) → ValidBuffers sizes opening core
@@ -521,23 +524,23 @@ read_failed (PartStep step spares) came faults control values = refl
 read_failed job came faults control values = refl
 
 -- what stands patched stays so
-work_patched : (sizes : Sizes) (values : Values) (pass : Pass) (work : Work) (how : CallEnding) (control : Control) (page : ℕ) (old : List ℕ) → HoldsLocks sizes pass control → CallDue sizes values pass work control → times (PAGE page) pass.owned ≡ 1
+work_patched : (sizes : Sizes) (values : Values) (pass : Pass) (work : Work) (how : CallEnding) (control : Control) (page : ℕ) (old : List ℕ) → PagesAt sizes pass control → HoldsLocks sizes pass control → CallDue sizes values pass work control → times (PAGE page) pass.owned ≡ 1
     → patched_page sizes pass.call control page old ≡ patched_page sizes pass.call (control_worked sizes pass how control) page old
-work_patched sizes values pass work Made (CommitGroup calls) page old held due has =
+work_patched sizes values pass work Made (CommitGroup calls) page old pages held due has =
     if_both (λ s. old ≡ patched_page sizes pass.call s page old) (calls + 1 == length (commit_steps sizes pass pass.call)) (PledgePage (first_page sizes pass.call)) (CommitGroup (calls + 1))
-    (λ _. sym (when_false (nat_lt page (first_page sizes pass.call)) (with_own_pieces sizes pass.call page old) old (le-ltb page (first_page sizes pass.call) (whole_page sizes pass (CommitGroup calls) tt held page has).0))) (λ _. refl)
-work_patched sizes values pass work Made (ReadStore next dirty) page old held due has = refl
-work_patched sizes values pass work Made (ReadPiece next number) page old held due has = refl
-work_patched sizes values pass work (Failed came faults) (CommitGroup calls) page old held due has = refl
-work_patched sizes values pass work (Failed came faults) (ReadStore next dirty) page old held due has = refl
-work_patched sizes values pass work (Failed came faults) (ReadPiece next number) page old held due has = refl
-work_patched sizes values pass work Made (Cleaning batch inner) page old held due has = of_cleaner_worked (λ s. old ≡ patched_page sizes pass.call s page old) refl (λ _ _. refl) batch Made inner
-work_patched sizes values pass work (Failed came faults) (Cleaning batch inner) page old held due has = of_cleaner_worked (λ s. old ≡ patched_page sizes pass.call s page old) refl (λ _ _. refl) batch (Failed came faults) inner
-work_patched sizes values pass work Refused (Cleaning batch inner) page old held due has = of_cleaner_worked (λ s. old ≡ patched_page sizes pass.call s page old) refl (λ _ _. refl) batch Refused inner
-work_patched sizes values pass work Refused (CommitGroup calls) page old held due has = refl
-work_patched sizes values pass work Refused (ReadStore next dirty) page old held due has = refl
-work_patched sizes values pass work Refused (ReadPiece next number) page old held due has = refl
-work_patched sizes values pass work how control page old held due has = absurd due
+    (λ _. sym (when_false (nat_lt page (first_page sizes pass.call)) (with_own_pieces sizes pass.call page old) old (le-ltb page (first_page sizes pass.call) (whole_page sizes pass (CommitGroup calls) tt pages held page has).0))) (λ _. refl)
+work_patched sizes values pass work Made (ReadStore next dirty) page old pages held due has = refl
+work_patched sizes values pass work Made (ReadPiece next number) page old pages held due has = refl
+work_patched sizes values pass work (Failed came faults) (CommitGroup calls) page old pages held due has = refl
+work_patched sizes values pass work (Failed came faults) (ReadStore next dirty) page old pages held due has = refl
+work_patched sizes values pass work (Failed came faults) (ReadPiece next number) page old pages held due has = refl
+work_patched sizes values pass work Made (Cleaning batch inner) page old pages held due has = of_cleaner_worked (λ s. old ≡ patched_page sizes pass.call s page old) refl (λ _ _. refl) batch Made inner
+work_patched sizes values pass work (Failed came faults) (Cleaning batch inner) page old pages held due has = of_cleaner_worked (λ s. old ≡ patched_page sizes pass.call s page old) refl (λ _ _. refl) batch (Failed came faults) inner
+work_patched sizes values pass work Refused (Cleaning batch inner) page old pages held due has = of_cleaner_worked (λ s. old ≡ patched_page sizes pass.call s page old) refl (λ _ _. refl) batch Refused inner
+work_patched sizes values pass work Refused (CommitGroup calls) page old pages held due has = refl
+work_patched sizes values pass work Refused (ReadStore next dirty) page old pages held due has = refl
+work_patched sizes values pass work Refused (ReadPiece next number) page old pages held due has = refl
+work_patched sizes values pass work how control page old pages held due has = absurd due
 
 -- a store's page that was read
 pub says_is : (sizes : Sizes) (at : ℕ) (bytes : List ℕ) (store : Store) (value : Value) → store_of_value value ≡ Some store → SaysOf sizes at bytes value → bytes ≡ page_from store.seen at sizes.page
@@ -553,7 +556,7 @@ module _ (sizes : Sizes) (first : Values) (opening : Files) (by : ℕ) (core : C
   still_held : (page : ℕ) → HasHeld sizes opening core page (worked sizes work (core.passes by))
   still_held page has valid =
       was.held by page has valid
-      ∙ work_patched sizes core.values (core.passes by) work work.ending (core.passes by).control page (page_now sizes opening core page) (sound.ownership by).locks may.due has
+      ∙ work_patched sizes core.values (core.passes by) work work.ending (core.passes by).control page (page_now sizes opening core page) (sound.control_facts by).pages (sound.ownership by).locks may.due has
 
   buffers_unread : ((page : ℕ) → values_worked (core.passes by) work core.values (PAGE page) ≡ core.values (PAGE page))
       → GatheredAt sizes (page_now sizes opening core) (values_worked (core.passes by) work core.values) (core.passes by).call (worked sizes work (core.passes by)).fetched (worked sizes work (core.passes by)).control
@@ -645,7 +648,7 @@ module _ (sizes : Sizes) (first : Values) (opening : Files) (by : ℕ) (core : C
   locks_read = subst (HoldsLocks sizes (core.passes by)) at (sound.ownership by).locks
 
   has_read : times (PAGE own) (core.passes by).owned ≡ 1
-  has_read = whole_holds sizes (core.passes by) (ReadStore own false) tt locks_read own stands.1
+  has_read = whole_holds sizes (core.passes by) (ReadStore own false) tt (subst (PagesAt sizes (core.passes by)) at (sound.control_facts by).pages) locks_read own stands.1
 
   allowed_read : IsAllowed sizes (core.passes by).call
   allowed_read = (sound.control_facts by).allowed (busy (core.passes by).control (ReadStore own false) at refl)
@@ -728,7 +731,7 @@ module _ (sizes : Sizes) (first : Values) (opening : Files) (by : ℕ) (core : C
     gathered = by_number (λ n (p : Pass). GatheredAt sizes (page_now sizes opening core) (values_worked (core.passes by) work core.values) p.call p.fetched p.control) core.passes by (worked sizes work (core.passes by))
         (subst (λ s. GatheredAt sizes (page_now sizes opening core) (values_worked (core.passes by) work core.values) (core.passes by).call (worked sizes work (core.passes by)).fetched s) (sym control_read)
         (subst (λ f. Gathered sizes (page_now sizes opening core) (values_worked (core.passes by) work core.values) (core.passes by).call f (own + 1)) (sym fetched_read) read_gathered))
-        (λ n ne. gathered_same sizes (page_now sizes opening core) (page_now sizes opening core) core.values (values_worked (core.passes by) work core.values) (core.passes n) (core.passes n).control (sound.control_facts n).at (sound.ownership n).locks
+        (λ n ne. gathered_same sizes (page_now sizes opening core) (page_now sizes opening core) core.values (values_worked (core.passes by) work core.values) (core.passes n) (core.passes n).control (sound.control_facts n).at (sound.control_facts n).pages (sound.ownership n).locks
         (λ page has. (value_apart page (far n page ne has), refl)) (was.gathered n));
   }
 

@@ -13,9 +13,9 @@ use Rattle.nv_plain.specs.declared.call.FileCall.TheVariants.{Read, Write, Readv
 use Rattle.nv_plain.specs.Made.{after_calls, made_calls}
 use Rattle.nv_store.specs.Store.{Store}
 use Rattle.nv_core.specs.state.Words.{Sizes, HEAD, TAIL, STORE, ENTRY, PAGE, kind_of, was_readied, free, filling}
-use Rattle.nv_core.specs.state.Passes.{Control, SeizeEntry, CommitGroup, PledgePage, ReadyEntry, TakePlace, SetStopAfterCommit, BreakEntry, Pass, IsAllowed, IsFilling, IsAmong, file_of, is_write, page_count, page_number, first_page, end_page, times}
+use Rattle.nv_core.specs.state.Passes.{Control, SeizeEntry, CommitGroup, PledgePage, ReadyEntry, TakePlace, SetStopAfterCommit, BreakEntry, Pass, IsAllowed, IsFilling, IsAmong, file_of, is_write, page_count, page_number, first_page, times}
 use Rattle.nv_core.specs.steps.Order.{Values}
-use Rattle.nv_core.specs.invariant.ControlFacts.{FactsAt, IsPage, has_call}
+use Rattle.nv_core.specs.invariant.ControlFacts.{FactsAt, IsPage, has_call, PagesAt}
 use Rattle.nv_core.specs.invariant.Ownership.{HoldsLocks}
 use Rattle.nv_core.specs.state.Core.{Core}
 use Rattle.nv_core.specs.invariant.LogWindow.{InWindow, entry_word_at, IsNumbered, Drawn, Filling, Freed, Kept}
@@ -35,12 +35,12 @@ use Rattle.nv_core.specs.content.PlainLaws.{PlainLaws}
 use Rattle.nv_core.proofs.state.Changes.{differ}
 use Rattle.nv_core.proofs.state.Choices.{if_both, not_both}
 use Rattle.nv_core.proofs.invariant.LockLaws.{only_holder}
-use Rattle.nv_core.proofs.invariant.OwnershipLaws.{among_in}
 use Rattle.nv_core.proofs.content.PlainPages.{patch_page, untouched_page, untouched_above, piece_off, page_start_below}
 use Rattle.nv_core.proofs.content.FileLaws.{contents_else, contents_here, page_is, page_near, page_else, allowed_page}
 use Rattle.nv_core.proofs.crash.CommutingLaws.{after_both}
 use Rattle.nv_core.proofs.log.KeepsLive.{files_length, after_length, stores_length}
 use Rattle.nv_core.proofs.log.OpeningLogContent.{told_seen}
+use Rattle.nv_core.proofs.invariant.PageLists.{pages_once}
 
 -- ---- a piece as a write of its own
 
@@ -360,24 +360,24 @@ pages_are_patched plain sizes first opened tails log placed core page store soun
 -- ---- where a page is still
 
 -- a write in flight holds its pages
-flying_holds : (sizes : Sizes) (pass : Pass) (control : Control) → IsFlying pass control → HoldsLocks sizes pass control → (page : ℕ) → IsPage sizes pass.call page → times (PAGE page) pass.owned ≡ 1
-flying_holds sizes pass (SeizeEntry number) flies held page is = held (PAGE page) (λ slot. differ (PAGE page) (ENTRY slot) refl) ∙ among_in (first_page sizes pass.call) (end_page sizes pass.call) page is.0 is.1
-flying_holds sizes pass (CommitGroup calls) flies held page is = held (PAGE page) (λ slot. differ (PAGE page) (ENTRY slot) refl) ∙ among_in (first_page sizes pass.call) (end_page sizes pass.call) page is.0 is.1
-flying_holds sizes pass (PledgePage next) flies held page is = held (PAGE page) (λ slot. differ (PAGE page) (ENTRY slot) refl) ∙ among_in (first_page sizes pass.call) (end_page sizes pass.call) page is.0 is.1
-flying_holds sizes pass (ReadyEntry number) flies held page is = held (PAGE page) (λ slot. differ (PAGE page) (ENTRY slot) refl) ∙ among_in (first_page sizes pass.call) (end_page sizes pass.call) page is.0 is.1
-flying_holds sizes pass TakePlace flies held page is = held (PAGE page) (λ slot. differ (PAGE page) (ENTRY slot) refl) ∙ among_in (first_page sizes pass.call) (end_page sizes pass.call) page is.0 is.1
-flying_holds sizes pass control flies held page is = absurd flies
+flying_holds : (sizes : Sizes) (pass : Pass) (control : Control) → IsFlying pass control → PagesAt sizes pass control → HoldsLocks sizes pass control → (page : ℕ) → IsPage sizes pass.call page → times (PAGE page) pass.owned ≡ 1
+flying_holds sizes pass (SeizeEntry number) flies pages held page is = held (PAGE page) (λ slot. differ (PAGE page) (ENTRY slot) refl) ∙ pages_once sizes pass.call pass.pages pages page is
+flying_holds sizes pass (CommitGroup calls) flies pages held page is = held (PAGE page) (λ slot. differ (PAGE page) (ENTRY slot) refl) ∙ pages_once sizes pass.call pass.pages pages page is
+flying_holds sizes pass (PledgePage next) flies pages held page is = held (PAGE page) (λ slot. differ (PAGE page) (ENTRY slot) refl) ∙ pages_once sizes pass.call pass.pages pages page is
+flying_holds sizes pass (ReadyEntry number) flies pages held page is = held (PAGE page) (λ slot. differ (PAGE page) (ENTRY slot) refl) ∙ pages_once sizes pass.call pass.pages pages page is
+flying_holds sizes pass TakePlace flies pages held page is = held (PAGE page) (λ slot. differ (PAGE page) (ENTRY slot) refl) ∙ pages_once sizes pass.call pass.pages pages page is
+flying_holds sizes pass control flies pages held page is = absurd flies
 
 -- a free page is still, and so is one that a pass holds with no write in flight
 pub still_free : (sizes : Sizes) (first : Values) (core : Core) (page : ℕ) → Sound sizes first core → core.words (PAGE page) ≡ 0 → IsStill sizes core page
 still_free sizes first core page sound free_ by flies is =
     let none = (sound.locks.keyed (PAGE page)).free (ne_eqb (core.words (PAGE page)) 1 (λ e. omega (arith, free_, e))) by in
-    let one = flying_holds sizes (core.passes by) (core.passes by).control flies (sound.ownership by).locks page is in omega (arith, none, one)
+    let one = flying_holds sizes (core.passes by) (core.passes by).control flies (sound.control_facts by).pages (sound.ownership by).locks page is in omega (arith, none, one)
 
 pub still_held : (sizes : Sizes) (first : Values) (core : Core) (page number : ℕ) → Sound sizes first core → times (PAGE page) (core.passes number).owned ≡ 1 → (IsFlying (core.passes number) (core.passes number).control → ⊥) → IsStill sizes core page
 still_held sizes first core page number sound has grounded by flies is = elim (cases_eq by number) [
   | inl same ↦ grounded (subst (λ n. IsFlying (core.passes n) (core.passes n).control) same flies)
   | inr ne ↦
       let none = (only_holder (sound.locks.keyed (PAGE page)) number (omega (arith, has))).2 by ne in
-      let one = flying_holds sizes (core.passes by) (core.passes by).control flies (sound.ownership by).locks page is in omega (arith, none, one)
+      let one = flying_holds sizes (core.passes by) (core.passes by).control flies (sound.control_facts by).pages (sound.ownership by).locks page is in omega (arith, none, one)
 ]

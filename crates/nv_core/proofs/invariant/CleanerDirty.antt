@@ -13,7 +13,7 @@ use Rattle.nv_core.specs.invariant.DirtyCounters.{owed}
 use Rattle.nv_core.specs.steps.StepKinds.{CleanerEnabled}
 use Rattle.nv_core.proofs.state.Choices.{if_both}
 use Rattle.nv_core.proofs.steps.CleanerControls.{tended}
-use Rattle.nv_core.proofs.invariant.CleanerLocks.{count_take, count_drop, count_all, count_none}
+use Rattle.nv_core.proofs.invariant.PageLists.{count_take, count_drop, count_all, count_none, count_whole}
 
 -- nothing is owed there
 abbrev OwesNone : Control → Type 0
@@ -127,10 +127,6 @@ by_cleaner_owes sizes pass owned cleaner_op found control un may page = tended (
     (λ batch inner e other. let paid = paid_at inner cleaner_op other (subst (PaidBy inner) e (paid_by sizes pass.owned batch inner)) in of_cleaner_owes sizes owned batch inner found paid page ∙ sym (paid_owes batch inner paid page)) un
 
 -- ---- an entry that is cleaned, and one that is taken from DIRTY
-
-count_whole : (pages : List ℕ) (page : ℕ) → count_in (drop 0 pages) page ≡ count_in pages page
-count_whole [] page = refl
-count_whole (first ∷ rest) page = refl
 
 pub cleans_owes : (sizes : Sizes) (owned : List Word) (batch : Batch) (i found page : ℕ) → i < length batch.pages
     → owed (after_cleaner_op sizes owned batch (CleanEntry i) found) page ≡ (if page == group_page batch i then 1 else 0) + owed (Cleaning batch (CleanEntry i)) page

@@ -1,6 +1,6 @@
 -- A cleaner's step leaves it with the locks that it then holds.
 use Rattle.std.proofs.Common.{◌≡◌, ◌≢◌, ℕ, zero, suc, ◌+◌, ◌-◌, ◌<◌, ◌≤◌, ◌==◌, nat_lt, not, ◌&&◌, ◌||◌, Bool, true, false, if◌then◌else◌, List, [], ◌∷◌, length, take, drop, Option, inl, inr, refl, sym, ap, subst, ◌∙◌, arith}
-use Rattle.std.specs.Prelude.{Some, None, filter, slice_index}
+use Rattle.std.specs.Prelude.{Some, None, filter}
 use Rattle.std.specs.List.{range_with_len}
 use Rattle.std.proofs.lemmas.Bool.{eqb-true, eqb-false, eq-eqb, ne_eqb, true≢false, cases_eq}
 use Rattle.nv_core.specs.state.Words.{Sizes, Word, STOP, HEAD, TAIL, CLEANER, HEADER, SIZE, STORE, ENTRY, CLEANUP, same, is_lock, slot_of_entry}
@@ -14,37 +14,10 @@ use Rattle.nv_core.specs.invariant.CleanerOwnership.{count_in, of_cleaner_header
 use Rattle.nv_core.specs.invariant.ControlFacts.{CleanerFactsAt}
 use Rattle.nv_core.proofs.state.Choices.{if_both, when_true, when_false}
 use Rattle.nv_core.proofs.invariant.LockLaws.{times_here}
+use Rattle.nv_core.proofs.invariant.PageLists.{count_take, count_drop, count_all, count_none}
 use Rattle.nv_core.proofs.invariant.OwnershipLaws.{HoldsAt, nothing, both_same, taken, given, entry_taken, entry_given}
 
 -- ---- counts
-
-pub count_take : (pages : List ℕ) (i page : ℕ) → i < length pages → count_in (take (i + 1) pages) page ≡ (if page == slice_index pages i then 1 else 0) + count_in (take i pages) page
-count_take [] i page within = absurd (omega (arith, within))
-count_take (first ∷ rest) zero page within = refl
-count_take (first ∷ rest) (suc i) page within =
-    let again = count_take rest i page (omega (arith, within)) in
-    let n : suc i + 1 ≡ suc (i + 1) = omega arith in
-    ap (λ k. count_in (take k (first ∷ rest)) page) n ∙ omega (arith, again)
-
-pub count_drop : (pages : List ℕ) (i page : ℕ) → i < length pages → count_in (drop i pages) page ≡ (if page == slice_index pages i then 1 else 0) + count_in (drop (i + 1) pages) page
-count_drop [] i page within = absurd (omega (arith, within))
-count_drop (first ∷ rest) zero page within = refl
-count_drop (first ∷ rest) (suc i) page within =
-    let again = count_drop rest i page (omega (arith, within)) in
-    let n : suc i + 1 ≡ suc (i + 1) = omega arith in
-    again ∙ ap (λ k. (if page == slice_index rest i then 1 else 0) + count_in (drop k (first ∷ rest)) page) (sym n)
-
-pub count_all : (pages : List ℕ) (n page : ℕ) → length pages ≤ n → count_in (take n pages) page ≡ count_in pages page
-count_all [] zero page most = refl
-count_all [] (suc n) page most = refl
-count_all (first ∷ rest) zero page most = absurd (omega (arith, most))
-count_all (first ∷ rest) (suc n) page most = ap (λ c. (if page == first then 1 else 0) + c) (count_all rest n page (omega (arith, most)))
-
-pub count_none : (pages : List ℕ) (n page : ℕ) → length pages ≤ n → count_in (drop n pages) page ≡ 0
-count_none [] zero page most = refl
-count_none [] (suc n) page most = refl
-count_none (first ∷ rest) zero page most = absurd (omega (arith, most))
-count_none (first ∷ rest) (suc n) page most = count_none rest n page (omega (arith, most))
 
 -- a file that a batch holds stands among those in a row once
 one_more : (test : ℕ → Bool) (from count n : ℕ) → count_in (filter test (range_with_len from (suc count))) n ≡ (if test from then (if n == from then 1 else 0) else 0) + count_in (filter test (range_with_len (from + 1) count)) n

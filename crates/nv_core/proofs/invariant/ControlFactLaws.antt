@@ -10,18 +10,21 @@ use Rattle.nv_core.specs.steps.CleanerSteps.{after_cleaner_op, after_cleaner_wor
 use Rattle.nv_core.specs.log.Progress.{HasLoadedTail}
 use Rattle.nv_core.specs.steps.Ops.{Op, Stays, Comes, moved, Load, Take, Give, Place, Stop, Draw, Seize, Pledge, Ready, Grow, Break, Turn, Hint, Hold, Return, ByCleaner, cleaner_move}
 use Rattle.nv_core.specs.steps.ControlSteps.{copying, pursued, control_after, after_load, after_give, after_stop, leaving, giving, ending, ordered, exceeds, scanning, after_head, after_tail, after_look, after_hold, after_return, after_by_cleaner}
-use Rattle.nv_core.specs.steps.PassSteps.{stepped, begun}
+use Rattle.nv_core.specs.steps.PassSteps.{stepped, begun, pages_after}
 use Rattle.nv_core.specs.state.Values.{CallEnding, Made, Failed, Refused}
 use Rattle.nv_core.specs.state.Core.{worked, control_worked}
 use Rattle.nv_core.specs.steps.Order.{Values, Work, CallEnabled, CallDue, commit_steps, IsFailing}
 use Rattle.nv_core.specs.steps.StepKinds.{MayLoad, MayTake, IsMiss, JustNow, AfterTries, CleanerEnabled, EnabledByKind}
-use Rattle.nv_core.specs.invariant.ControlFacts.{IsPage, HasDrawn, IsSmall, LogHasRoom, IsElsewhere, FactsAt, CleanerFactsAt, ControlFacts, ReadsPage, has_call}
-use Rattle.nv_core.specs.invariant.Ownership.{is_among}
+use Rattle.nv_core.specs.invariant.ControlFacts.{IsPage, HasDrawn, IsSmall, LogHasRoom, IsElsewhere, FactsAt, PagesAt, CleanerFactsAt, ControlFacts, ReadsPage, has_call}
+use Rattle.nv_core.specs.invariant.CleanerOwnership.{count_in}
+use Rattle.nv_core.specs.invariant.Ownership.{one_if, is_among}
 use Rattle.nv_core.proofs.state.Choices.{if_both, when_true, not_both, leaving_both, HasCall, step_idle, IsGivingBack, gives_back}
 use Rattle.nv_core.proofs.steps.CleanerControls.{tended_to, of_cleaner_worked}
 use Rattle.nv_core.proofs.invariant.CleanerControlFacts.{StoodSweeping, cleaner_stands, cleaner_works}
 use Rattle.nv_core.proofs.steps.SearchLaws.{hinting_next, tried_next}
 use Rattle.nv_core.proofs.state.PageLaws.{write_pages, read_within}
+use Rattle.nv_core.proofs.invariant.PageLists.{pages_among}
+use Rattle.nv_core.proofs.invariant.PageSteps.{pages_steps, pages_begin, pages_work}
 
 -- a call on its way out
 out : (sizes : Sizes) (pass : Pass) (owned : List Word) → pass.owned ≡ owned → FactsAt sizes pass (leaving owned)
@@ -49,9 +52,9 @@ missed_page sizes values pass page tries stands (JustNow from miss none) =
     let low = at.1 in let later = miss.later in let within = miss.within in let less = read_within sizes pass.call pass.length in (at.0, (omega (arith, low, later), omega (arith, within, less)))
 missed_page sizes values pass page tries stands (AfterTries search is over) = let at : FactsAt sizes pass (Searching page tries search) = subst (FactsAt sizes pass) is stands in (at.0, at.1)
 
-pursued_elsewhere : (sizes : Sizes) (call : FileCall) (search : Search) → IsElsewhere sizes call search → IsElsewhere sizes call (pursued search)
-pursued_elsewhere sizes call (GiveVictim buffer victim) is = tt
-pursued_elsewhere sizes call search is = is
+pursued_elsewhere : (pages : List ℕ) (search : Search) → IsElsewhere pages search → IsElsewhere pages (pursued search)
+pursued_elsewhere pages (GiveVictim buffer victim) is = tt
+pursued_elsewhere pages search is = is
 
 -- ---- the steps
 
@@ -100,7 +103,8 @@ loads sizes values pass (HINT buffer) found number history stands may =
     hinting_next (FactsAt sizes (stepped sizes number history (Load (HINT buffer)) found pass)) sizes pass buffer found may (
       at.0,
       at.1,
-      if_both (IsElsewhere sizes pass.call) (is_among (first_page sizes pass.call) (end_page sizes pass.call) found) NotFound (TakeVictim buffer found) (λ _. tt) (λ none. none),
+      if_both (IsElsewhere pass.pages) (is_among (first_page sizes pass.call) (end_page sizes pass.call) found) NotFound (TakeVictim buffer found) (λ _. tt)
+          (λ none. pages_among sizes pass.call pass.pages (subst (PagesAt sizes pass) may.is stands.pages) found ∙ ap one_if none),
     )
 loads sizes values pass word found number history stands may = absurd may
 
@@ -122,7 +126,7 @@ takes sizes pass (PAGE page) found number history stands may =
     let within : IsPage sizes pass.call (page + 1) = (omega arith, omega arith) in (within, at.1)))
     (missed sizes pass (PAGE page) found number history))
     (λ s. let at : FactsAt sizes pass (Searching s.page s.tries (TakeVictim s.buffer page)) = subst (FactsAt sizes pass) s.is stands.at in
-    if_both (FactsAt sizes now) (found == 0) (Searching s.page s.tries (GiveVictim s.buffer page)) (Searching s.page s.tries NotFound) (λ _. at) (λ _. (at.0, at.1, tt)))
+    if_both (FactsAt sizes now) (found == 0) (Searching s.page s.tries (GiveVictim s.buffer page)) (Searching s.page s.tries NotFound) (λ _. (at.0, at.1, ap (λ c. count_in (pages_after pass (Take (PAGE page)) found c) page) s.is ∙ at.2)) (λ _. (at.0, at.1, tt)))
     may
 takes sizes pass (SIZE file) found number history stands may =
     if_both (FactsAt sizes (stepped sizes number history (Take (SIZE file)) found pass)) (found == 0) LoadLength (leaving pass.owned) (λ e. tt) (missed sizes pass (SIZE file) found number history)
@@ -147,7 +151,7 @@ gives_at sizes pass cell found number history (GivePage page) at may =
 gives_at sizes pass cell found number history (GiveStore page dirty) at may =
     if_both (FactsAt sizes (stepped sizes number history (Give cell) found pass)) dirty (ReadLoadHead page) (VisitPage (page + 1)) (λ _. at) (λ _. (at.0, let low = at.1.0 in omega (arith, low)))
 gives_at sizes pass cell found number history (GiveCleanup page) at may = (at.0, let low = at.1.0 in omega (arith, low))
-gives_at sizes pass cell found number history (Searching page tries search) at may = (at.0, at.1, pursued_elsewhere sizes pass.call search at.2)
+gives_at sizes pass cell found number history (Searching page tries search) at may = (at.0, at.1, pursued_elsewhere pass.pages search at.2)
 gives_at sizes pass cell found number history control at may = absurd may
 
 -- the first and the next of some in a row
@@ -271,6 +275,7 @@ pub control_facts_steps : (sizes : Sizes) (values : Values) (pass : Pass) (op : 
     → ControlFacts sizes (stepped sizes number history op found pass)
 control_facts_steps sizes values pass op found number history stands tail_loaded may = record {
   at = steps sizes values pass op found number history stands tail_loaded may;
+  pages = pages_steps sizes values pass op found number history stands.at stands.pages may;
   allowed = λ now. stands.allowed (called_before sizes values pass op found may now);
 }
 
@@ -280,6 +285,7 @@ pub control_facts_begins : (sizes : Sizes) (call : FileCall) (pass : Pass) → I
 control_facts_begins sizes call pass allowed = record {
   at = if_both (FactsAt sizes (begun sizes call pass)) (page_count sizes (plain_call call) == 0) LoadStop (TakePage (first_page sizes (plain_call call))) (λ e. tt)
       (λ e. let ne = eqb-false (page_count sizes (plain_call call)) 0 e in let within : IsPage sizes (plain_call call) (first_page sizes (plain_call call)) = (omega arith, omega arith) in (within, refl));
+  pages = pages_begin sizes call pass;
   allowed = λ _. allowed;
 }
 
@@ -322,5 +328,6 @@ uncalled_work sizes values pass work control how due now = absurd due
 pub control_facts_works : (sizes : Sizes) (values : Values) (pass : Pass) (work : Work) → ControlFacts sizes pass → CallEnabled sizes values pass work → ControlFacts sizes (worked sizes work pass)
 control_facts_works sizes values pass work stands may = record {
   at = works sizes values pass work pass.control work.ending stands.at may.due;
+  pages = pages_work sizes values pass work pass.control work.ending stands.pages may.due;
   allowed = λ now. stands.allowed (uncalled_work sizes values pass work pass.control work.ending may.due now);
 }

@@ -1,36 +1,27 @@
 -- Dirty bounds: a page has no more entries than the log, but for one that is pledged and one that a cleaner has cleaned.
-use Rattle.std.proofs.Common.{ℕ, zero, suc, ◌+◌, ◌≤◌, Bool, true, false, List, [], ◌∷◌, take, drop, inl, inr, refl, arith}
+use Rattle.std.proofs.Common.{ℕ, ◌+◌, ◌-◌, ◌≤◌, ◌==◌, Bool, true, false, take, drop, inl, inr, refl, arith}
 use Rattle.std.proofs.lemmas.Bool.{cases_Bool, eqb-false}
 use Rattle.nv_core.specs.state.Words.{Sizes, ENTRY, PAGE, CLEANUP, is_shut}
 use Rattle.nv_core.specs.state.Cleaner.{CleanEntry, SubtractDirty}
-use Rattle.nv_core.specs.state.Passes.{Control, Cleaning, PledgePage, ReadyEntry, Pass, times}
+use Rattle.nv_core.specs.state.Passes.{Control, Cleaning, PledgePage, ReadyEntry, Pass, nth_of, times}
 use Rattle.nv_core.specs.state.Core.{Core}
 use Rattle.nv_core.specs.steps.Order.{Values}
 use Rattle.nv_core.specs.invariant.Locks.{holds}
 use Rattle.nv_core.specs.invariant.CleanerOwnership.{count_in}
 use Rattle.nv_core.specs.invariant.Ownership.{one_if, HoldsLocks}
 use Rattle.nv_core.specs.invariant.DirtyCounters.{entries_of_page, is_of_page, owed, owed_by_all, pledged}
+use Rattle.nv_core.specs.invariant.ControlFacts.{FactsAt}
 use Rattle.nv_core.specs.invariant.ForbiddenSteps.{NoDirtyAboveTheLog}
 use Rattle.nv_core.specs.invariant.Sound.{Sound}
 use Rattle.nv_core.proofs.state.TotalLaws.{total_most, total_ones, total_keyed}
+use Rattle.nv_core.proofs.state.Choices.{if_both}
+use Rattle.nv_core.proofs.invariant.PageLists.{count_taken, count_dropped, count_apart}
 
 one_most : (b : Bool) → one_if b ≤ 1
 one_most true = omega arith
 one_most false = omega arith
 
 -- ---- what cleaners owe of a page: at most one of them, at most once
-
-count_taken : (pages : List ℕ) (i page : ℕ) → count_in (take i pages) page ≤ count_in pages page
-count_taken [] zero page = omega arith
-count_taken [] (suc i) page = omega arith
-count_taken (first ∷ rest) zero page = omega arith
-count_taken (first ∷ rest) (suc i) page = let a = count_taken rest i page in omega (arith, a)
-
-count_dropped : (pages : List ℕ) (i page : ℕ) → count_in (drop i pages) page ≤ count_in pages page
-count_dropped [] zero page = omega arith
-count_dropped [] (suc i) page = omega arith
-count_dropped (first ∷ rest) zero page = omega arith
-count_dropped (first ∷ rest) (suc i) page = let a = count_dropped rest i page in omega (arith, a)
 
 -- a cleaner that owes it has its CLEANUP
 owed_most : (sizes : Sizes) (pass : Pass) (control : Control) (page : ℕ) → HoldsLocks sizes pass control → owed control page ≤ times (CLEANUP page) pass.owned
@@ -54,10 +45,17 @@ entries_most sizes core page =
     let ones = total_ones sizes.entries in
     omega (arith, less, ones)
 
-pledged_most : (sizes : Sizes) (pass : Pass) (control : Control) (page : ℕ) → pledged sizes pass control page ≤ 1
-pledged_most sizes pass (PledgePage next) page = one_most _
-pledged_most sizes pass (ReadyEntry next) page = one_most _
-pledged_most sizes pass control page = omega arith
+-- a pass that pledges it holds it
+pledged_most : (sizes : Sizes) (pass : Pass) (control : Control) (page : ℕ) → FactsAt sizes pass control → HoldsLocks sizes pass control → pledged sizes pass control page ≤ times (PAGE page) pass.owned
+pledged_most sizes pass (PledgePage next) page at locks =
+    let few = count_taken pass.pages (nth_of sizes pass.call next) page in let same = locks (PAGE page) (λ slot is. cc) in omega (arith, few, same)
+pledged_most sizes pass (ReadyEntry next) page at locks =
+    let same = locks (PAGE page) (λ slot is. cc) in
+    let front = count_taken pass.pages 1 page in
+    if_both (λ n. count_in (take 1 pass.pages) page + n ≤ times (PAGE page) pass.owned) (next == pass.first) 0 (count_in (drop (next - pass.first) pass.pages) page)
+    (λ _. omega (arith, front, same))
+    (λ e. let ne = eqb-false next pass.first e in let low = at.1.0 in let apart = count_apart pass.pages (next - pass.first) page (omega (arith, ne, low)) in omega (arith, apart, same))
+pledged_most sizes pass control page at locks = omega arith
 
 pub no_dirty_above_the_log : NoDirtyAboveTheLog
 no_dirty_above_the_log sizes first core page sound =
@@ -67,8 +65,9 @@ no_dirty_above_the_log sizes first core page sound =
       | inl shut ↦
           let holder = (sound.locks.keyed (PAGE page)).held shut in
           let is = sound.dirty.held page holder.by holder.once in
-          let pledge = pledged_most sizes (core.passes holder.by) (core.passes holder.by).control page in
-          omega (arith, ready, owes, is, pledge)
+          let pledge = pledged_most sizes (core.passes holder.by) (core.passes holder.by).control page (sound.control_facts holder.by).at (sound.ownership holder.by).locks in
+          let once = holder.once in
+          omega (arith, ready, owes, is, pledge, once)
       | inr unshut ↦
           let not_one = eqb-false (core.words (PAGE page)) 1 unshut in
           let bit = sound.locks.bit (PAGE page) refl in

@@ -343,7 +343,7 @@ module _ (Bars : Fault → Word → Type 0) (early : (fault : Fault) (cell : Wor
   old_off_limits sizes first by core found op sound was may n cell fault is at checked =
       let earlier = before sizes core.values (core.passes by) found op tt may.may checked in
       let none = was n by cell fault is at earlier in
-      let less = none_taken sizes core.values (core.passes by) cell found op (early fault cell at) (λ other gives. given_held sizes (core.passes by) other (core.passes by).control (sound.control_facts by).at (sound.ownership by).locks gives) may.may (past_locks (core.passes by).control earlier) tt in omega (arith, none, less)
+      let less = none_taken sizes core.values (core.passes by) cell found op (early fault cell at) (λ other gives. given_held sizes (core.passes by) other (core.passes by).control (sound.control_facts by).at (sound.control_facts by).pages (sound.ownership by).locks gives) may.may (past_locks (core.passes by).control earlier) tt in omega (arith, none, less)
 
   -- a pass that fails holds what its fault will bar
   pub off_limits_step : (sizes : Sizes) (first : Values) (by : ℕ) (core : Core) (op : Op) (found : ℕ) → Sound sizes first core → FoundEnabledByKind sizes by core op found

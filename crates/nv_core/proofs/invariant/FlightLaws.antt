@@ -6,7 +6,7 @@ use Rattle.nv_core.specs.state.Passes.{Control, SeizeEntry, CommitGroup, PledgeP
 use Rattle.nv_core.specs.steps.PassSteps.{fault_of}
 use Rattle.nv_core.specs.steps.Order.{Values}
 use Rattle.nv_core.specs.state.Core.{Core}
-use Rattle.nv_core.specs.invariant.ControlFacts.{FactsAt, IsPage}
+use Rattle.nv_core.specs.invariant.ControlFacts.{FactsAt, IsPage, PagesAt}
 use Rattle.nv_core.specs.invariant.Ownership.{HoldsLocks}
 use Rattle.nv_core.specs.invariant.Loaded.{HasMeasured}
 use Rattle.nv_core.specs.invariant.LogWindow.{InWindow, WasReadied, HasUnseized, Fills, IsNumbered, Drawn, Filling, Freed, Kept, entry_word_at}
@@ -54,11 +54,11 @@ no_victim : (page : ℕ) (control : Control) → IsInFlight control → victim_h
 no_victim page = in_flight_at (λ s. victim_held s page ≡ 0) (λ n. refl) (λ n. refl) (λ n. refl) (λ n. refl) refl refl
 
 -- it holds its pages
-holds : (sizes : Sizes) (pass : Pass) (page : ℕ) → IsPage sizes pass.call page → (control : Control) → IsInFlight control → HoldsLocks sizes pass control → times (PAGE page) pass.owned ≡ 1
-holds sizes pass page on = in_flight_at (λ s. HoldsLocks sizes pass s → times (PAGE page) pass.owned ≡ 1) (λ n. page_at) (λ n. page_at) (λ n. page_at) (λ n. page_at) page_at page_at
+holds : (sizes : Sizes) (pass : Pass) (page : ℕ) → IsPage sizes pass.call page → (control : Control) → IsInFlight control → PagesAt sizes pass control → HoldsLocks sizes pass control → times (PAGE page) pass.owned ≡ 1
+holds sizes pass page on = in_flight_at (λ s. PagesAt sizes pass s → HoldsLocks sizes pass s → times (PAGE page) pass.owned ≡ 1) (λ n. page_at) (λ n. page_at) (λ n. page_at) (λ n. page_at) page_at page_at
   where
-    page_at : HoldsLocks sizes pass TakePlace → times (PAGE page) pass.owned ≡ 1
-    page_at held = holds_page sizes pass page on (held (PAGE page) (λ slot. differ (PAGE page) (ENTRY slot) refl))
+    page_at : PagesAt sizes pass TakePlace → HoldsLocks sizes pass TakePlace → times (PAGE page) pass.owned ≡ 1
+    page_at pages held = holds_page sizes pass page pages on (held (PAGE page) (λ slot. differ (PAGE page) (ENTRY slot) refl))
 
 -- a write that isn't about to be ended by a fault
 flies : (pass : Pass) → is_write pass.call ≡ true → (control : Control) → IsInFlight control → IsFlying pass control ⊎ (control ≡ SetStopAfterCommit)
@@ -72,7 +72,7 @@ module _ (sizes : Sizes) (first : Values) (core : Core) (sound : Sound sizes fir
   beside_page by other page more flight on is there =
       let most = sound.broken.pages other by page more is there (checked (core.passes by).control flight) in
       let none = no_victim page (core.passes by).control flight in
-      let one = holds sizes (core.passes by) page on (core.passes by).control flight (sound.ownership by).locks in omega (arith, most, none, one)
+      let one = holds sizes (core.passes by) page on (core.passes by).control flight (sound.control_facts by).pages (sound.ownership by).locks in omega (arith, most, none, one)
 
   beside_length : (by other : ℕ) (more : Fault) → IsInFlight (core.passes by).control → IsExtending (fault_of (core.passes by)) → IsOneOf (core.passes other).faulted more → IsExtending more → file_of (core.passes by).call ≡ file_of more.call → ⊥
   beside_length by other more flight extends is too same =

@@ -2,12 +2,12 @@
 use Rattle.std.proofs.Common.{◌≡◌, ◌≢◌, ◌⊎◌, ℕ, ◌+◌, ◌≤◌, ◌==◌, ◌&&◌, ◌||◌, nat_lt, nat_le, not, Bool, true, false, List, [], ◌∷◌, inl, inr, refl, sym, ap, subst, arith, ◌∙◌}
 use Rattle.std.proofs.lemmas.Bool.{cases_eq, and_from, and_parts, eqb-true, eq-eqb, leb-true, le-leb}
 use Rattle.nv_core.specs.state.Words.{Word, PAGE, ENTRY, CLEANUP, kind_of, ready, is_entry_of, slot_of_entry}
-use Rattle.nv_core.specs.state.Passes.{Control, SeizeEntry, CommitGroup, PledgePage, ReadyEntry, TakePlace, SetStopAfterCommit, IsUnseized, IsFilling, IsAmong, times, GiveBack, Searching, TakeVictim, GiveVictim, Cleaning}
+use Rattle.nv_core.specs.state.Passes.{Control, SeizeEntry, CommitGroup, PledgePage, ReadyEntry, TakePlace, SetStopAfterCommit, IsUnseized, IsFilling, IsAmong, times, GiveBack, Searching, TakeVictim, GiveVictim, Cleaning, pages_of}
 use Rattle.nv_core.specs.state.Cleaner as cleaner
 use Rattle.nv_core.specs.steps.CleanerSteps.{after_cleaner_op, surveyed, batch_with_page, count_of, may_pass, finishing, withdrawing, syncing, closed, rising_files}
 use Rattle.nv_core.specs.steps.Ops.{Draw, Place, Give, Ready, Grow, Stop, Seize, Hold, Break}
 use Rattle.nv_core.specs.steps.StepKinds.{MayPlace}
-use Rattle.nv_core.specs.invariant.ControlFacts.{FactsAt, HasDrawn, IsPage}
+use Rattle.nv_core.specs.invariant.ControlFacts.{FactsAt, HasDrawn, IsPage, PagesAt}
 use Rattle.nv_core.specs.invariant.Ownership.{HoldsLocks, lock_held, cleanup_held}
 use Rattle.nv_core.proofs.log.LiveLaws.{writes_apart}
 use Rattle.nv_core.proofs.state.PageLaws.{write_pages}
@@ -64,19 +64,19 @@ no_two_writes_of_a_page sizes first core one other page sound flight flies here 
 ]
   where
     holds : (n : ℕ) → IsInFlight (core.passes n).control → IsPage sizes (core.passes n).call page → times (PAGE page) (core.passes n).owned ≡ 1
-    holds n flight at = go (core.passes n).control flight (sound.ownership n).locks
+    holds n flight at = go (core.passes n).control flight (sound.control_facts n).pages (sound.ownership n).locks
       where
-        held_at : (control : Control) → ((cell : Word) → ((slot : ℕ) → cell ≢ ENTRY slot) → times cell (core.passes n).owned ≡ lock_held sizes (core.passes n) TakePlace cell) → times (PAGE page) (core.passes n).owned ≡ 1
-        held_at control held = holds_page sizes (core.passes n) page at (held (PAGE page) (λ slot. differ (PAGE page) (ENTRY slot) refl))
+        held_at : (control : Control) → (core.passes n).pages ≡ pages_of sizes (core.passes n).call → ((cell : Word) → ((slot : ℕ) → cell ≢ ENTRY slot) → times cell (core.passes n).owned ≡ lock_held sizes (core.passes n) TakePlace cell) → times (PAGE page) (core.passes n).owned ≡ 1
+        held_at control pages held = holds_page sizes (core.passes n) page pages at (held (PAGE page) (λ slot. differ (PAGE page) (ENTRY slot) refl))
 
-        go : (control : Control) → IsInFlight control → HoldsLocks sizes (core.passes n) control → times (PAGE page) (core.passes n).owned ≡ 1
-        go (SeizeEntry number) is held = held_at (SeizeEntry number) held
-        go (CommitGroup calls) is held = held_at (CommitGroup calls) held
-        go (PledgePage next) is held = held_at (PledgePage next) held
-        go (ReadyEntry number) is held = held_at (ReadyEntry number) held
-        go TakePlace is held = held_at TakePlace held
-        go SetStopAfterCommit is held = held_at SetStopAfterCommit held
-        go control is held = absurd is
+        go : (control : Control) → IsInFlight control → PagesAt sizes (core.passes n) control → HoldsLocks sizes (core.passes n) control → times (PAGE page) (core.passes n).owned ≡ 1
+        go (SeizeEntry number) is pages held = held_at (SeizeEntry number) pages held
+        go (CommitGroup calls) is pages held = held_at (CommitGroup calls) pages held
+        go (PledgePage next) is pages held = held_at (PledgePage next) pages held
+        go (ReadyEntry number) is pages held = held_at (ReadyEntry number) pages held
+        go TakePlace is pages held = held_at TakePlace pages held
+        go SetStopAfterCommit is pages held = held_at SetStopAfterCommit pages held
+        go control is pages held = absurd is
 
 pub no_stop_without_a_fault : NoStopWithoutAFault
 no_stop_without_a_fault sizes first core by sound may = sound.stop.failing by (next_steps_may_come sizes core.values (core.passes by) Stop may)
@@ -88,12 +88,12 @@ no_seizure_of_a_held_entry sizes first core by number sound next =
     sound.window.unseized_is by number (subst (λ s. IsUnseized s (core.passes by).first (core.passes by).entries number) (sym may) (omega arith, at.1.1))
 
 pub no_victim_of_the_call : NoVictimOfTheCall
-no_victim_of_the_call sizes first core by page sound = go (core.passes by).control (sound.control_facts by).at
+no_victim_of_the_call sizes first core by page sound = go (core.passes by).control (sound.control_facts by).at (sound.control_facts by).pages
   where
-    go : (control : Control) → FactsAt sizes (core.passes by) control → IsSought control page → IsPage sizes (core.passes by).call page → ⊥
-    go (Searching missed tries (TakeVictim buffer victim)) stands is own = not_own sizes (core.passes by).call buffer victim page stands.2 own is
-    go (Searching missed tries (GiveVictim buffer victim)) stands is own = not_own sizes (core.passes by).call buffer victim page stands.2 own is
-    go control stands is own = is
+    go : (control : Control) → FactsAt sizes (core.passes by) control → PagesAt sizes (core.passes by) control → IsSought control page → IsPage sizes (core.passes by).call page → ⊥
+    go (Searching missed tries (TakeVictim buffer victim)) stands pages is own = not_own sizes (core.passes by).call (core.passes by).pages pages buffer victim page stands.2 own is
+    go (Searching missed tries (GiveVictim buffer victim)) stands pages is own = not_own sizes (core.passes by).call (core.passes by).pages pages buffer victim page stands.2 own is
+    go control stands pages is own = is
 
 pub no_hold_of_an_unready_entry : NoHoldOfAnUnreadyEntry
 no_hold_of_an_unready_entry sizes first core by number sound next =

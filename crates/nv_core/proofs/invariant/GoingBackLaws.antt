@@ -164,7 +164,7 @@ module _ (Bars : Fault → Word → Type 0) (early : (fault : Fault) (cell : Wor
         → times cell (moved (move_of sizes op found) (core.passes by).owned) ≤ lent (control_after sizes (core.passes by) op found) cell
     goes_on op may call has is n cell fault old at ne =
         let none = kept.off_limits n by cell fault old at has is ne in
-        let less = none_taken sizes core.values (core.passes by) cell found op (early fault cell at) (λ other gives. given_held sizes (core.passes by) other (core.passes by).control (sound.control_facts by).at (sound.ownership by).locks gives)
+        let less = none_taken sizes core.values (core.passes by) cell found op (early fault cell at) (λ other gives. given_held sizes (core.passes by) other (core.passes by).control (sound.control_facts by).at (sound.control_facts by).pages (sound.ownership by).locks gives)
         may (λ locks. not_both is (kept.locks by locks)) call in omega (arith, none, less)
 
     old_here : (op : Op) → FoundEnabledByKind sizes by core op found → (n : ℕ) (cell : Word) (fault : Fault) → IsOneOf (core.passes n).faulted fault → Bars fault cell
@@ -267,7 +267,7 @@ calls_hold_nothing_broken opens keep mount events by other fault is_mount run ca
   where
     pages_kept : Kept (pages.Bars mount.sizes) (pages.early mount.sizes) (after_run mount.sizes (opening mount) events) (passed_after events (λ n. false))
     pages_kept = kept_run (pages.Bars mount.sizes) (pages.early mount.sizes) keep mount.sizes mount.values
-        (λ core by sound fails cell own. subst (λ c. times c (core.passes by).owned ≡ 1) (sym own.1) (pages.failing_page mount.sizes (core.passes by) own.0 (core.passes by).control fails (sound.ownership by).locks own.2))
+        (λ core by sound fails cell own. subst (λ c. times c (core.passes by).owned ≡ 1) (sym own.1) (pages.failing_page mount.sizes (core.passes by) own.0 (core.passes by).control fails (sound.control_facts by).pages (sound.ownership by).locks own.2))
         events (opening mount) (λ n. false) (opens mount is_mount) (record { off_limits = λ n m cell fault is. absurd is; locks = λ m is. refl }) run
 
     lengths_kept : Kept lengths.Bars lengths.early (after_run mount.sizes (opening mount) events) (passed_after events (λ n. false))

@@ -15,7 +15,7 @@ use Rattle.nv_core.specs.steps.PassSteps.{begun}
 use Rattle.nv_core.specs.steps.Order.{Values, Work, CallEnabled, CallDue, IsFailing}
 use Rattle.nv_core.specs.state.Core.{Core, changes, changed_pass, with_value, after_step, after_begin, after_work, worked, control_worked}
 use Rattle.nv_core.proofs.steps.ByKind.{FoundEnabledByKind}
-use Rattle.nv_core.specs.invariant.ControlFacts.{FactsAt, HasDrawn, IsPage}
+use Rattle.nv_core.specs.invariant.ControlFacts.{FactsAt, HasDrawn, IsPage, PagesAt}
 use Rattle.nv_core.specs.invariant.Ownership.{HoldsLocks}
 use Rattle.nv_core.specs.invariant.LogWindow.{InWindow, entry_word_at, LogWindow}
 use Rattle.nv_core.specs.invariant.Loaded.{NoneFrom, IsReadBounded, Bounds, LooksSound}
@@ -40,14 +40,14 @@ Scans (ReturnEntry next number failed) page = page ≡ next
 Scans (SetStopAfterPiece next number) page = page ≡ next
 Scans control page = ⊥
 
-scans_page : (sizes : Sizes) (pass : Pass) (page : ℕ) (control : Control) → FactsAt sizes pass control → HoldsLocks sizes pass control → Scans control page → times (PAGE page) pass.owned ≡ 1
-scans_page sizes pass page (ReadLoadTail next) at holds is = subst (λ p. times (PAGE p) pass.owned ≡ 1) (sym is) (holds_page sizes pass next at.1 (holds (PAGE next) (λ slot. differ (PAGE next) (ENTRY slot) refl)))
-scans_page sizes pass page (LoadEntry next number) at holds is = subst (λ p. times (PAGE p) pass.owned ≡ 1) (sym is) (holds_page sizes pass next at.0.1 (holds (PAGE next) (λ slot. differ (PAGE next) (ENTRY slot) refl)))
-scans_page sizes pass page (HoldEntry next number) at holds is = subst (λ p. times (PAGE p) pass.owned ≡ 1) (sym is) (holds_page sizes pass next at.0.1 (holds (PAGE next) (λ slot. differ (PAGE next) (ENTRY slot) refl)))
-scans_page sizes pass page (ReadPiece next number) at holds is = subst (λ p. times (PAGE p) pass.owned ≡ 1) (sym is) (holds_page sizes pass next at.0.1 (holds (PAGE next) (λ slot. differ (PAGE next) (ENTRY slot) refl)))
-scans_page sizes pass page (ReturnEntry next number failed) at holds is = subst (λ p. times (PAGE p) pass.owned ≡ 1) (sym is) (holds_page sizes pass next at.0.1 (holds (PAGE next) (λ slot. differ (PAGE next) (ENTRY slot) refl)))
-scans_page sizes pass page (SetStopAfterPiece next number) at holds is = subst (λ p. times (PAGE p) pass.owned ≡ 1) (sym is) (holds_page sizes pass next at.0.1 (holds (PAGE next) (λ slot. differ (PAGE next) (ENTRY slot) refl)))
-scans_page sizes pass page control at holds is = absurd is
+scans_page : (sizes : Sizes) (pass : Pass) (page : ℕ) (control : Control) → FactsAt sizes pass control → PagesAt sizes pass control → HoldsLocks sizes pass control → Scans control page → times (PAGE page) pass.owned ≡ 1
+scans_page sizes pass page (ReadLoadTail next) at pages holds is = subst (λ p. times (PAGE p) pass.owned ≡ 1) (sym is) (holds_page sizes pass next pages at.1 (holds (PAGE next) (λ slot. differ (PAGE next) (ENTRY slot) refl)))
+scans_page sizes pass page (LoadEntry next number) at pages holds is = subst (λ p. times (PAGE p) pass.owned ≡ 1) (sym is) (holds_page sizes pass next pages at.0.1 (holds (PAGE next) (λ slot. differ (PAGE next) (ENTRY slot) refl)))
+scans_page sizes pass page (HoldEntry next number) at pages holds is = subst (λ p. times (PAGE p) pass.owned ≡ 1) (sym is) (holds_page sizes pass next pages at.0.1 (holds (PAGE next) (λ slot. differ (PAGE next) (ENTRY slot) refl)))
+scans_page sizes pass page (ReadPiece next number) at pages holds is = subst (λ p. times (PAGE p) pass.owned ≡ 1) (sym is) (holds_page sizes pass next pages at.0.1 (holds (PAGE next) (λ slot. differ (PAGE next) (ENTRY slot) refl)))
+scans_page sizes pass page (ReturnEntry next number failed) at pages holds is = subst (λ p. times (PAGE p) pass.owned ≡ 1) (sym is) (holds_page sizes pass next pages at.0.1 (holds (PAGE next) (λ slot. differ (PAGE next) (ENTRY slot) refl)))
+scans_page sizes pass page (SetStopAfterPiece next number) at pages holds is = subst (λ p. times (PAGE p) pass.owned ≡ 1) (sym is) (holds_page sizes pass next pages at.0.1 (holds (PAGE next) (λ slot. differ (PAGE next) (ENTRY slot) refl)))
+scans_page sizes pass page control at pages holds is = absurd is
 
 -- ---- entries of a page
 
@@ -244,7 +244,7 @@ module _ (sizes : Sizes) (first : Values) (by : ℕ) (core : Core) (found : ℕ)
   -- another pass makes no entry ready of a page that a read holds
   off_else : (op : Op) → FoundEnabledByKind sizes by core op found → (n : ℕ) → n ≢ by → (page : ℕ) → Scans (core.passes n).control page → IsOff sizes (core.passes by) page op
   off_else (Ready next) may n ne page is = λ e. held_by_one sizes first core sound (PAGE (page_at sizes (core.passes by) next)) by n mine
-      (subst (λ p. times (PAGE p) (core.passes n).owned ≡ 1) (sym e) (scans_page sizes (core.passes n) page (core.passes n).control (sound.control_facts n).at (sound.ownership n).locks is)) ne
+      (subst (λ p. times (PAGE p) (core.passes n).owned ≡ 1) (sym e) (scans_page sizes (core.passes n) page (core.passes n).control (sound.control_facts n).at (sound.control_facts n).pages (sound.ownership n).locks is)) ne
     where
       at : HasDrawn sizes (core.passes by).call (core.passes by).entries × IsAmong (core.passes by).first (core.passes by).entries next
       at = subst (FactsAt sizes (core.passes by)) may.may (sound.control_facts by).at
@@ -254,7 +254,7 @@ module _ (sizes : Sizes) (first : Values) (by : ℕ) (core : Core) (found : ℕ)
 
       mine : times (PAGE (page_at sizes (core.passes by) next)) (core.passes by).owned ≡ 1
       mine = let holds = subst (HoldsLocks sizes (core.passes by)) may.may (sound.ownership by).locks in
-          holds_page sizes (core.passes by) (page_at sizes (core.passes by) next) is_page (holds (PAGE (page_at sizes (core.passes by) next)) (λ slot. differ (PAGE (page_at sizes (core.passes by) next)) (ENTRY slot) refl))
+          holds_page sizes (core.passes by) (page_at sizes (core.passes by) next) (subst (PagesAt sizes (core.passes by)) may.may (sound.control_facts by).pages) is_page (holds (PAGE (page_at sizes (core.passes by) next)) (λ slot. differ (PAGE (page_at sizes (core.passes by) next)) (ENTRY slot) refl))
   off_else op may n ne page is = tt
 
   bounds_else : (op : Op) → FoundEnabledByKind sizes by core op found → (n : ℕ) → n ≢ changes by core.made op → Bounds sizes (after_step sizes by op found core) (core.passes n) (core.passes n).control

@@ -15,7 +15,7 @@ use Rattle.nv_core.specs.steps.StepKinds.{CleanerEnabled}
 use Rattle.nv_core.specs.state.Core.{Core, worked, control_worked, changes, changed_pass, after_step, after_begin, after_work}
 use Rattle.nv_core.specs.steps.Events.{CallMayBegin}
 use Rattle.nv_core.proofs.steps.ByKind.{StepEnabledByKind, FoundEnabledByKind}
-use Rattle.nv_core.specs.invariant.ControlFacts.{FactsAt, ControlFacts, has_call}
+use Rattle.nv_core.specs.invariant.ControlFacts.{FactsAt, PagesAt, ControlFacts, has_call}
 use Rattle.nv_core.specs.invariant.Ownership.{lock_held, HoldsLocks, Ownership}
 use Rattle.nv_core.specs.invariant.Sound.{Sound}
 use Rattle.nv_core.proofs.state.Changes.{by_number}
@@ -33,6 +33,10 @@ left_stands : (sizes : Sizes) (pass : Pass) (left : List Word) (control : Contro
 left_stands sizes pass left GiveBack at = at
 left_stands sizes pass left control at = at
 
+left_pages : (sizes : Sizes) (pass : Pass) (left : List Word) (control : Control) → PagesAt sizes pass control → PagesAt sizes record pass { left = left } control
+left_pages sizes pass left GiveBack at = at
+left_pages sizes pass left control at = at
+
 left_locks : (sizes : Sizes) (pass : Pass) (left : List Word) (control : Control) → HoldsLocks sizes pass control → HoldsLocks sizes record pass { left = left } control
 left_locks sizes pass left GiveBack held = held
 left_locks sizes pass left control held = held
@@ -42,9 +46,9 @@ tail_loaded sizes first by core (Cleaning batch inner) is sound = λ has. (sound
 tail_loaded sizes first by core control is sound = tt
 
 stands : (sizes : Sizes) (first : Values) (by : ℕ) (core : Core) (found : ℕ) (op : Op) → Sound sizes first core → StepEnabledByKind sizes by core op → ControlFacts sizes (changed_pass sizes by core op found)
-stands sizes first by core found Split sound may = record { at = tt; allowed = λ now. absurd (not_both now refl) }
+stands sizes first by core found Split sound may = record { at = tt; pages = tt; allowed = λ now. absurd (not_both now refl) }
 stands sizes first by core found (PutBack cell) sound may =
-    let old = sound.control_facts by in record { at = left_stands sizes (core.passes by) (cell ∷ (core.passes by).left) (core.passes by).control old.at; allowed = old.allowed }
+    let old = sound.control_facts by in record { at = left_stands sizes (core.passes by) (cell ∷ (core.passes by).left) (core.passes by).control old.at; pages = left_pages sizes (core.passes by) (cell ∷ (core.passes by).left) (core.passes by).control old.pages; allowed = old.allowed }
 stands sizes first by core found (Join number) sound may = sound.control_facts by
 stands sizes first by core found op sound may = control_facts_steps sizes core.values (core.passes by) op found by core.history (sound.control_facts by) (tail_loaded sizes first by core (core.passes by).control refl sound) may
 

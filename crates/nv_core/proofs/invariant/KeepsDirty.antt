@@ -1,10 +1,10 @@
 -- Each event keeps the dirty counters.
-use Rattle.std.proofs.Common.{◌≡◌, ◌≢◌, ◌⊎◌, ◌↔◌, ℕ, ◌+◌, ◌<◌, ◌≤◌, ◌==◌, nat_lt, nat_le, ◌&&◌, ◌||◌, Bool, true, false, if◌then◌else◌, List, [], ◌∷◌, length, take, inl, inr, refl, sym, ap, subst, ◌∙◌, arith, ◌-◌}
-use Rattle.std.proofs.lemmas.Bool.{eqb-true, eqb-false, eq-eqb, ne_eqb, le-leb, lt-ltb, leb-true, ltb-true, and_parts, and_from, and_left, or_cases, cases_eq, cases_lt, cases_Bool}
+use Rattle.std.proofs.Common.{◌≡◌, ◌≢◌, ◌⊎◌, ℕ, ◌+◌, ◌<◌, ◌≤◌, ◌==◌, ◌&&◌, ◌||◌, Bool, true, false, if◌then◌else◌, List, [], ◌∷◌, length, take, drop, inl, inr, refl, sym, ap, subst, ◌∙◌, arith, ◌-◌}
+use Rattle.std.proofs.lemmas.Bool.{eqb-true, eqb-false, eq-eqb, ne_eqb, and_left, cases_eq, cases_lt}
 use Rattle.nv_plain.specs.Layouts.{mount_layout}
 use Rattle.nv_plain.specs.declared.call.FileCall.{FileCall}
 use Rattle.nv_core.specs.state.Words.{Sizes, Word, PAGE, ENTRY, DIRTY, index, kind_of, page_of, ready, held, filling, broken, entry_word, is_entry_of, slot_of_entry}
-use Rattle.nv_core.specs.state.Passes.{Control, TakePage, LoadStop, ReadStore, SeizeEntry, CommitGroup, PledgePage, ReadyEntry, TakePlace, SetStopAfterRead, SetStopAfterCommit, BreakEntry, Pass, without, IsUnseized, IsFilling, IsAmong, IsAllowed, page_count, first_page, end_page, times, ReadPiece, SetStopAfterPiece, Cleaning, Idle, plain_call}
+use Rattle.nv_core.specs.state.Passes.{Control, TakePage, LoadStop, ReadStore, SeizeEntry, CommitGroup, PledgePage, ReadyEntry, TakePlace, SetStopAfterRead, SetStopAfterCommit, BreakEntry, Pass, without, IsUnseized, IsFilling, IsAmong, IsAllowed, page_count, first_page, end_page, nth_of, pages_of, times, ReadPiece, SetStopAfterPiece, Cleaning, Idle, plain_call}
 use Rattle.nv_core.specs.steps.Ops.{Op, page_at, ready_word, Load, Take, Give, Place, Stop, Draw, Seize, Pledge, Ready, Grow, Break, Split, PutBack, Join, Turn, Hint, Hold, Return, ByCleaner, cleaner_move, moved}
 use Rattle.nv_core.specs.state.Values.{CallEnding, Made, Failed, Refused}
 use Rattle.nv_core.specs.steps.ControlSteps.{control_after, after_by_cleaner, leaving, after_stop}
@@ -17,20 +17,19 @@ use Rattle.std.proofs.lemmas.Nat.{mod_below}
 use Rattle.nv_core.specs.state.Core.{Core, changes, changed_pass, with_value, with_number, after_step, after_begin, after_work, worked, control_worked}
 use Rattle.nv_core.specs.steps.Events.{CallMayBegin}
 use Rattle.nv_core.proofs.steps.ByKind.{FoundEnabledByKind}
-use Rattle.nv_core.specs.invariant.ControlFacts.{FactsAt, IsPage, HasDrawn, has_call}
-use Rattle.nv_core.specs.invariant.Ownership.{one_if, is_among, HoldsLocks}
+use Rattle.nv_core.specs.invariant.ControlFacts.{FactsAt, PagesAt, IsPage, HasDrawn, has_call}
+use Rattle.nv_core.specs.invariant.Ownership.{one_if, HoldsLocks}
 use Rattle.nv_core.specs.invariant.Locks.{Locks}
 use Rattle.nv_core.specs.invariant.LogWindow.{Fills, InWindow, entry_word_at}
-use Rattle.nv_core.specs.invariant.DirtyCounters.{is_of_page, entries_of_page, number_on, pledged, owed, owed_by_all, DirtyCounters}
+use Rattle.nv_core.specs.invariant.DirtyCounters.{is_of_page, entries_of_page, pledged, owed, owed_by_all, DirtyCounters}
 use Rattle.nv_core.specs.invariant.Sound.{Sound}
 use Rattle.nv_core.proofs.state.Changes.{by_number, differ, number_here, number_else, word_here, word_else}
 use Rattle.nv_core.proofs.state.Choices.{if_both, when_true, when_false, busy, not_both, step_idle}
 use Rattle.nv_core.proofs.invariant.LockLaws.{only_holder, times_without_else}
-use Rattle.nv_core.proofs.invariant.WindowLaws.{OneEntry, slot_within}
-use Rattle.nv_core.proofs.invariant.OwnershipLaws.{among_in, among_below, among_above, among_more}
+use Rattle.nv_core.proofs.invariant.WindowLaws.{slot_within}
+use Rattle.nv_core.proofs.invariant.PageLists.{count_all, count_none, count_split, count_whole, end_less, front_all, front_more, front_none, pages_many}
 use Rattle.nv_core.proofs.steps.WordLaws.{untouched, touches}
 use Rattle.nv_core.proofs.state.TotalLaws.{total_same, total_at, total_changed, total_made}
-use Rattle.nv_core.proofs.invariant.KeepsWindow.{readies_one, pledged_alike}
 use Rattle.nv_core.proofs.invariant.KeepsLocks.{kind_is, locks_step, readying_next, entry_is}
 use Rattle.nv_core.proofs.invariant.KeepsLoaded.{held_by_one, holds_page, pledged_page}
 use Rattle.nv_core.specs.invariant.Loaded.{LooksSound}
@@ -137,53 +136,11 @@ silent sizes core now who pass locks after dirty same entries passes none_before
           let one = still_held page holder.0 ne holder.1 in omega (arith, none, one))
     ]
 
--- ---- what is pledged, by what is being filled
-
-number_of : (sizes : Sizes) (pass : Pass) (page : ℕ) → first_page sizes pass.call ≤ page → number_on sizes pass page + first_page sizes pass.call ≡ pass.first + page
-number_of sizes pass page low = omega arith
-
--- 1 for the page of an entry that is being filled, and else 0
-pub record CountsFilling (sizes : Sizes) (pass : Pass) (control : Control) (page : ℕ) : Type 0 where
-  pub one : first_page sizes pass.call ≤ page → IsFilling control pass.first pass.entries (number_on sizes pass page) → pledged sizes pass control page ≡ 1
-  pub none : (first_page sizes pass.call ≤ page → IsFilling control pass.first pass.entries (number_on sizes pass page) → ⊥) → pledged sizes pass control page ≡ 0
-
-readying_counts : (sizes : Sizes) (pass : Pass) (next page : ℕ) → CountsFilling sizes pass (ReadyEntry next) page
-readying_counts sizes pass next page = record {
-  one = λ low is. when_true _ 1 0 (and_from (nat_le (first_page sizes pass.call) page) _ (le-leb (first_page sizes pass.call) page low) (filled is));
-  none = λ off. elim (cases_Bool test) [ inl so ↦ absurd (let both = and_parts (nat_le (first_page sizes pass.call) page) innermost so in off (leb-true (first_page sizes pass.call) page both.0) (fills both.1)) | inr not_so ↦ when_false test 1 0 not_so ];
-}
-  where
-    innermost : Bool
-    innermost = number_on sizes pass page == pass.first || (nat_lt pass.first next && is_among next (pass.first + pass.entries) (number_on sizes pass page))
-
-    test : Bool
-    test = nat_le (first_page sizes pass.call) page && (number_on sizes pass page == pass.first || (nat_lt pass.first next && is_among next (pass.first + pass.entries) (number_on sizes pass page)))
-
-    or_left : (b c : Bool) → b ≡ true → (b || c) ≡ true
-    or_left b c e = subst (λ x. (x || c) ≡ true) (sym e) refl
-
-    or_right : (b c : Bool) → c ≡ true → (b || c) ≡ true
-    or_right true c e = refl
-    or_right false c e = e
-
-    filled : IsFilling (ReadyEntry next) pass.first pass.entries (number_on sizes pass page) → (number_on sizes pass page == pass.first || (nat_lt pass.first next && is_among next (pass.first + pass.entries) (number_on sizes pass page))) ≡ true
-    filled is = elim is [
-      | inl leader ↦ or_left (number_on sizes pass page == pass.first) _ (eq-eqb (number_on sizes pass page) pass.first leader)
-      | inr follower ↦ or_right (number_on sizes pass page == pass.first) _ (and_from (nat_lt pass.first next) _ (lt-ltb pass.first next follower.0)
-          (and_from (nat_le next (number_on sizes pass page)) _ (le-leb next (number_on sizes pass page) follower.1) (lt-ltb (number_on sizes pass page) (pass.first + pass.entries) follower.2)))
-    ]
-
-    fills : (number_on sizes pass page == pass.first || (nat_lt pass.first next && is_among next (pass.first + pass.entries) (number_on sizes pass page))) ≡ true → IsFilling (ReadyEntry next) pass.first pass.entries (number_on sizes pass page)
-    fills so = elim (or_cases (number_on sizes pass page == pass.first) _ so) [
-      | inl leader ↦ inl (eqb-true (number_on sizes pass page) pass.first leader)
-      | inr follower ↦ inr (
-          let both = and_parts (nat_lt pass.first next) (is_among next (pass.first + pass.entries) (number_on sizes pass page)) follower in
-          let range = and_parts (nat_le next (number_on sizes pass page)) (nat_lt (number_on sizes pass page) (pass.first + pass.entries)) both.1 in
-          (ltb-true pass.first next both.0, leb-true next (number_on sizes pass page) range.0, ltb-true (number_on sizes pass page) (pass.first + pass.entries) range.1))
-    ]
-
-placing_counts : (sizes : Sizes) (pass : Pass) (page : ℕ) → CountsFilling sizes pass TakePlace page
-placing_counts sizes pass page = record { one = λ low is. absurd is; none = λ off. refl }
+eq_turned : (a b : ℕ) → one_if (a == b) ≡ one_if (b == a)
+eq_turned a b = elim (cases_eq a b) [
+  | inl same ↦ when_true (a == b) 1 0 (eq-eqb a b same) ∙ sym (when_true (b == a) 1 0 (eq-eqb b a (sym same)))
+  | inr ne ↦ when_false (a == b) 1 0 (ne_eqb a b ne) ∙ sym (when_false (b == a) 1 0 (ne_eqb b a (λ e. ne (sym e))))
+]
 
 -- ---- ENTRY words and the count of a page's entries
 
@@ -329,10 +286,13 @@ pledges_step sizes first by core found page sound dirty may = record {
     at : HasDrawn sizes (core.passes by).call (core.passes by).entries × IsPage sizes (core.passes by).call page
     at = subst (FactsAt sizes (core.passes by)) may.may (sound.control_facts by).at
 
-    mine : times (PAGE page) (core.passes by).owned ≡ 1
-    mine = pledged_page sizes (core.passes by) page at (subst (HoldsLocks sizes (core.passes by)) may.may (sound.ownership by).locks)
+    pages : (core.passes by).pages ≡ pages_of sizes (core.passes by).call
+    pages = subst (PagesAt sizes (core.passes by)) may.may (sound.control_facts by).pages
 
-    was : (p : ℕ) → pledged sizes (core.passes by) (core.passes by).control p ≡ one_if (is_among (first_page sizes (core.passes by).call) page p)
+    mine : times (PAGE page) (core.passes by).owned ≡ 1
+    mine = pledged_page sizes (core.passes by) page at pages (subst (HoldsLocks sizes (core.passes by)) may.may (sound.ownership by).locks)
+
+    was : (p : ℕ) → pledged sizes (core.passes by) (core.passes by).control p ≡ count_in (take (nth_of sizes (core.passes by).call page) (core.passes by).pages) p
     was p = ap (λ s. pledged sizes (core.passes by) s p) may.may
 
     dirty_now : (p : ℕ) → (after_step sizes by (Pledge page) found core).words (DIRTY p) ≡ one_if (p == page) + core.words (DIRTY p)
@@ -343,45 +303,26 @@ pledges_step sizes first by core found page sound dirty may = record {
     ]
 
     -- after the last page all entries are pledged, and none is ready
-    all : (p : ℕ) → (page + 1 == end_page sizes (core.passes by).call) ≡ true → (x : ℕ) → ((n : ℕ) → IsFilling (ReadyEntry x) (core.passes by).first (core.passes by).entries n ↔ IsAmong (core.passes by).first (core.passes by).entries n)
-        → pledged sizes (core.passes by) (ReadyEntry x) p ≡ one_if (is_among (first_page sizes (core.passes by).call) (page + 1) p)
-    all p last x fills = elim (cases_lt p (first_page sizes (core.passes by).call)) [
-      | inl below ↦ (counts p).none (λ low. absurd (omega arith)) ∙ sym (among_below (first_page sizes (core.passes by).call) (page + 1) p below)
-      | inr above ↦ elim (cases_lt p (page + 1)) [
-        | inl within ↦ (counts p).one above ((fills (number_on sizes (core.passes by) p)).1 (omega arith, let e = eqb-true (page + 1) (end_page sizes (core.passes by).call) last in let m = at.0.many in omega (arith, e, m, above, within)))
-            ∙ sym (among_in (first_page sizes (core.passes by).call) (page + 1) p above within)
-        | inr past ↦ (counts p).none (λ low is. let r = (fills (number_on sizes (core.passes by) p)).0 is in let y = r.1 in let e = eqb-true (page + 1) (end_page sizes (core.passes by).call) last in let m = at.0.many in omega (arith, y, e, m, above, past))
-            ∙ sym (among_above (first_page sizes (core.passes by).call) (page + 1) p past)
-      ]
-    ]
-      where
-        counts : (p : ℕ) → CountsFilling sizes (core.passes by) (ReadyEntry x) p
-        counts p = readying_counts sizes (core.passes by) x p
+    all : (p : ℕ) → (page + 1 == end_page sizes (core.passes by).call) ≡ true
+        → pledged sizes (core.passes by) (ReadyEntry (if (core.passes by).entries == 1 then (core.passes by).first else (core.passes by).first + 1)) p ≡ count_in (take (nth_of sizes (core.passes by).call (page + 1)) (core.passes by).pages) p
+    all p last =
+        if_both (λ x. pledged sizes (core.passes by) (ReadyEntry x) p ≡ count_in (core.passes by).pages p) ((core.passes by).entries == 1) (core.passes by).first ((core.passes by).first + 1)
+        (λ one. let e = eqb-true (core.passes by).entries 1 one in let many = at.0.many in let long = pages_many sizes (core.passes by).call (core.passes by).pages pages in
+        let a = count_all (core.passes by).pages 1 p (omega (arith, e, many, long)) in
+        let n : (if (core.passes by).first == (core.passes by).first then 0 else count_in (drop ((core.passes by).first - (core.passes by).first) (core.passes by).pages) p) ≡ 0 = when_true ((core.passes by).first == (core.passes by).first) 0 _ (eq-eqb (core.passes by).first (core.passes by).first refl) in omega (arith, a, n))
+        (λ _. let n : (if (core.passes by).first + 1 == (core.passes by).first then 0 else count_in (drop ((core.passes by).first + 1 - (core.passes by).first) (core.passes by).pages) p) ≡ count_in (drop 1 (core.passes by).pages) p =
+        when_false ((core.passes by).first + 1 == (core.passes by).first) 0 _ (ne_eqb ((core.passes by).first + 1) (core.passes by).first (λ e. omega (arith, e)))
+        ∙ ap (λ k. count_in (drop k (core.passes by).pages) p) (let k : (core.passes by).first + 1 - (core.passes by).first ≡ 1 = omega arith in k) in
+        let a = count_split (core.passes by).pages p in omega (arith, n, a))
+        ∙ sym (front_all sizes (core.passes by).call (core.passes by).pages pages (page + 1) p (eqb-true (page + 1) (end_page sizes (core.passes by).call) last))
 
-    more : (p : ℕ) → pledged sizes (changed_pass sizes by core (Pledge page) found) (changed_pass sizes by core (Pledge page) found).control p ≡ one_if (p == page) + one_if (is_among (first_page sizes (core.passes by).call) page p)
-    more p = if_both (λ s. pledged sizes (core.passes by) s p ≡ one_if (p == page) + one_if (is_among (first_page sizes (core.passes by).call) page p)) (page + 1 == end_page sizes (core.passes by).call)
+    more : (p : ℕ) → pledged sizes (changed_pass sizes by core (Pledge page) found) (changed_pass sizes by core (Pledge page) found).control p ≡ one_if (p == page) + count_in (take (nth_of sizes (core.passes by).call page) (core.passes by).pages) p
+    more p = if_both (λ s. pledged sizes (core.passes by) s p ≡ one_if (p == page) + count_in (take (nth_of sizes (core.passes by).call page) (core.passes by).pages) p) (page + 1 == end_page sizes (core.passes by).call)
         (ReadyEntry (if (core.passes by).entries == 1 then (core.passes by).first else (core.passes by).first + 1)) (PledgePage (page + 1))
-        (λ last. all p last (if (core.passes by).entries == 1 then (core.passes by).first else (core.passes by).first + 1) (λ n. subst (λ s. IsFilling s (core.passes by).first (core.passes by).entries n ↔ IsAmong (core.passes by).first (core.passes by).entries n)
-        (when_true (page + 1 == end_page sizes (core.passes by).call) (ReadyEntry (if (core.passes by).entries == 1 then (core.passes by).first else (core.passes by).first + 1)) (PledgePage (page + 1)) last) (pledged_alike sizes (core.passes by) page n at.0.some).1)
-        ∙ among_more (first_page sizes (core.passes by).call) page p at.1.0)
-        (λ _. among_more (first_page sizes (core.passes by).call) page p at.1.0)
+        (λ last. all p last ∙ front_more sizes (core.passes by).call (core.passes by).pages pages page p at.1)
+        (λ _. front_more sizes (core.passes by).call (core.passes by).pages pages page p at.1)
 
 -- ---- an entry that is made ready
-
-fills_or_not : (first entries next number : ℕ) → IsFilling (ReadyEntry next) first entries number ⊎ (IsFilling (ReadyEntry next) first entries number → ⊥)
-fills_or_not first entries next number = elim (cases_eq number first) [
-  | inl leader ↦ inl (inl leader)
-  | inr not_leader ↦ elim (cases_lt first next) [
-    | inr below ↦ inr (λ is. elim is [ inl leader ↦ not_leader leader | inr follower ↦ (let x = follower.0 in omega (arith, x, below)) ])
-    | inl above ↦ elim (cases_lt number next) [
-      | inl done ↦ inr (λ is. elim is [ inl leader ↦ not_leader leader | inr follower ↦ (let x = follower.1 in omega (arith, x, done)) ])
-      | inr later ↦ elim (cases_lt number (first + entries)) [
-        | inl within ↦ inl (inr (above, later, within))
-        | inr past ↦ inr (λ is. elim is [ inl leader ↦ not_leader leader | inr follower ↦ (let x = follower.2 in omega (arith, x, past)) ])
-      ]
-    ]
-  ]
-]
 
 readies_step : (sizes : Sizes) (first : Values) (by : ℕ) (core : Core) (found next : ℕ) → Sound sizes first core → DirtyCounters sizes core → FoundEnabledByKind sizes by core (Ready next) found → DirtyCounters sizes (after_step sizes by (Ready next) found core)
 readies_step sizes first by core found next sound dirty may = record {
@@ -411,9 +352,12 @@ readies_step sizes first by core found next sound dirty may = record {
     is_page : IsPage sizes (core.passes by).call (page_at sizes (core.passes by) next)
     is_page = (omega arith, let x = at.1.0 in let y = at.1.1 in let m = at.0.many in omega (arith, x, y, m))
 
+    pages : (core.passes by).pages ≡ pages_of sizes (core.passes by).call
+    pages = subst (PagesAt sizes (core.passes by)) may.may (sound.control_facts by).pages
+
     mine : times (PAGE (page_at sizes (core.passes by) next)) (core.passes by).owned ≡ 1
     mine = (let held = subst (HoldsLocks sizes (core.passes by)) may.may (sound.ownership by).locks in
-        holds_page sizes (core.passes by) (page_at sizes (core.passes by) next) is_page (held (PAGE (page_at sizes (core.passes by) next)) (λ slot. differ (PAGE (page_at sizes (core.passes by) next)) (ENTRY slot) refl)))
+        holds_page sizes (core.passes by) (page_at sizes (core.passes by) next) pages is_page (held (PAGE (page_at sizes (core.passes by) next)) (λ slot. differ (PAGE (page_at sizes (core.passes by) next)) (ENTRY slot) refl)))
 
     fills_next : Fills (core.passes by) next
     fills_next = subst (λ g. IsFilling g (core.passes by).first (core.passes by).entries next) (sym may.may) (readying_next (core.passes by).first (core.passes by).entries next at.1)
@@ -431,43 +375,52 @@ readies_step sizes first by core found next sound dirty may = record {
         let b = ready_of_page (if next == (core.passes by).first then (core.passes by).entries else 0) (page_at sizes (core.passes by) next) p few in
         omega (arith, e, a, b)
 
-    one : OneEntry sizes core by next (ready_word sizes (core.passes by) next) (changed_pass sizes by core (Ready next) found)
-    one = readies_one sizes first by core found next sound may
+    -- its place among the pages
+    nth : nth_of sizes (core.passes by).call (page_at sizes (core.passes by) next) ≡ next - (core.passes by).first
+    nth = (let x = at.1.0 in omega (arith, x))
 
-    ready_not_one : ready_word sizes (core.passes by) next ≡ 1 → ⊥
-    ready_not_one e = (let k = kind_is ready (if next == (core.passes by).first then (core.passes by).entries else 0) (page_at sizes (core.passes by) next) (omega arith) in let z : kind_of (ready_word sizes (core.passes by) next) ≡ 1 = ap kind_of e in omega (arith, k, z))
+    behind : (p : ℕ) → count_in (drop (next - (core.passes by).first) (core.passes by).pages) p
+        ≡ one_if (p == page_at sizes (core.passes by) next) + count_in (drop (next + 1 - (core.passes by).first) (core.passes by).pages) p
+    behind p =
+        let e = end_less sizes (core.passes by).call (core.passes by).pages pages (page_at sizes (core.passes by) next) p is_page in
+        let a : count_in (drop (nth_of sizes (core.passes by).call (page_at sizes (core.passes by) next)) (core.passes by).pages) p ≡ count_in (drop (next - (core.passes by).first) (core.passes by).pages) p = ap (λ k. count_in (drop k (core.passes by).pages) p) nth in
+        let b : count_in (drop (nth_of sizes (core.passes by).call (page_at sizes (core.passes by) next + 1)) (core.passes by).pages) p ≡ count_in (drop (next + 1 - (core.passes by).first) (core.passes by).pages) p =
+        ap (λ k. count_in (drop k (core.passes by).pages) p) (let k : nth_of sizes (core.passes by).call (page_at sizes (core.passes by) next + 1) ≡ next + 1 - (core.passes by).first = (let x = at.1.0 in omega (arith, x)) in k) in
+        omega (arith, e, a, b)
 
-    was : (p : ℕ) → CountsFilling sizes (core.passes by) (core.passes by).control p
-    was p = subst (λ g. CountsFilling sizes (core.passes by) g p) (sym may.may) (readying_counts sizes (core.passes by) next p)
+    -- the leader's alone
+    front : (p : ℕ) → next ≡ (core.passes by).first → count_in (take 1 (core.passes by).pages) p ≡ one_if (p == page_at sizes (core.passes by) next)
+    front p same =
+        let split = count_split (core.passes by).pages p in
+        let whole = count_whole (core.passes by).pages p in
+        let e = behind p in
+        let a : count_in (drop (next - (core.passes by).first) (core.passes by).pages) p ≡ count_in (drop 0 (core.passes by).pages) p = ap (λ k. count_in (drop k (core.passes by).pages) p) (let k : next - (core.passes by).first ≡ 0 = omega (arith, same) in k) in
+        let b : count_in (drop (next + 1 - (core.passes by).first) (core.passes by).pages) p ≡ count_in (drop 1 (core.passes by).pages) p = ap (λ k. count_in (drop k (core.passes by).pages) p) (let k : next + 1 - (core.passes by).first ≡ 1 = omega (arith, same) in k) in
+        omega (arith, split, whole, e, a, b)
 
-    is_now : (p : ℕ) → CountsFilling sizes (core.passes by) (changed_pass sizes by core (Ready next) found).control p
-    is_now p = if_both (λ g. CountsFilling sizes (core.passes by) g p) (next == (core.passes by).first) TakePlace (ReadyEntry (if next + 1 == (core.passes by).first + (core.passes by).entries then (core.passes by).first else next + 1))
-        (λ _. placing_counts sizes (core.passes by) p) (λ _. readying_counts sizes (core.passes by) (if next + 1 == (core.passes by).first + (core.passes by).entries then (core.passes by).first else next + 1) p)
+    -- what is pledged where a number is next to be readied, of the followers
+    rest : (x p : ℕ) → ℕ
+    rest x p = if x == (core.passes by).first then 0 else count_in (drop (x - (core.passes by).first) (core.passes by).pages) p
+
+    was : (p : ℕ) → pledged sizes (core.passes by) (core.passes by).control p ≡ pledged sizes (core.passes by) (ReadyEntry next) p
+    was p = ap (λ s. pledged sizes (core.passes by) s p) may.may
 
     -- the page of the entry counts one less, and another page what it did
     less : (p : ℕ) → pledged sizes (core.passes by) (changed_pass sizes by core (Ready next) found).control p + one_if (page_at sizes (core.passes by) next == p) ≡ pledged sizes (core.passes by) (core.passes by).control p
-    less p = elim (cases_lt p (first_page sizes (core.passes by).call)) [
-      | inl below ↦ (let a = (is_now p).none (λ low. absurd (omega arith)) in let b = (was p).none (λ low. absurd (omega arith)) in
-          let o : one_if (page_at sizes (core.passes by) next == p) ≡ 0 = when_false (page_at sizes (core.passes by) next == p) 1 0 (ne_eqb (page_at sizes (core.passes by) next) p (λ is. omega (arith, is, below))) in omega (arith, a, b, o))
-      | inr above ↦ elim (cases_eq (number_on sizes (core.passes by) p) next) [
-        | inl same ↦ (let a = (is_now p).none (λ low fills. elim (one.fills (number_on sizes (core.passes by) p) fills) [ inl old ↦ old.1 same | inr new ↦ ready_not_one new.1 ]) in
-            let b = (was p).one above (subst (Fills (core.passes by)) (sym same) fills_next) in
-            let x = at.1.0 in
-            let o : one_if (page_at sizes (core.passes by) next == p) ≡ 1 = when_true (page_at sizes (core.passes by) next == p) 1 0 (eq-eqb (page_at sizes (core.passes by) next) p (omega (arith, same, above, x))) in omega (arith, a, b, o))
-        | inr other ↦ (
-            let x = at.1.0 in
-            let o : one_if (page_at sizes (core.passes by) next == p) ≡ 0 = when_false (page_at sizes (core.passes by) next == p) 1 0 (ne_eqb (page_at sizes (core.passes by) next) p (λ is. other (omega (arith, is, above, x)))) in
-            elim (fills_or_not (core.passes by).first (core.passes by).entries next (number_on sizes (core.passes by) p)) [
-              | inl fills ↦ (let f = subst (λ g. IsFilling g (core.passes by).first (core.passes by).entries (number_on sizes (core.passes by) p)) (sym may.may) fills in
-                  let a = (is_now p).one above (one.fills_still (number_on sizes (core.passes by) p) f other) in let b = (was p).one above f in omega (arith, a, b, o))
-              | inr none ↦ (let a = (is_now p).none (λ low fills. elim (one.fills (number_on sizes (core.passes by) p) fills) [
-                | inl old ↦ none (subst (λ g. IsFilling g (core.passes by).first (core.passes by).entries (number_on sizes (core.passes by) p)) may.may old.0)
-                | inr new ↦ other new.0
-              ]) in
-                  let b = (was p).none (λ low fills. none (subst (λ g. IsFilling g (core.passes by).first (core.passes by).entries (number_on sizes (core.passes by) p)) may.may fills)) in omega (arith, a, b, o))
-            ])
-      ]
-    ]
+    less p =
+        let before = was p in let turned = eq_turned p (page_at sizes (core.passes by) next) in
+        if_both (λ s. pledged sizes (core.passes by) s p + one_if (page_at sizes (core.passes by) next == p) ≡ pledged sizes (core.passes by) (core.passes by).control p) (next == (core.passes by).first) TakePlace
+        (ReadyEntry (if next + 1 == (core.passes by).first + (core.passes by).entries then (core.passes by).first else next + 1))
+        (λ e. let f = front p (eqb-true next (core.passes by).first e) in
+        let none : rest next p ≡ 0 = when_true (next == (core.passes by).first) 0 _ e in omega (arith, before, turned, f, none))
+        (λ e. let some : rest next p ≡ count_in (drop (next - (core.passes by).first) (core.passes by).pages) p = when_false (next == (core.passes by).first) 0 _ e in
+        let b = behind p in
+        let then_is : rest (if next + 1 == (core.passes by).first + (core.passes by).entries then (core.passes by).first else next + 1) p ≡ count_in (drop (next + 1 - (core.passes by).first) (core.passes by).pages) p =
+        if_both (λ x. rest x p ≡ count_in (drop (next + 1 - (core.passes by).first) (core.passes by).pages) p) (next + 1 == (core.passes by).first + (core.passes by).entries) (core.passes by).first (next + 1)
+        (λ last. when_true ((core.passes by).first == (core.passes by).first) 0 _ (eq-eqb (core.passes by).first (core.passes by).first refl)
+        ∙ sym (count_none (core.passes by).pages (next + 1 - (core.passes by).first) p (let l = eqb-true (next + 1) ((core.passes by).first + (core.passes by).entries) last in let m = at.0.many in let long = pages_many sizes (core.passes by).call (core.passes by).pages pages in omega (arith, l, m, long))))
+        (λ _. when_false (next + 1 == (core.passes by).first) 0 _ (ne_eqb (next + 1) (core.passes by).first (λ is. let x = at.1.0 in omega (arith, is, x)))) in
+        omega (arith, before, turned, some, b, then_is))
 
 -- ---- a cleaner's steps
 
@@ -485,12 +438,6 @@ cleaner_step_owes : (sizes : Sizes) (by : ℕ) (core : Core) (cleaner_op : Clean
 cleaner_step_owes sizes by core cleaner_op found un may page = owed_same core (after_step sizes by (ByCleaner cleaner_op) found core) page refl
     (by_number (λ n (p : Pass). owed p.control page ≡ owed (core.passes n).control page) core.passes by (changed_pass sizes by core (ByCleaner cleaner_op) found)
     (by_cleaner_owes sizes (core.passes by) (moved (cleaner_move sizes cleaner_op found) (core.passes by).owned) cleaner_op found (core.passes by).control un may.may page) (λ n ne. refl))
-
-eq_turned : (a b : ℕ) → one_if (a == b) ≡ one_if (b == a)
-eq_turned a b = elim (cases_eq a b) [
-  | inl same ↦ when_true (a == b) 1 0 (eq-eqb a b same) ∙ sym (when_true (b == a) 1 0 (eq-eqb b a (sym same)))
-  | inr ne ↦ when_false (a == b) 1 0 (ne_eqb a b ne) ∙ sym (when_false (b == a) 1 0 (ne_eqb b a (λ e. ne (sym e))))
-]
 
 -- the pass of a cleaner is made
 cleaner_made : (sizes : Sizes) (first : Values) (by : ℕ) (core : Core) (batch : Batch) (inner : CleanerControl) → Sound sizes first core → (core.passes by).control ≡ Cleaning batch inner → by < core.made + 1
@@ -745,10 +692,7 @@ dirty_work sizes first by core work dirty may = dirty_still sizes core (after_wo
 
     works : (page : ℕ) (control : Control) (how : CallEnding) → CallDue sizes core.values (core.passes by) work control → pledged sizes (worked sizes work (core.passes by)) (control_worked sizes (core.passes by) how control) page ≡ pledged sizes (core.passes by) control page
     works page (CommitGroup calls) Made due = if_both (λ s. pledged sizes (worked sizes work (core.passes by)) s page ≡ 0) (calls + 1 == length (commit_steps sizes (core.passes by) (core.passes by).call)) (PledgePage (first_page sizes (core.passes by).call)) (CommitGroup (calls + 1))
-        (λ _. elim (cases_lt page (first_page sizes (core.passes by).call)) [
-          | inl below ↦ among_below (first_page sizes (core.passes by).call) (first_page sizes (core.passes by).call) page below
-          | inr above ↦ among_above (first_page sizes (core.passes by).call) (first_page sizes (core.passes by).call) page above
-        ]) (λ _. refl)
+        (λ _. front_none sizes (core.passes by).call (core.passes by).pages page) (λ _. refl)
     works page (CommitGroup calls) (Failed came faults) due = refl
     works page (ReadStore next dirty) Made due = refl
     works page (ReadStore next dirty) (Failed came faults) due = refl

@@ -11,7 +11,7 @@ use Rattle.nv_core.specs.steps.Order.{Values, Work, CallEnabled, IsFailing}
 use Rattle.nv_core.specs.state.Core.{Core, changes, changed_pass, after_step, after_begin, after_work, worked}
 use Rattle.nv_core.specs.steps.Events.{CallMayBegin}
 use Rattle.nv_core.proofs.steps.ByKind.{StepEnabledByKind, FoundEnabledByKind}
-use Rattle.nv_core.specs.invariant.ControlFacts.{IsPage}
+use Rattle.nv_core.specs.invariant.ControlFacts.{IsPage, PagesAt}
 use Rattle.nv_core.specs.invariant.Ownership.{HoldsLocks}
 use Rattle.nv_core.specs.invariant.FaultedWrites.{HasChecked, Broken}
 use Rattle.nv_core.specs.invariant.Sound.{Sound}
@@ -71,11 +71,11 @@ once_here sizes by core found Stop broken may = let none = ap length (broken.pas
 once_here sizes by core found op broken may = broken.once by
 
 -- a pass that fails holds its pages
-pub failing_page : (sizes : Sizes) (pass : Pass) (page : ℕ) (control : Control) → IsFailing control → HoldsLocks sizes pass control → IsPage sizes pass.call page → times (PAGE page) pass.owned ≡ 1
-failing_page sizes pass page (SetStopAfterRead other dirty) may held is = holds_page sizes pass page is (held (PAGE page) (λ slot. differ (PAGE page) (ENTRY slot) refl))
-failing_page sizes pass page (SetStopAfterPiece other next) may held is = holds_page sizes pass page is (held (PAGE page) (λ slot. differ (PAGE page) (ENTRY slot) refl))
-failing_page sizes pass page SetStopAfterCommit may held is = holds_page sizes pass page is (held (PAGE page) (λ slot. differ (PAGE page) (ENTRY slot) refl))
-failing_page sizes pass page control may held is = absurd may
+pub failing_page : (sizes : Sizes) (pass : Pass) (page : ℕ) (control : Control) → IsFailing control → PagesAt sizes pass control → HoldsLocks sizes pass control → IsPage sizes pass.call page → times (PAGE page) pass.owned ≡ 1
+failing_page sizes pass page (SetStopAfterRead other dirty) may pages held is = holds_page sizes pass page pages is (held (PAGE page) (λ slot. differ (PAGE page) (ENTRY slot) refl))
+failing_page sizes pass page (SetStopAfterPiece other next) may pages held is = holds_page sizes pass page pages is (held (PAGE page) (λ slot. differ (PAGE page) (ENTRY slot) refl))
+failing_page sizes pass page SetStopAfterCommit may pages held is = holds_page sizes pass page pages is (held (PAGE page) (λ slot. differ (PAGE page) (ENTRY slot) refl))
+failing_page sizes pass page control may pages held is = absurd may
 
 -- the pages of its call, which a fault has left shut
 abbrev pub Bars : Sizes → Fault → Word → Type 0
@@ -100,10 +100,10 @@ broken_step sizes first by core op found sound broken may = record {
   once = by_number (λ n (p : Pass). length p.faulted ≤ 1) core.passes who now (once_here sizes by core found op broken may.may) (λ n ne. broken.once n);
   passed = by_number (λ n (p : Pass). HasChecked p.control → p.faulted ≡ []) core.passes who now (passed_here sizes first by core found op sound broken may) (λ n ne. broken.passed n);
   pages = λ n m page fault is at. off_limits_step (Bars sizes) (early sizes) sizes first by core op found sound may
-      (λ fails cell own. subst (λ c. times c (core.passes by).owned ≡ 1) (sym own.1) (failing_page sizes (core.passes by) own.0 (core.passes by).control fails (sound.ownership by).locks own.2))
+      (λ fails cell own. subst (λ c. times c (core.passes by).owned ≡ 1) (sym own.1) (failing_page sizes (core.passes by) own.0 (core.passes by).control fails (sound.control_facts by).pages (sound.ownership by).locks own.2))
       (were_off_limits sizes core broken) n m (PAGE page) fault is (page, refl, at);
   one = pages_once sizes (after_step sizes by op found core) (sole_step (Bars sizes) (early sizes) sizes first by core op found sound may
-      (λ fails cell own. subst (λ c. times c (core.passes by).owned ≡ 1) (sym own.1) (failing_page sizes (core.passes by) own.0 (core.passes by).control fails (sound.ownership by).locks own.2))
+      (λ fails cell own. subst (λ c. times c (core.passes by).owned ≡ 1) (sym own.1) (failing_page sizes (core.passes by) own.0 (core.passes by).control fails (sound.control_facts by).pages (sound.ownership by).locks own.2))
       (were_off_limits sizes core broken) (were_sole sizes core broken));
 }
   where

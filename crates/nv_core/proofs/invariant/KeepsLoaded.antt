@@ -7,7 +7,7 @@ use Rattle.nv_core.specs.state.Words.{Sizes, Word, STOP, ORDER, HEAD, TAIL, SIZE
 use Rattle.nv_core.specs.state.Values.{CallEnding, Made, Failed, Refused}
 use Rattle.nv_core.specs.state.Cleaner.{Subtract, MoveTail}
 use Rattle.nv_core.specs.state.Cleaner as cleaner
-use Rattle.nv_core.specs.state.Passes.{Control, Idle, TakePage, LoadLength, TakeSize, LoadStop, LoadOrder, VisitPage, TakeStore, ReadStore, GiveStore, TakeCleanup, WriteLoadHead, WriteLoadTail, DrawNumbers, SeizeEntry, CommitGroup, PledgePage, ReadyEntry, TakePlace, GrowLength, GiveSize, GivePage, GiveBack, SetStopAfterRead, SetStopAfterCommit, BreakEntry, Cleaning, Pass, file_of, at_of, len_of, is_write, is_read, page_count, first_page, end_page, without, times, Searching, TakeVictim, ReadLoadHead, ReadLoadTail, LoadEntry, HoldEntry, ReadPiece, ReturnEntry, GiveCleanup, SetStopAfterPiece, plain_call}
+use Rattle.nv_core.specs.state.Passes.{Control, Idle, TakePage, LoadLength, TakeSize, LoadStop, LoadOrder, VisitPage, TakeStore, ReadStore, GiveStore, TakeCleanup, WriteLoadHead, WriteLoadTail, DrawNumbers, SeizeEntry, CommitGroup, PledgePage, ReadyEntry, TakePlace, GrowLength, GiveSize, GivePage, GiveBack, SetStopAfterRead, SetStopAfterCommit, BreakEntry, Cleaning, Pass, file_of, at_of, len_of, is_write, is_read, page_count, first_page, end_page, without, times, Searching, TakeVictim, ReadLoadHead, ReadLoadTail, LoadEntry, HoldEntry, ReadPiece, ReturnEntry, GiveCleanup, SetStopAfterPiece, plain_call, pages_of}
 use Rattle.nv_core.specs.steps.Ops.{Op, Load, Take, Give, Place, Stop, Draw, Seize, Pledge, Ready, Grow, Break, Split, PutBack, Join, value_after, Turn, Hint, Hold, Return, ByCleaner, moved, cleaner_move}
 use Rattle.nv_core.specs.steps.ControlSteps.{control_after, after_load, after_give, after_stop, leaving, giving, ending, ordered, copying, exceeds, first_control, scanning, after_head, after_tail, after_look, after_hold, after_return}
 use Rattle.nv_core.specs.steps.PassSteps.{begun, length_after, sized_after}
@@ -17,19 +17,20 @@ use Rattle.nv_core.proofs.state.PageLaws.{some_pages}
 use Rattle.nv_core.specs.state.Core.{Core, changes, changed_pass, made_stepped, after_step, after_begin, after_work, worked, control_worked}
 use Rattle.nv_core.specs.steps.Events.{CallMayBegin}
 use Rattle.nv_core.proofs.steps.ByKind.{StepEnabledByKind, FoundEnabledByKind}
-use Rattle.nv_core.specs.invariant.ControlFacts.{FactsAt, IsPage}
-use Rattle.nv_core.specs.invariant.Ownership.{one_if, is_among, HoldsLocks}
+use Rattle.nv_core.specs.invariant.ControlFacts.{FactsAt, IsPage, PagesAt}
+use Rattle.nv_core.specs.invariant.Ownership.{one_if, HoldsLocks}
 use Rattle.nv_core.specs.invariant.Loaded.{HasMeasured, SawClean, Loaded, Bounds, LooksSound}
 use Rattle.nv_core.specs.invariant.Sound.{Sound}
 use Rattle.nv_core.proofs.state.Changes.{by_number, by_word, number_here, word_here, word_else, differ}
 use Rattle.nv_core.proofs.state.Choices.{if_both, not_both, when_true, leaving_both, IsGivingBack, gives_back, page_tried}
 use Rattle.nv_core.proofs.invariant.LockLaws.{only_holder}
-use Rattle.nv_core.proofs.invariant.OwnershipLaws.{among_in}
 use Rattle.nv_core.proofs.steps.WordLaws.{untouched, touches}
 use Rattle.nv_core.proofs.steps.CleanerControls.{tended_to, of_cleaner_worked}
 use Rattle.nv_core.proofs.steps.CleanerOps.{retires_hand}
 use Rattle.nv_core.proofs.steps.Inherits.{inherits}
 use Rattle.nv_core.proofs.steps.SearchLaws.{turned_at, looked_at, hinting_at, hinting_next, tried_next, hinted_at}
+use Rattle.nv_core.proofs.invariant.PageLists.{pages_once}
+use Rattle.nv_core.specs.invariant.CleanerOwnership.{count_in}
 
 -- ---- HEAD and TAIL
 
@@ -342,17 +343,17 @@ length_is_else sizes first by core found op sound may n ne measured sized = soun
 -- ---- DIRTY
 
 -- a pass that has seen a page clean, and one that pledges it, hold the page
-pub holds_page : (sizes : Sizes) (pass : Pass) (page : ℕ) → IsPage sizes pass.call page → times (PAGE page) pass.owned ≡ one_if (is_among (first_page sizes pass.call) (end_page sizes pass.call) page) → times (PAGE page) pass.owned ≡ 1
-holds_page sizes pass page is held = held ∙ among_in (first_page sizes pass.call) (end_page sizes pass.call) page is.0 is.1
+pub holds_page : (sizes : Sizes) (pass : Pass) (page : ℕ) → pass.pages ≡ pages_of sizes pass.call → IsPage sizes pass.call page → times (PAGE page) pass.owned ≡ count_in pass.pages page → times (PAGE page) pass.owned ≡ 1
+holds_page sizes pass page pages is held = held ∙ pages_once sizes pass.call pass.pages pages page is
 
-clean_page : (sizes : Sizes) (pass : Pass) (page : ℕ) (control : Control) → FactsAt sizes pass control → HoldsLocks sizes pass control → SawClean control page → times (PAGE page) pass.owned ≡ 1
-clean_page sizes pass page (TakeStore next false) stands held saw = subst (λ p. times (PAGE p) pass.owned ≡ 1) saw (holds_page sizes pass next stands.1 (held (PAGE next) (λ slot. differ (PAGE next) (ENTRY slot) refl)))
-clean_page sizes pass page (ReadStore next false) stands held saw = subst (λ p. times (PAGE p) pass.owned ≡ 1) saw (holds_page sizes pass next stands.1 (held (PAGE next) (λ slot. differ (PAGE next) (ENTRY slot) refl)))
-clean_page sizes pass page (GiveStore next false) stands held saw = subst (λ p. times (PAGE p) pass.owned ≡ 1) saw (holds_page sizes pass next stands.1 (held (PAGE next) (λ slot. differ (PAGE next) (ENTRY slot) refl)))
-clean_page sizes pass page control stands held saw = absurd saw
+clean_page : (sizes : Sizes) (pass : Pass) (page : ℕ) (control : Control) → FactsAt sizes pass control → PagesAt sizes pass control → HoldsLocks sizes pass control → SawClean control page → times (PAGE page) pass.owned ≡ 1
+clean_page sizes pass page (TakeStore next false) stands pages held saw = subst (λ p. times (PAGE p) pass.owned ≡ 1) saw (holds_page sizes pass next pages stands.1 (held (PAGE next) (λ slot. differ (PAGE next) (ENTRY slot) refl)))
+clean_page sizes pass page (ReadStore next false) stands pages held saw = subst (λ p. times (PAGE p) pass.owned ≡ 1) saw (holds_page sizes pass next pages stands.1 (held (PAGE next) (λ slot. differ (PAGE next) (ENTRY slot) refl)))
+clean_page sizes pass page (GiveStore next false) stands pages held saw = subst (λ p. times (PAGE p) pass.owned ≡ 1) saw (holds_page sizes pass next pages stands.1 (held (PAGE next) (λ slot. differ (PAGE next) (ENTRY slot) refl)))
+clean_page sizes pass page control stands pages held saw = absurd saw
 
-pub pledged_page : (sizes : Sizes) (pass : Pass) (page : ℕ) → FactsAt sizes pass (PledgePage page) → HoldsLocks sizes pass (PledgePage page) → times (PAGE page) pass.owned ≡ 1
-pledged_page sizes pass page stands held = holds_page sizes pass page stands.1 (held (PAGE page) (λ slot. differ (PAGE page) (ENTRY slot) refl))
+pub pledged_page : (sizes : Sizes) (pass : Pass) (page : ℕ) → FactsAt sizes pass (PledgePage page) → PagesAt sizes pass (PledgePage page) → HoldsLocks sizes pass (PledgePage page) → times (PAGE page) pass.owned ≡ 1
+pledged_page sizes pass page stands pages held = holds_page sizes pass page pages stands.1 (held (PAGE page) (λ slot. differ (PAGE page) (ENTRY slot) refl))
 
 -- a DIRTY that is 0 stays so but where a pass pledges the page
 dirty_stays : (sizes : Sizes) (by : ℕ) (core : Core) (found : ℕ) (op : Op) → FoundEnabledByKind sizes by core op found → (page : ℕ) → (op ≡ Pledge page → ⊥) → core.words (DIRTY page) ≡ 0 → (after_step sizes by op found core).words (DIRTY page) ≡ 0
@@ -371,8 +372,8 @@ clean_else sizes first by core found op sound may n ne page saw = dirty_stays si
     pledger op may e =
         let control : (core.passes by).control ≡ PledgePage page = subst (StepEnabledByKind sizes by core) e may in
         held_by_one sizes first core sound (PAGE page) by n
-        (pledged_page sizes (core.passes by) page (subst (FactsAt sizes (core.passes by)) control (sound.control_facts by).at) (subst (HoldsLocks sizes (core.passes by)) control (sound.ownership by).locks))
-        (clean_page sizes (core.passes n) page (core.passes n).control (sound.control_facts n).at (sound.ownership n).locks saw) ne
+        (pledged_page sizes (core.passes by) page (subst (FactsAt sizes (core.passes by)) control (sound.control_facts by).at) (subst (PagesAt sizes (core.passes by)) control (sound.control_facts by).pages) (subst (HoldsLocks sizes (core.passes by)) control (sound.ownership by).locks))
+        (clean_page sizes (core.passes n) page (core.passes n).control (sound.control_facts n).at (sound.control_facts n).pages (sound.ownership n).locks saw) ne
 
 -- of the pass that steps
 unseen : (owned : List Word) (page : ℕ) → SawClean (leaving owned) page → ⊥

@@ -3,7 +3,7 @@ use Rattle.std.proofs.Common.{◌≡◌, ◌≢◌, ℕ, ◌+◌, ◌<◌, ◌�
 use Rattle.std.proofs.lemmas.Bool.{le-leb, and_from, eqb-true, eqb-false, eq-eqb, ne_eqb, cases_eq, and_parts}
 use Rattle.nv_plain.specs.declared.call.FileCall.{FileCall}
 use Rattle.nv_core.specs.state.Words.{Sizes, Word, CLEANER, PAGE, SIZE, STORE, ENTRY, is_shut, is_lock, kind_of, entry_word, ready, cleaned, was_readied, CLEANUP, held, page_of, is_entry_of, slot_of_entry}
-use Rattle.nv_core.specs.state.Passes.{Control, GiveBack, GiveSize, GivePage, GiveStore, GiveVictim, Searching, ReadyEntry, Pass, IsUnseized, IsFilling, IsAmong, IsLastTaken, file_of, end_page, times, GiveCleanup, IsHeldEntry, Cleaning}
+use Rattle.nv_core.specs.state.Passes.{Control, GiveBack, GiveSize, GivePage, GiveStore, GiveVictim, Searching, ReadyEntry, Pass, IsUnseized, IsFilling, IsAmong, IsLastTaken, file_of, times, GiveCleanup, IsHeldEntry, Cleaning}
 use Rattle.nv_core.specs.steps.Ops.{Op, Stays, Comes, moved, move_of, page_at, ready_word, Load, Take, Give, Place, Stop, Draw, Seize, Pledge, Ready, Grow, Break, Turn, Hint, Split, PutBack, Join, word_of, value_after, Hold, Return, ByCleaner, cleaner_move}
 use Rattle.nv_core.specs.state.Cleaner.{CleanEntry, RefusedReturnEntry, FailedReturnEntry, CleanerOp, TakeCleaner, Clean, Subtract, Free, MoveTail}
 use Rattle.nv_core.specs.state.Cleaner as cleaner
@@ -12,19 +12,19 @@ use Rattle.nv_core.specs.steps.Order.{Values, Work}
 use Rattle.nv_core.specs.steps.StepKinds.{MayTake, MayGive, CleanerEnabled}
 use Rattle.nv_core.specs.state.Core.{Core, changes, changed_pass, after_step, after_begin, after_work}
 use Rattle.nv_core.proofs.steps.ByKind.{FoundEnabledByKind}
-use Rattle.nv_core.specs.invariant.ControlFacts.{FactsAt}
-use Rattle.nv_core.specs.invariant.Ownership.{one_if, is_among, HoldsLocks}
+use Rattle.nv_core.specs.invariant.ControlFacts.{FactsAt, PagesAt}
+use Rattle.nv_core.specs.invariant.Ownership.{one_if, HoldsLocks}
 use Rattle.nv_core.specs.invariant.Locks.{Keyed, Locks}
 use Rattle.nv_core.specs.invariant.Sound.{Sound}
 use Rattle.nv_core.proofs.state.Changes.{differ, by_number}
 use Rattle.nv_core.proofs.state.Choices.{if_both, not_both, when_true, when_false}
 use Rattle.nv_core.proofs.invariant.LockLaws.{IsFit, locks_move, keyed_same, times_here}
-use Rattle.nv_core.proofs.invariant.OwnershipLaws.{among_in}
 use Rattle.nv_core.proofs.steps.WordLaws.{given_lock, unshut_lock, cleaner_op_locks}
 use Rattle.nv_core.proofs.invariant.CleanerLocks.{cleaner_give_held}
 use Rattle.nv_core.proofs.steps.CleanerOps.{IsTending, IsDropping, CleanerReturn_it, Undoes_it, tending, cleaner_hold_hand, cleaner_return_hand, cleans_hand, frees_hand}
 use Rattle.nv_core.specs.invariant.LogWindow.{InWindow, entry_word_at}
 use Rattle.nv_core.specs.invariant.Loaded.{LooksSound}
+use Rattle.nv_core.proofs.invariant.PageLists.{end_less}
 
 -- at readying the next is one of those that are being filled
 pub readying_next : (first entries next : ℕ) → IsAmong first entries next → IsFilling (ReadyEntry next) first entries next
@@ -35,28 +35,31 @@ last_held : (cell : Word) (owned : List Word) → IsLastTaken cell owned → 1 �
 last_held cell [] last = absurd last
 last_held cell (first ∷ rest) last = subst (λ w. 1 ≤ times cell (w ∷ rest)) (sym last) (let t = times_here cell rest in omega (arith, t))
 
-pub given_held : (sizes : Sizes) (pass : Pass) (cell : Word) (control : Control) → FactsAt sizes pass control → HoldsLocks sizes pass control → MayGive pass cell control → 1 ≤ times cell pass.owned
-given_held sizes pass (SIZE file) GiveSize at held may =
+pub given_held : (sizes : Sizes) (pass : Pass) (cell : Word) (control : Control) → FactsAt sizes pass control → PagesAt sizes pass control → HoldsLocks sizes pass control → MayGive pass cell control → 1 ≤ times cell pass.owned
+given_held sizes pass (SIZE file) GiveSize at pages held may =
     let a = held (SIZE file) (λ slot. differ (SIZE file) (ENTRY slot) refl) in
     let b = when_true (file == file_of pass.call) (one_if pass.sized) 0 (eq-eqb file (file_of pass.call) may) in
     let c : one_if pass.sized ≡ 1 = when_true pass.sized 1 0 at in omega (arith, a, b, c)
-given_held sizes pass (PAGE page) (GivePage next) at held may =
-    let a = held (PAGE page) (λ slot. differ (PAGE page) (ENTRY slot) refl) in
-    let b = subst (λ p. one_if (is_among next (end_page sizes pass.call) p) ≡ 1) (sym may) (among_in next (end_page sizes pass.call) next (omega arith) at.1) in omega (arith, a, b)
-given_held sizes pass (STORE file) (GiveStore page dirty) at held may =
+given_held sizes pass (PAGE page) (GivePage next) at pages held may =
+    subst (λ p. 1 ≤ times (PAGE p) pass.owned) (sym may) (
+    let a = held (PAGE next) (λ slot. differ (PAGE next) (ENTRY slot) refl) in
+    let b = end_less sizes pass.call pass.pages pages next next at in
+    let c : one_if (next == next) ≡ 1 = when_true (next == next) 1 0 (eq-eqb next next refl) in omega (arith, a, b, c)
+    )
+given_held sizes pass (STORE file) (GiveStore page dirty) at pages held may =
     let a = held (STORE file) (λ slot. differ (STORE file) (ENTRY slot) refl) in
     let b : one_if (file == file_of pass.call) ≡ 1 = when_true (file == file_of pass.call) 1 0 (eq-eqb file (file_of pass.call) may) in omega (arith, a, b)
-given_held sizes pass (CLEANUP page) (GiveCleanup next) at held may =
+given_held sizes pass (CLEANUP page) (GiveCleanup next) at pages held may =
     let a = held (CLEANUP page) (λ slot. differ (CLEANUP page) (ENTRY slot) refl) in
     let b : one_if (page == next) ≡ 1 = when_true (page == next) 1 0 (eq-eqb page next may) in omega (arith, a, b)
-given_held sizes pass (PAGE page) (Searching missed tries (GiveVictim buffer victim)) at held may =
+given_held sizes pass (PAGE page) (Searching missed tries (GiveVictim buffer victim)) at pages held may =
     let a = held (PAGE page) (λ slot. differ (PAGE page) (ENTRY slot) refl) in
     let b : one_if (page == victim) ≡ 1 = when_true (page == victim) 1 0 (eq-eqb page victim may) in omega (arith, a, b)
-given_held sizes pass (SIZE file) GiveBack at held may = last_held (SIZE file) pass.owned may
-given_held sizes pass (PAGE page) GiveBack at held may = last_held (PAGE page) pass.owned may
-given_held sizes pass (STORE file) GiveBack at held may = last_held (STORE file) pass.owned may
-given_held sizes pass (CLEANUP page) GiveBack at held may = last_held (CLEANUP page) pass.owned may
-given_held sizes pass cell control at held may = absurd may
+given_held sizes pass (SIZE file) GiveBack at pages held may = last_held (SIZE file) pass.owned may
+given_held sizes pass (PAGE page) GiveBack at pages held may = last_held (PAGE page) pass.owned may
+given_held sizes pass (STORE file) GiveBack at pages held may = last_held (STORE file) pass.owned may
+given_held sizes pass (CLEANUP page) GiveBack at pages held may = last_held (CLEANUP page) pass.owned may
+given_held sizes pass cell control at pages held may = absurd may
 
 -- a lock that is not 0 is 1
 one : (value : ℕ) → value ≤ 1 → (value == 0) ≡ false → (value == 1) ≡ true
@@ -195,7 +198,7 @@ fits : (sizes : Sizes) (first : Values) (by : ℕ) (core : Core) (found : ℕ) (
 fits sizes first by core found (Load word) sound may = ap (is_shut word) (sym may.is)
 fits sizes first by core found (Take cell) sound may = take_fit cell (core.words cell) found (core.passes by).owned (taken_lock (core.passes by) cell may.may) may.is (sound.locks.bit cell (taken_lock (core.passes by) cell may.may))
 fits sizes first by core found (Give cell) sound may =
-    (refl, given_held sizes (core.passes by) cell (core.passes by).control (sound.control_facts by).at (sound.ownership by).locks may.may, unshut_lock cell (given_lock (core.passes by) cell (core.passes by).control may.may))
+    (refl, given_held sizes (core.passes by) cell (core.passes by).control (sound.control_facts by).at (sound.control_facts by).pages (sound.ownership by).locks may.may, unshut_lock cell (given_lock (core.passes by) cell (core.passes by).control may.may))
 fits sizes first by core found (Place reply) sound may = refl
 fits sizes first by core found Stop sound may = refl
 fits sizes first by core found Draw sound may = refl

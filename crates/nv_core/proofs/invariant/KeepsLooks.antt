@@ -16,7 +16,7 @@ use Rattle.nv_core.specs.steps.Order.{Values, Work, CallEnabled, CallDue, IsFail
 use Rattle.nv_core.specs.steps.StepKinds.{MayLoad, MayTake, EnabledByKind}
 use Rattle.nv_core.specs.state.Core.{Core, changes, changed_pass, after_step, after_begin, after_work, worked, control_worked}
 use Rattle.nv_core.proofs.steps.ByKind.{FoundEnabledByKind}
-use Rattle.nv_core.specs.invariant.ControlFacts.{FactsAt, HasDrawn, ReadsPage}
+use Rattle.nv_core.specs.invariant.ControlFacts.{FactsAt, HasDrawn, ReadsPage, PagesAt}
 use Rattle.nv_core.specs.invariant.Ownership.{HoldsLocks}
 use Rattle.nv_core.specs.invariant.LogWindow.{InWindow, entry_word_at, LogWindow}
 use Rattle.nv_core.specs.invariant.Loaded.{IsReadBounded, Bounds, LooksSound}
@@ -41,12 +41,12 @@ Knows (SetStopAfterPiece next one) page number = (page ≡ next) × (number ≡ 
 Knows control page number = ⊥
 
 -- it holds that page
-knows_page : (sizes : Sizes) (pass : Pass) (page number : ℕ) (control : Control) → FactsAt sizes pass control → HoldsLocks sizes pass control → Knows control page number → times (PAGE page) pass.owned ≡ 1
-knows_page sizes pass page number (HoldEntry next one) at holds is = subst (λ p. times (PAGE p) pass.owned ≡ 1) (sym is.0) (holds_page sizes pass next at.0.1 (holds (PAGE next) (λ slot. differ (PAGE next) (ENTRY slot) refl)))
-knows_page sizes pass page number (ReadPiece next one) at holds is = subst (λ p. times (PAGE p) pass.owned ≡ 1) (sym is.0) (holds_page sizes pass next at.0.1 (holds (PAGE next) (λ slot. differ (PAGE next) (ENTRY slot) refl)))
-knows_page sizes pass page number (ReturnEntry next one failed) at holds is = subst (λ p. times (PAGE p) pass.owned ≡ 1) (sym is.0) (holds_page sizes pass next at.0.1 (holds (PAGE next) (λ slot. differ (PAGE next) (ENTRY slot) refl)))
-knows_page sizes pass page number (SetStopAfterPiece next one) at holds is = subst (λ p. times (PAGE p) pass.owned ≡ 1) (sym is.0) (holds_page sizes pass next at.0.1 (holds (PAGE next) (λ slot. differ (PAGE next) (ENTRY slot) refl)))
-knows_page sizes pass page number control at holds is = absurd is
+knows_page : (sizes : Sizes) (pass : Pass) (page number : ℕ) (control : Control) → FactsAt sizes pass control → PagesAt sizes pass control → HoldsLocks sizes pass control → Knows control page number → times (PAGE page) pass.owned ≡ 1
+knows_page sizes pass page number (HoldEntry next one) at pages holds is = subst (λ p. times (PAGE p) pass.owned ≡ 1) (sym is.0) (holds_page sizes pass next pages at.0.1 (holds (PAGE next) (λ slot. differ (PAGE next) (ENTRY slot) refl)))
+knows_page sizes pass page number (ReadPiece next one) at pages holds is = subst (λ p. times (PAGE p) pass.owned ≡ 1) (sym is.0) (holds_page sizes pass next pages at.0.1 (holds (PAGE next) (λ slot. differ (PAGE next) (ENTRY slot) refl)))
+knows_page sizes pass page number (ReturnEntry next one failed) at pages holds is = subst (λ p. times (PAGE p) pass.owned ≡ 1) (sym is.0) (holds_page sizes pass next pages at.0.1 (holds (PAGE next) (λ slot. differ (PAGE next) (ENTRY slot) refl)))
+knows_page sizes pass page number (SetStopAfterPiece next one) at pages holds is = subst (λ p. times (PAGE p) pass.owned ≡ 1) (sym is.0) (holds_page sizes pass next pages at.0.1 (holds (PAGE next) (λ slot. differ (PAGE next) (ENTRY slot) refl)))
+knows_page sizes pass page number control at pages holds is = absurd is
 
 -- and its CLEANUP
 knows_cleanup : (sizes : Sizes) (pass : Pass) (page number : ℕ) (control : Control) → HoldsLocks sizes pass control → Knows control page number → times (CLEANUP page) pass.owned ≡ 1
@@ -112,8 +112,8 @@ known_apart sizes first by core sound n ne page number next own is here e =
     let there = (knows_entry sizes core page number (core.passes n).control (sound.loaded.looks n) is).own in
     let mine = (knows_entry sizes core own next (core.passes by).control (sound.loaded.looks by) here).own in
     let same : page ≡ own = sym there ∙ ap page_of (ap core.words e) ∙ mine in
-    held_by_one sizes first core sound (PAGE own) by n (knows_page sizes (core.passes by) own next (core.passes by).control (sound.control_facts by).at (sound.ownership by).locks here)
-    (subst (λ p. times (PAGE p) (core.passes n).owned ≡ 1) same (knows_page sizes (core.passes n) page number (core.passes n).control (sound.control_facts n).at (sound.ownership n).locks is)) ne
+    held_by_one sizes first core sound (PAGE own) by n (knows_page sizes (core.passes by) own next (core.passes by).control (sound.control_facts by).at (sound.control_facts by).pages (sound.ownership by).locks here)
+    (subst (λ p. times (PAGE p) (core.passes n).owned ≡ 1) same (knows_page sizes (core.passes n) page number (core.passes n).control (sound.control_facts n).at (sound.control_facts n).pages (sound.ownership n).locks is)) ne
 
 -- nor does a cleaner change one that a read knows: either holds CLEANUP of its page
 written_back_apart : (sizes : Sizes) (first : Values) (by : ℕ) (core : Core) → Sound sizes first core → (n : ℕ) → n ≢ by → (page number next : ℕ) → Knows (core.passes n).control page number

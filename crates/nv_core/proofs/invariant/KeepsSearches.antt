@@ -15,7 +15,7 @@ use Rattle.nv_core.specs.steps.StepKinds.{MayLoad, MayTake, MayGive, EnabledByKi
 use Rattle.nv_core.specs.state.Core.{Core, changed_pass, with_value, after_step, after_begin, after_work, worked, control_worked, values_read, values_worked, values_robbed, values_given, values_stepped}
 use Rattle.nv_core.proofs.steps.ByKind.{FoundEnabledByKind}
 use Rattle.nv_core.specs.steps.Opening.{Mount, IsMount}
-use Rattle.nv_core.specs.invariant.ControlFacts.{FactsAt}
+use Rattle.nv_core.specs.invariant.ControlFacts.{FactsAt, PagesAt}
 use Rattle.nv_core.specs.invariant.Ownership.{HoldsLocks, one_if, is_among}
 use Rattle.nv_core.specs.invariant.BuffersKept.{BuffersKept, buffer_count}
 use Rattle.nv_core.specs.invariant.Searches.{IsVictim, SearchKnows, KnowsAt, Searches}
@@ -89,6 +89,9 @@ module _ (sizes : Sizes) (first : Values) (by : ℕ) (core : Core) (page tries b
   pub rob_stands : FactsAt sizes (core.passes by) (Searching page tries (GiveVictim buffer victim))
   rob_stands = subst (FactsAt sizes (core.passes by)) at (sound.control_facts by).at
 
+  pub rob_pages : PagesAt sizes (core.passes by) (Searching page tries (GiveVictim buffer victim))
+  rob_pages = subst (PagesAt sizes (core.passes by)) at (sound.control_facts by).pages
+
   rob_locks : HoldsLocks sizes (core.passes by) (Searching page tries (GiveVictim buffer victim))
   rob_locks = subst (HoldsLocks sizes (core.passes by)) at (sound.ownership by).locks
 
@@ -96,13 +99,13 @@ module _ (sizes : Sizes) (first : Values) (by : ℕ) (core : Core) (page tries b
   rob_knows = subst (KnowsAt sizes core.values) at (sound.searches.each by)
 
   rob_page : 1 ≤ times (PAGE page) (core.passes by).owned
-  rob_page = (let h = searching_holds sizes (core.passes by) page tries (GiveVictim buffer victim) rob_stands rob_locks page rob_stands.1 in omega (arith, h))
+  rob_page = (let h = searching_holds sizes (core.passes by) page tries (GiveVictim buffer victim) rob_stands rob_pages rob_locks page rob_stands.1 in omega (arith, h))
 
   rob_victim : 1 ≤ times (PAGE victim) (core.passes by).owned
   rob_victim = (let a = rob_locks (PAGE victim) (λ slot. differ (PAGE victim) (ENTRY slot) refl) in let b : one_if (victim == victim) ≡ 1 = when_true (victim == victim) 1 0 (eq-eqb victim victim refl) in omega (arith, a, b))
 
   pub rob_differ : page ≢ victim
-  rob_differ = not_own sizes (core.passes by).call buffer victim page rob_stands.2 rob_stands.1
+  rob_differ = not_own sizes (core.passes by).call (core.passes by).pages rob_pages buffer victim page rob_stands.2 rob_stands.1
 
   -- what another pass holds stays
   pub rob_others : (number other : ℕ) → number ≢ by → 1 ≤ times (PAGE other) (core.passes number).owned
@@ -312,7 +315,7 @@ known_else sizes first by core (Give cell) sound number ne = go (core.passes by)
         own : (missed some : ℕ) (search : Search) → (core.passes number).control ≡ Searching missed some search → 1 ≤ times (PAGE missed) (core.passes number).owned
         own missed some search is =
             let stands : FactsAt sizes (core.passes number) (Searching missed some search) = subst (FactsAt sizes (core.passes number)) is (sound.control_facts number).at in
-            let h = searching_holds sizes (core.passes number) missed some search stands (subst (HoldsLocks sizes (core.passes number)) is (sound.ownership number).locks) missed stands.1 in omega (arith, h)
+            let h = searching_holds sizes (core.passes number) missed some search stands (subst (PagesAt sizes (core.passes number)) is (sound.control_facts number).pages) (subst (HoldsLocks sizes (core.passes number)) is (sound.ownership number).locks) missed stands.1 in omega (arith, h)
     go control at = sound.searches.each number
 known_else sizes first by core (Pledge page) sound number ne = known_same sizes core.values (values_stepped sizes (core.passes by) (Pledge page) core.values) (core.passes number).control
     (λ missed tries search is. lacks_at core.values (PAGE page) (patched_by sizes (core.passes by).call page (core.values (PAGE page))) (lacks_patched sizes (core.passes by).call page (core.values (PAGE page))) (PAGE missed)) (sound.searches.each number)

@@ -1,64 +1,29 @@
 -- Ownership: each step and each device call leaves its pass with the cells that it then holds.
-use Rattle.std.proofs.Common.{◌≡◌, ◌≢◌, ℕ, ◌+◌, ◌<◌, ◌≤◌, ◌==◌, nat_lt, nat_le, ◌^◌, Bool, true, false, not, ◌&&◌, if◌then◌else◌, List, ◌∷◌, inl, inr, refl, sym, ap, subst, ◌∙◌, arith}
-use Rattle.std.proofs.lemmas.Bool.{and_from, and_left, and_right, eqb-true, le-leb, lt-leb, lt-ltb, le-ltb, eq-eqb, ne_eqb, cases_eq, cases_lt}
+use Rattle.std.proofs.Common.{◌≡◌, ◌≢◌, ℕ, ◌+◌, ◌≤◌, ◌==◌, nat_lt, nat_le, ◌^◌, Bool, true, false, not, ◌&&◌, if◌then◌else◌, List, [], ◌∷◌, ◌++◌, drop, inl, inr, refl, sym, ap, subst, ◌∙◌, arith}
+use Rattle.std.proofs.lemmas.Bool.{eqb-true, eq-eqb}
 use Rattle.nv_plain.specs.Histories.{Answered}
 use Rattle.nv_core.specs.state.Words.{Sizes, Word, STOP, ORDER, HEAD, TAIL, SIZE, LENGTH, STORE, ENTRY, HINT, PAGE, DIRTY, same, CLEANUP, CLEANER, HEADER, ready, is_entry_of, slot_of_entry}
-use Rattle.nv_core.specs.state.Passes.{Control, Idle, TakePage, LoadLength, TakeSize, LoadStop, LoadOrder, VisitPage, TakeStore, ReadStore, GiveStore, TakeCleanup, Search, LoadHint, TakeVictim, GiveVictim, VictimGiven, NotFound, HintSet, Searching, WriteLoadHead, WriteLoadTail, DrawNumbers, SeizeEntry, CommitGroup, PledgePage, ReadyEntry, TakePlace, GrowLength, GiveSize, GivePage, GiveBack, SetStopAfterRead, SetStopAfterCommit, BreakEntry, Pass, file_of, is_read, is_write, page_count, first_page, end_page, without, times, ReadLoadHead, ReadLoadTail, LoadEntry, HoldEntry, ReturnEntry, GiveCleanup, SetStopAfterPiece}
+use Rattle.nv_core.specs.state.Passes.{Control, Idle, TakePage, LoadLength, TakeSize, LoadStop, LoadOrder, VisitPage, TakeStore, ReadStore, GiveStore, TakeCleanup, Search, LoadHint, TakeVictim, GiveVictim, VictimGiven, NotFound, HintSet, Searching, WriteLoadHead, WriteLoadTail, DrawNumbers, SeizeEntry, CommitGroup, PledgePage, ReadyEntry, TakePlace, GrowLength, GiveSize, GivePage, GiveBack, SetStopAfterRead, SetStopAfterCommit, BreakEntry, Pass, file_of, is_read, is_write, page_count, first_page, end_page, nth_of, without, times, ReadLoadHead, ReadLoadTail, LoadEntry, HoldEntry, ReturnEntry, GiveCleanup, SetStopAfterPiece}
 use Rattle.nv_core.specs.steps.Ops.{Op, Stays, Comes, moved, Load, Take, Give, Place, Stop, Draw, Seize, Pledge, Ready, Grow, Break, Turn, Hint, Hold, Return, ByCleaner}
 use Rattle.nv_core.specs.steps.ControlSteps.{copying, control_after, after_load, after_give, after_stop, leaving, giving, ending, ordered, exceeds, scanning, after_head, after_tail, after_look, after_hold, after_return}
-use Rattle.nv_core.specs.steps.PassSteps.{stepped}
+use Rattle.nv_core.specs.steps.PassSteps.{stepped, pages_after}
 use Rattle.nv_core.specs.steps.Order.{Values, IsFailing}
 use Rattle.nv_core.specs.steps.StepKinds.{MayLoad, MayTake, MayGive, MayPlace, IsTryOver, IsMiss, JustNow, AfterTries, IsSeeking, EnabledByKind}
-use Rattle.nv_core.specs.invariant.ControlFacts.{IsPage, FactsAt, ControlFacts}
+use Rattle.nv_core.specs.invariant.ControlFacts.{FactsAt, PagesAt, ControlFacts}
+use Rattle.nv_core.specs.invariant.CleanerOwnership.{count_in}
 use Rattle.nv_core.specs.invariant.Ownership.{one_if, is_among, page_held, size_held, lock_held, HoldsLocks, cleanup_held, store_times, cleaner_held, header_held}
 use Rattle.nv_core.proofs.state.Changes.{differ, same_true}
 use Rattle.nv_core.proofs.state.Choices.{if_both, when_true, when_false, leaving_both, gives_one}
 use Rattle.nv_core.proofs.steps.SearchLaws.{hinting_next, tried_next}
 use Rattle.nv_core.proofs.invariant.LockLaws.{times_else, times_without, times_without_else}
+use Rattle.nv_core.proofs.invariant.PageLists.{count_more, end_less, end_none, end_whole}
+use Rattle.nv_core.proofs.invariant.PageSteps.{HasAll}
 
 -- ---- numbers
 
 pub both_same : {T : Type 0} (b : Bool) (x : T) → (if b then x else x) ≡ x
 both_same true x = refl
 both_same false x = refl
-
-pub among_in : (from end page : ℕ) → from ≤ page → page < end → one_if (is_among from end page) ≡ 1
-among_in from end page low high = when_true (is_among from end page) 1 0 (and_from (nat_le from page) (nat_lt page end) (le-leb from page low) (lt-ltb page end high))
-
-pub among_below : (from end page : ℕ) → page < from → one_if (is_among from end page) ≡ 0
-among_below from end page low = when_false (is_among from end page) 1 0 (and_left (nat_le from page) (nat_lt page end) (lt-leb from page low))
-
-pub among_above : (from end page : ℕ) → end ≤ page → one_if (is_among from end page) ≡ 0
-among_above from end page high = when_false (is_among from end page) 1 0 (and_right (nat_le from page) (nat_lt page end) (le-ltb page end high))
-
--- one more page in the row, and one less
-pub among_more : (from end page : ℕ) → from ≤ end → one_if (is_among from (end + 1) page) ≡ one_if (page == end) + one_if (is_among from end page)
-among_more from end page low = elim (cases_eq page end) [
-  | inl e ↦ subst (λ p. one_if (is_among from (end + 1) p) ≡ one_if (p == end) + one_if (is_among from end p)) (sym e)
-      (let a = among_in from (end + 1) end low (omega arith) in let b = among_above from end end (omega arith) in let c : one_if (end == end) ≡ 1 = when_true (end == end) 1 0 (eq-eqb end end refl) in omega (arith, a, b, c))
-  | inr ne ↦ let c : one_if (page == end) ≡ 0 = when_false (page == end) 1 0 (ne_eqb page end ne) in
-      elim (cases_lt page from) [
-        | inl below ↦ let a = among_below from (end + 1) page below in let b = among_below from end page below in omega (arith, a, b, c)
-        | inr above ↦ elim (cases_lt page end) [
-          | inl within ↦ let a = among_in from (end + 1) page above (omega arith) in let b = among_in from end page above within in omega (arith, a, b, c)
-          | inr past ↦ let a = among_above from (end + 1) page (omega arith) in let b = among_above from end page past in omega (arith, a, b, c)
-        ]
-      ]
-]
-
-pub among_less : (from end page : ℕ) → from < end → one_if (is_among from end page) ≡ one_if (page == from) + one_if (is_among (from + 1) end page)
-among_less from end page low = elim (cases_eq page from) [
-  | inl e ↦ subst (λ p. one_if (is_among from end p) ≡ one_if (p == from) + one_if (is_among (from + 1) end p)) (sym e)
-      (let a = among_in from end from (omega arith) low in let b = among_below (from + 1) end from (omega arith) in let c : one_if (from == from) ≡ 1 = when_true (from == from) 1 0 (eq-eqb from from refl) in omega (arith, a, b, c))
-  | inr ne ↦ let c : one_if (page == from) ≡ 0 = when_false (page == from) 1 0 (ne_eqb page from ne) in
-      elim (cases_lt page from) [
-        | inl below ↦ let a = among_below from end page below in let b = among_below (from + 1) end page (omega arith) in omega (arith, a, b, c)
-        | inr above ↦ elim (cases_lt page end) [
-          | inl within ↦ let a = among_in from end page above within in let b = among_in (from + 1) end page (omega arith) within in omega (arith, a, b, c)
-          | inr past ↦ let a = among_above from end page past in let b = among_above (from + 1) end page past in omega (arith, a, b, c)
-        ]
-      ]
-]
 
 -- ---- locks owned
 
@@ -105,25 +70,23 @@ entry_given sizes pass now control slot owned held cell lock = ap (times cell) o
 
 -- ---- the ends of a call
 
-giving_locks : (sizes : Sizes) (now : Pass) (held : Pass) → held.call ≡ now.call → ((cell : Word) → ((slot : ℕ) → cell ≢ ENTRY slot) → times cell now.owned ≡ lock_held sizes now (GivePage (first_page sizes now.call)) cell) → HoldsLocks sizes now (giving sizes now.call)
-giving_locks sizes now held is full = if_both (HoldsLocks sizes now) (page_count sizes now.call == 0) Idle (GivePage (first_page sizes now.call))
+giving_locks : (sizes : Sizes) (now : Pass) → HasAll sizes now → ((cell : Word) → ((slot : ℕ) → cell ≢ ENTRY slot) → times cell now.owned ≡ lock_held sizes now (GivePage (first_page sizes now.call)) cell) → HoldsLocks sizes now (giving sizes now.call)
+giving_locks sizes now all full = if_both (HoldsLocks sizes now) (page_count sizes now.call == 0) Idle (GivePage (first_page sizes now.call))
     (λ e cell lock. full cell lock ∙ empty cell (eqb-true (page_count sizes now.call) 0 e)) (λ _. full)
   where
     empty : (cell : Word) → page_count sizes now.call ≡ 0 → lock_held sizes now (GivePage (first_page sizes now.call)) cell ≡ lock_held sizes now Idle cell
-    empty (PAGE page) none = elim (cases_lt page (first_page sizes now.call)) [
-      | inl below ↦ among_below (first_page sizes now.call) (end_page sizes now.call) page below
-      | inr above ↦ among_above (first_page sizes now.call) (end_page sizes now.call) page (omega arith)
-    ]
+    empty (PAGE page) none = end_none sizes now.call now.pages all (first_page sizes now.call) page (omega (arith, none))
     empty (SIZE file) none = refl
     empty (STORE file) none = refl
     empty cell none = refl
 
 -- a call that holds all its pages goes on to give them back
-ending_locks : (sizes : Sizes) (pass now : Pass) → now.call ≡ pass.call → now.sized ≡ pass.sized → now.owned ≡ pass.owned → HoldsAt sizes now LoadStop now.owned → HoldsLocks sizes now (ending sizes pass)
-ending_locks sizes pass now call sized owned full = if_both (HoldsLocks sizes now) pass.sized GiveSize (giving sizes pass.call) (λ _. full)
-    (λ e. subst (λ c. HoldsLocks sizes now (giving sizes c)) call (giving_locks sizes now now refl (λ cell lock. full cell lock ∙ without_size cell (sized ∙ e))))
+ending_locks : (sizes : Sizes) (pass now : Pass) → now.call ≡ pass.call → now.sized ≡ pass.sized → HasAll sizes now → HoldsAt sizes now LoadStop now.owned → HoldsLocks sizes now (ending sizes pass)
+ending_locks sizes pass now call sized all full = if_both (HoldsLocks sizes now) pass.sized GiveSize (giving sizes pass.call) (λ _. full)
+    (λ e. subst (λ c. HoldsLocks sizes now (giving sizes c)) call (giving_locks sizes now all (λ cell lock. full cell lock ∙ without_size cell (sized ∙ e))))
   where
     without_size : (cell : Word) → now.sized ≡ false → lock_held sizes now LoadStop cell ≡ lock_held sizes now (GivePage (first_page sizes now.call)) cell
+    without_size (PAGE page) e = sym (end_whole sizes now.call now.pages page)
     without_size (SIZE file) e = ap (λ n. if file == file_of now.call then n else 0) (when_false now.sized 1 0 e)
     without_size cell e = refl
 
@@ -211,13 +174,13 @@ more_none : (n : ℕ) → n ≡ n + 0
 more_none n = omega arith
 
 -- a page of the call
-lock_page : (sizes : Sizes) (pass : Pass) (page found number : ℕ) (history : List Answered) → ControlFacts sizes pass → HoldsLocks sizes pass pass.control → pass.control ≡ TakePage page
+lock_page : (sizes : Sizes) (pass : Pass) (page found number : ℕ) (history : List Answered) → HoldsLocks sizes pass pass.control → pass.control ≡ TakePage page
     → HoldsLocks sizes (stepped sizes number history (Take (PAGE page)) found pass) (if found == 0 then (if page + 1 == end_page sizes pass.call then LoadLength else TakePage (page + 1)) else leaving pass.owned)
-lock_page sizes pass page found number history stands held may =
+lock_page sizes pass page found number history held may =
     if_both (HoldsLocks sizes now) (found == 0) (if page + 1 == end_page sizes pass.call then LoadLength else TakePage (page + 1)) (leaving pass.owned)
     (λ e. if_both (HoldsLocks sizes now) (page + 1 == end_page sizes pass.call) LoadLength (TakePage (page + 1))
-    (λ last. taken sizes pass now (TakePage page) LoadLength (PAGE page) (took sizes pass (PAGE page) found number history e) (owed LoadLength (λ p. ap (λ end. one_if (is_among (first_page sizes pass.call) end p)) (sym (eqb-true (page + 1) (end_page sizes pass.call) last)) ∙ more p) refl (λ f. refl) (λ p. refl) refl refl) before)
-    (λ _. taken sizes pass now (TakePage page) (TakePage (page + 1)) (PAGE page) (took sizes pass (PAGE page) found number history e) (owed (TakePage (page + 1)) more refl (λ f. refl) (λ p. refl) refl refl) before))
+    (λ _. taken sizes pass now (TakePage page) LoadLength (PAGE page) (took sizes pass (PAGE page) found number history e) (owed LoadLength (more e) refl (λ f. refl) (λ p. refl) refl refl) before)
+    (λ _. taken sizes pass now (TakePage page) (TakePage (page + 1)) (PAGE page) (took sizes pass (PAGE page) found number history e) (owed (TakePage (page + 1)) (more e) refl (λ f. refl) (λ p. refl) refl refl) before))
     (missed sizes pass (PAGE page) found number history)
   where
     now : Pass
@@ -226,13 +189,10 @@ lock_page sizes pass page found number history stands held may =
     before : HoldsLocks sizes pass (TakePage page)
     before = at_control sizes pass (TakePage page) may held
 
-    low : first_page sizes pass.call ≤ page
-    low = (let at : IsPage sizes pass.call page × (pass.sized ≡ false) = subst (FactsAt sizes pass) may stands.at in at.0.0)
+    more : (found == 0) ≡ true → (p : ℕ) → count_in (stepped sizes number history (Take (PAGE page)) found pass).pages p ≡ one_if (p == page) + count_in pass.pages p
+    more e p = ap (λ l. count_in l p) (ap (pages_after pass (Take (PAGE page)) found) may ∙ when_true (found == 0) (pass.pages ++ page ∷ []) pass.pages e) ∙ count_more pass.pages page p
 
-    more : (p : ℕ) → one_if (is_among (first_page sizes pass.call) (page + 1) p) ≡ one_if (p == page) + one_if (is_among (first_page sizes pass.call) page p)
-    more p = among_more (first_page sizes pass.call) page p low
-
-    owed : (control : Control) → ((p : ℕ) → page_held sizes (stepped sizes number history (Take (PAGE page)) found pass) control p ≡ one_if (p == page) + one_if (is_among (first_page sizes pass.call) page p))
+    owed : (control : Control) → ((p : ℕ) → page_held sizes (stepped sizes number history (Take (PAGE page)) found pass) control p ≡ one_if (p == page) + count_in pass.pages p)
         → size_held (stepped sizes number history (Take (PAGE page)) found pass) control ≡ one_if pass.sized → ((f : ℕ) → store_times (stepped sizes number history (Take (PAGE page)) found pass) control f ≡ (if f == file_of pass.call then 0 else 0)) → ((p : ℕ) → cleanup_held control p ≡ 0) → cleaner_held control ≡ 0 → header_held control ≡ 0
         → (other : Word) → lock_held sizes (stepped sizes number history (Take (PAGE page)) found pass) control other ≡ one_if (same other (PAGE page)) + lock_held sizes pass (TakePage page) other
     owed control pages size store none cleaner header (PAGE p) = pages p
@@ -249,7 +209,7 @@ lock_victim : (sizes : Sizes) (pass : Pass) (victim found number : ℕ) (history
 lock_victim sizes pass victim found number history held may =
     if_both (HoldsLocks sizes now) (found == 0) (Searching may.page may.tries (GiveVictim may.buffer victim)) (Searching may.page may.tries NotFound)
     (λ e. taken sizes pass now (Searching may.page may.tries (TakeVictim may.buffer victim)) (Searching may.page may.tries (GiveVictim may.buffer victim)) (PAGE victim) (took sizes pass (PAGE victim) found number history e) owed before)
-    (λ e cell lock. ap (λ b. times cell (moved (if b then Comes (PAGE victim) else Stays) pass.owned)) e ∙ before cell lock)
+    (λ e cell lock. ap (λ b. times cell (moved (if b then Comes (PAGE victim) else Stays) pass.owned)) e ∙ before cell lock ∙ sym (same_held cell))
   where
     now : Pass
     now = stepped sizes number history (Take (PAGE victim)) found pass
@@ -257,9 +217,13 @@ lock_victim sizes pass victim found number history held may =
     before : HoldsLocks sizes pass (Searching may.page may.tries (TakeVictim may.buffer victim))
     before = at_control sizes pass (Searching may.page may.tries (TakeVictim may.buffer victim)) may.is held
 
+    same_held : (cell : Word) → lock_held sizes (stepped sizes number history (Take (PAGE victim)) found pass) (Searching may.page may.tries NotFound) cell ≡ lock_held sizes pass (Searching may.page may.tries (TakeVictim may.buffer victim)) cell
+    same_held (PAGE p) = ap (λ s. count_in (pages_after pass (Take (PAGE victim)) found s) p) may.is
+    same_held cell = refl
+
     owed : (other : Word) → lock_held sizes (stepped sizes number history (Take (PAGE victim)) found pass) (Searching may.page may.tries (GiveVictim may.buffer victim)) other
         ≡ one_if (same other (PAGE victim)) + lock_held sizes pass (Searching may.page may.tries (TakeVictim may.buffer victim)) other
-    owed (PAGE p) = refl
+    owed (PAGE p) = ap (λ s. one_if (p == victim) + count_in (pages_after pass (Take (PAGE victim)) found s) p) may.is
     owed (SIZE file) = no_more _
     owed (STORE file) = no_more _
     owed other = refl
@@ -268,7 +232,7 @@ lock_takes : (sizes : Sizes) (pass : Pass) (cell : Word) (found number : ℕ) (h
     → HoldsLocks sizes (stepped sizes number history (Take cell) found pass) (control_after sizes pass (Take cell) found)
 lock_takes sizes pass (PAGE page) found number history stands held may =
     tried_next (HoldsLocks sizes (stepped sizes number history (Take (PAGE page)) found pass)) sizes pass page found
-    (lock_page sizes pass page found number history stands held) (lock_victim sizes pass page found number history held) may
+    (lock_page sizes pass page found number history held) (lock_victim sizes pass page found number history held) may
 lock_takes sizes pass (SIZE file) found number history stands held may =
     if_both (HoldsLocks sizes now) (found == 0) LoadLength (leaving pass.owned)
     (λ e. taken sizes pass now TakeSize LoadLength (SIZE file) (took sizes pass (SIZE file) found number history e) (owed (when_true (found == 0) true pass.sized e)) (at_control sizes pass TakeSize may.0 held))
@@ -327,11 +291,11 @@ lock_takes sizes pass cell found number history stands held may = absurd may
 
 -- ---- what is given back
 
-lock_gives : (sizes : Sizes) (pass : Pass) (cell : Word) (found number : ℕ) (history : List Answered) (control : Control) → FactsAt sizes pass control → HoldsLocks sizes pass control → MayGive pass cell control
+lock_gives : (sizes : Sizes) (pass : Pass) (cell : Word) (found number : ℕ) (history : List Answered) (control : Control) → FactsAt sizes pass control → PagesAt sizes pass control → HoldsLocks sizes pass control → MayGive pass cell control
     → HoldsLocks sizes (stepped sizes number history (Give cell) found pass) (after_give sizes pass cell control)
-lock_gives sizes pass cell found number history GiveBack at held may = out sizes (stepped sizes number history (Give cell) found pass) (without cell pass.owned) refl
-lock_gives sizes pass (SIZE file) found number history GiveSize at held may =
-    giving_locks sizes now now refl (given sizes pass now GiveSize (GivePage (first_page sizes pass.call)) (SIZE file) refl some owed held)
+lock_gives sizes pass cell found number history GiveBack at pages held may = out sizes (stepped sizes number history (Give cell) found pass) (without cell pass.owned) refl
+lock_gives sizes pass (SIZE file) found number history GiveSize at pages held may =
+    giving_locks sizes now pages (given sizes pass now GiveSize (GivePage (first_page sizes pass.call)) (SIZE file) refl some owed held)
   where
     now : Pass
     now = stepped sizes number history (Give (SIZE file)) found pass
@@ -348,10 +312,10 @@ lock_gives sizes pass (SIZE file) found number history GiveSize at held may =
         choice : (b : Bool) → (if b then one_if pass.sized else 0) ≡ one_if b + (if b then 0 else 0)
         choice true = when_true pass.sized 1 0 at
         choice false = refl
-    owed (PAGE page) = no_more _
+    owed (PAGE page) = sym (end_whole sizes pass.call pass.pages page) ∙ no_more _
     owed (STORE other) = no_more _
     owed other = refl
-lock_gives sizes pass (PAGE page) found number history (GivePage next) at held may =
+lock_gives sizes pass (PAGE page) found number history (GivePage next) at pages held may =
     if_both (HoldsLocks sizes now) (next + 1 == end_page sizes pass.call) Idle (GivePage (next + 1))
     (λ last. given sizes pass now (GivePage next) Idle (PAGE page) refl some (owed Idle (λ p. less p ∙ ap (λ n. one_if (p == next) + n) (none p last)) refl (λ f. refl) (λ p. refl) refl refl) held)
     (λ _. given sizes pass now (GivePage next) (GivePage (next + 1)) (PAGE page) refl some (owed (GivePage (next + 1)) less refl (λ f. refl) (λ p. refl) refl refl) held)
@@ -359,29 +323,27 @@ lock_gives sizes pass (PAGE page) found number history (GivePage next) at held m
     now : Pass
     now = stepped sizes number history (Give (PAGE page)) found pass
 
-    less : (p : ℕ) → one_if (is_among next (end_page sizes pass.call) p) ≡ one_if (p == next) + one_if (is_among (next + 1) (end_page sizes pass.call) p)
-    less p = among_less next (end_page sizes pass.call) p at.1
+    less : (p : ℕ) → count_in (drop (nth_of sizes pass.call next) pass.pages) p ≡ one_if (p == next) + count_in (drop (nth_of sizes pass.call (next + 1)) pass.pages) p
+    less p = end_less sizes pass.call pass.pages pages next p at
 
-    none : (p : ℕ) → (next + 1 == end_page sizes pass.call) ≡ true → one_if (is_among (next + 1) (end_page sizes pass.call) p) ≡ 0
-    none p last = elim (cases_lt p (next + 1)) [
-      | inl below ↦ among_below (next + 1) (end_page sizes pass.call) p below
-      | inr above ↦ let e = eqb-true (next + 1) (end_page sizes pass.call) last in among_above (next + 1) (end_page sizes pass.call) p (omega (arith, e, above))
-    ]
+    none : (p : ℕ) → (next + 1 == end_page sizes pass.call) ≡ true → count_in (drop (nth_of sizes pass.call (next + 1)) pass.pages) p ≡ 0
+    none p last = end_none sizes pass.call pass.pages pages (next + 1) p (eqb-true (next + 1) (end_page sizes pass.call) last)
 
     some : 1 ≤ times (PAGE page) pass.owned
-    some = (let a = held (PAGE page) (λ slot. differ (PAGE page) (ENTRY slot) refl) in let b = subst (λ p. one_if (is_among next (end_page sizes pass.call) p) ≡ 1) (sym may) (among_in next (end_page sizes pass.call) next (omega arith) at.1) in omega (arith, a, b))
+    some = subst (λ p. 1 ≤ times (PAGE p) pass.owned) (sym may)
+        (let a = held (PAGE next) (λ slot. differ (PAGE next) (ENTRY slot) refl) in let b = less next in let c : one_if (next == next) ≡ 1 = when_true (next == next) 1 0 (eq-eqb next next refl) in omega (arith, a, b, c))
 
-    owed : (control : Control) → ((p : ℕ) → one_if (is_among next (end_page sizes pass.call) p) ≡ one_if (p == next) + page_held sizes (stepped sizes number history (Give (PAGE page)) found pass) control p)
+    owed : (control : Control) → ((p : ℕ) → count_in (drop (nth_of sizes pass.call next) pass.pages) p ≡ one_if (p == next) + page_held sizes (stepped sizes number history (Give (PAGE page)) found pass) control p)
         → size_held (stepped sizes number history (Give (PAGE page)) found pass) control ≡ 0 → ((f : ℕ) → (if f == file_of pass.call then 0 else 0) ≡ store_times (stepped sizes number history (Give (PAGE page)) found pass) control f) → ((p : ℕ) → cleanup_held control p ≡ 0) → 0 ≡ cleaner_held control → 0 ≡ header_held control
         → (other : Word) → lock_held sizes pass (GivePage next) other ≡ one_if (same other (PAGE page)) + lock_held sizes (stepped sizes number history (Give (PAGE page)) found pass) control other
-    owed control pages size store clean cleaner header (PAGE p) = subst (λ q. one_if (is_among next (end_page sizes pass.call) p) ≡ one_if (p == q) + page_held sizes (stepped sizes number history (Give (PAGE page)) found pass) control p) (sym may) (pages p)
+    owed control pages size store clean cleaner header (PAGE p) = subst (λ q. count_in (drop (nth_of sizes pass.call next) pass.pages) p ≡ one_if (p == q) + page_held sizes (stepped sizes number history (Give (PAGE page)) found pass) control p) (sym may) (pages p)
     owed control pages size store clean cleaner header (SIZE file) = ap (λ n. if file == file_of pass.call then n else 0) (sym size) ∙ no_more _
     owed control pages size store clean cleaner header (STORE file) = store file ∙ no_more _
     owed control pages size store clean cleaner header (CLEANUP p) = sym (clean p) ∙ no_more _
     owed control pages size store clean cleaner header CLEANER = cleaner ∙ no_more _
     owed control pages size store clean cleaner header HEADER = header ∙ no_more _
     owed control pages size store clean cleaner header other = refl
-lock_gives sizes pass (STORE file) found number history (GiveStore page dirty) at held may =
+lock_gives sizes pass (STORE file) found number history (GiveStore page dirty) at pages held may =
     if_both (HoldsLocks sizes now) dirty (ReadLoadHead page) (VisitPage (page + 1))
     (λ e. given sizes pass now (GiveStore page dirty) (ReadLoadHead page) (STORE file) refl some (owed (ReadLoadHead page) (λ p. refl) refl (λ f. refl) (λ p. ap (λ b. one_if (b && p == page)) e) refl refl) held)
     (λ e. given sizes pass now (GiveStore page dirty) (VisitPage (page + 1)) (STORE file) refl some (owed (VisitPage (page + 1)) (λ p. refl) refl (λ f. refl) (λ p. ap (λ b. one_if (b && p == page)) e) refl refl) held)
@@ -392,7 +354,7 @@ lock_gives sizes pass (STORE file) found number history (GiveStore page dirty) a
     some : 1 ≤ times (STORE file) pass.owned
     some = (let a = held (STORE file) (λ slot. differ (STORE file) (ENTRY slot) refl) in let b : one_if (file == file_of pass.call) ≡ 1 = when_true (file == file_of pass.call) 1 0 (eq-eqb file (file_of pass.call) may) in omega (arith, a, b))
 
-    owed : (next : Control) → ((p : ℕ) → one_if (is_among (first_page sizes pass.call) (end_page sizes pass.call) p) ≡ page_held sizes (stepped sizes number history (Give (STORE file)) found pass) next p)
+    owed : (next : Control) → ((p : ℕ) → count_in pass.pages p ≡ page_held sizes (stepped sizes number history (Give (STORE file)) found pass) next p)
         → one_if pass.sized ≡ size_held (stepped sizes number history (Give (STORE file)) found pass) next → ((f : ℕ) → (if f == file_of pass.call then 0 else 0) ≡ store_times (stepped sizes number history (Give (STORE file)) found pass) next f) → ((p : ℕ) → one_if (dirty && p == page) ≡ cleanup_held next p) → 0 ≡ cleaner_held next → 0 ≡ header_held next
         → (other : Word) → lock_held sizes pass (GiveStore page dirty) other ≡ one_if (same other (STORE file)) + lock_held sizes (stepped sizes number history (Give (STORE file)) found pass) next other
     owed next pages size store clean cleaner header (STORE other) = subst (λ n. (if other == file_of pass.call then 1 else 0) ≡ one_if (other == file) + n) (store other)
@@ -407,7 +369,7 @@ lock_gives sizes pass (STORE file) found number history (GiveStore page dirty) a
     owed next pages size store clean cleaner header CLEANER = cleaner ∙ no_more _
     owed next pages size store clean cleaner header HEADER = header ∙ no_more _
     owed next pages size store clean cleaner header other = refl
-lock_gives sizes pass (CLEANUP page) found number history (GiveCleanup next) at held may =
+lock_gives sizes pass (CLEANUP page) found number history (GiveCleanup next) at pages held may =
     given sizes pass now (GiveCleanup next) (VisitPage (next + 1)) (CLEANUP page) refl some owed held
   where
     now : Pass
@@ -422,7 +384,7 @@ lock_gives sizes pass (CLEANUP page) found number history (GiveCleanup next) at 
     owed (SIZE file) = no_more _
     owed (STORE file) = no_more _
     owed other = refl
-lock_gives sizes pass (PAGE page) found number history (Searching missed_one tries (GiveVictim buffer victim)) at held may =
+lock_gives sizes pass (PAGE page) found number history (Searching missed_one tries (GiveVictim buffer victim)) at pages held may =
     given sizes pass now (Searching missed_one tries (GiveVictim buffer victim)) (Searching missed_one tries (VictimGiven buffer)) (PAGE page) refl some owed held
   where
     now : Pass
@@ -433,11 +395,11 @@ lock_gives sizes pass (PAGE page) found number history (Searching missed_one tri
 
     owed : (other : Word) → lock_held sizes pass (Searching missed_one tries (GiveVictim buffer victim)) other
         ≡ one_if (same other (PAGE page)) + lock_held sizes (stepped sizes number history (Give (PAGE page)) found pass) (Searching missed_one tries (VictimGiven buffer)) other
-    owed (PAGE p) = ap (λ q. one_if (p == q) + one_if (is_among (first_page sizes pass.call) (end_page sizes pass.call) p)) (sym may)
+    owed (PAGE p) = ap (λ q. one_if (p == q) + count_in pass.pages p) (sym may)
     owed (SIZE file) = no_more _
     owed (STORE file) = no_more _
     owed other = refl
-lock_gives sizes pass cell found number history control at held may = absurd (gives_one pass cell control may)
+lock_gives sizes pass cell found number history control at pages held may = absurd (gives_one pass cell control may)
 
 -- ---- all steps
 
@@ -450,9 +412,9 @@ pub lock_steps : (sizes : Sizes) (values : Values) (pass : Pass) (op : Op) (foun
     → HoldsLocks sizes (stepped sizes number history op found pass) (control_after sizes pass op found)
 lock_steps sizes values pass (Load word) found number history of_call stands held may = lock_loads sizes values pass word found number history held may
 lock_steps sizes values pass (Take cell) found number history of_call stands held may = lock_takes sizes pass cell found number history stands held may
-lock_steps sizes values pass (Give cell) found number history of_call stands held may = lock_gives sizes pass cell found number history pass.control stands.at held may
+lock_steps sizes values pass (Give cell) found number history of_call stands held may = lock_gives sizes pass cell found number history pass.control stands.at stands.pages held may
 lock_steps sizes values pass (Place reply) found number history of_call stands held may =
-    if_both (HoldsLocks sizes now) (is_write pass.call && exceeds pass pass.length) GrowLength (ending sizes pass) (λ _. full) (λ _. ending_locks sizes pass now refl refl refl full)
+    if_both (HoldsLocks sizes now) (is_write pass.call && exceeds pass pass.length) GrowLength (ending sizes pass) (λ _. full) (λ _. ending_locks sizes pass now refl refl (whole pass.control may stands.pages) full)
   where
     now : Pass
     now = stepped sizes number history (Place reply) found pass
@@ -461,6 +423,11 @@ lock_steps sizes values pass (Place reply) found number history of_call stands h
     from TakePlace may held = held
     from (VisitPage page) may held = held
     from control may held = absurd may
+
+    whole : (control : Control) → MayPlace sizes values pass reply control → PagesAt sizes pass control → HasAll sizes pass
+    whole TakePlace may pages = pages
+    whole (VisitPage page) may pages = pages
+    whole control may pages = absurd may
 
     full : HoldsAt sizes pass LoadStop pass.owned
     full = from pass.control may held
@@ -487,7 +454,7 @@ lock_steps sizes values pass (Ready next) found number history of_call stands he
     let full = entry_given sizes pass now LoadStop (slot_of_entry sizes next) refl (at_control sizes pass (ReadyEntry next) may held) in
     if_both (HoldsLocks sizes now) (next == pass.first) TakePlace (ReadyEntry (if next + 1 == pass.first + pass.entries then pass.first else next + 1)) (λ _. full) (λ _. full)
 lock_steps sizes values pass Grow found number history of_call stands held may =
-    ending_locks sizes pass (stepped sizes number history Grow found pass) refl refl refl (at_control sizes pass GrowLength may held)
+    ending_locks sizes pass (stepped sizes number history Grow found pass) refl refl (subst (PagesAt sizes pass) may stands.pages) (at_control sizes pass GrowLength may held)
 lock_steps sizes values pass (Break next) found number history of_call stands held may =
     let now = stepped sizes number history (Break next) found pass in
     let full = entry_given sizes pass now LoadStop (slot_of_entry sizes next) refl (at_control sizes pass (BreakEntry next) may held) in

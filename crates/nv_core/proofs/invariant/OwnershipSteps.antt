@@ -1,9 +1,9 @@
 -- Ownership of entries: each step and each device call leaves its pass with the entries that it then is filling, or reads.
 use Rattle.std.proofs.Common.{◌≡◌, ◌≢◌, ◌⊎◌, ℕ, ◌+◌, ◌<◌, ◌≤◌, ◌==◌, Bool, true, false, if◌then◌else◌, List, ◌∷◌, length, inl, inr, refl, sym, subst, ◌∙◌, arith}
-use Rattle.std.proofs.lemmas.Bool.{eqb-true, eqb-false, cases_eq, cases_lt, cases_order}
+use Rattle.std.proofs.lemmas.Bool.{eqb-true, eqb-false, cases_eq, cases_order}
 use Rattle.nv_plain.specs.Histories.{Answered}
 use Rattle.nv_plain.specs.declared.call.FileCall.{FileCall}
-use Rattle.nv_core.specs.state.Words.{Sizes, Word, SIZE, STORE, ENTRY, PAGE, slot_of_entry}
+use Rattle.nv_core.specs.state.Words.{Sizes, Word, SIZE, STORE, ENTRY, slot_of_entry}
 use Rattle.nv_core.specs.state.Values.{CallEnding, Made, Failed, Refused}
 use Rattle.nv_core.specs.state.Passes.{Control, Idle, TakePage, LoadStop, ReadStore, DrawNumbers, SeizeEntry, CommitGroup, PledgePage, ReadyEntry, TakePlace, SetStopAfterRead, SetStopAfterCommit, BreakEntry, Pass, IsFilling, IsAllowed, IsAmong, file_of, page_count, first_page, end_page, without, times, HoldEntry, ReadPiece, ReturnEntry, SetStopAfterPiece, IsHeldEntry, Cleaning, IsHeldByCleaner, plain_call}
 use Rattle.nv_core.specs.state.Cleaner.{Batch, CleanerControl}
@@ -14,11 +14,11 @@ use Rattle.nv_core.specs.steps.Order.{Values, Work, CallEnabled, CallDue, commit
 use Rattle.nv_core.specs.steps.StepKinds.{EnabledByKind}
 use Rattle.nv_core.specs.state.Core.{worked, control_worked}
 use Rattle.nv_core.specs.invariant.ControlFacts.{IsPage, HasDrawn, FactsAt, ControlFacts, has_call}
-use Rattle.nv_core.specs.invariant.Ownership.{one_if, is_among, lock_held, HoldsLocks, Ownership}
+use Rattle.nv_core.specs.invariant.Ownership.{lock_held, HoldsLocks, Ownership}
 use Rattle.nv_core.proofs.state.Choices.{if_both, when_true, not_both, busy}
 use Rattle.nv_core.proofs.invariant.ClearLaws.{IsClear, clear_filling, entry_stays, IsBare, IsStill, bare_clear, bare_held, bare_leaving, bare_scanning, bare_from, bare_to}
 use Rattle.nv_core.proofs.state.SlotLaws.{apart, Entries, entries_same, entries_more, entries_less}
-use Rattle.nv_core.proofs.invariant.OwnershipLaws.{IsOfCall, lock_steps, among_above, among_below}
+use Rattle.nv_core.proofs.invariant.OwnershipLaws.{IsOfCall, lock_steps}
 
 -- the numbers whose entries a pass owns: those that it is filling, the one that it reads, or those that a cleaner owns
 abbrev pub HasEntry : Control → (first entries number : ℕ) → Type 0
@@ -259,12 +259,6 @@ ownership_begins sizes call pass idle ownership = record {
     held : (cell : Word) → ((slot : ℕ) → cell ≢ ENTRY slot) → times cell pass.owned ≡ lock_held sizes pass Idle cell
     held = subst (HoldsLocks sizes pass) idle ownership.locks
 
-    row : (end page : ℕ) → end ≡ first_page sizes (plain_call call) → 0 ≡ one_if (is_among (first_page sizes (plain_call call)) end page)
-    row end page same = elim (cases_lt page (first_page sizes (plain_call call))) [
-      | inl below ↦ sym (among_below (first_page sizes (plain_call call)) end page below)
-      | inr above ↦ sym (among_above (first_page sizes (plain_call call)) end page (omega (arith, same, above)))
-    ]
-
     file_zero : (b c : Bool) → (if b then (let n : ℕ = 0 in n) else 0) ≡ (if c then (let n : ℕ = 0 in n) else 0)
     file_zero true true = refl
     file_zero true false = refl
@@ -272,13 +266,11 @@ ownership_begins sizes call pass idle ownership = record {
     file_zero false false = refl
 
     checking : (cell : Word) → page_count sizes (plain_call call) ≡ 0 → lock_held sizes pass Idle cell ≡ lock_held sizes (begun sizes call pass) LoadStop cell
-    checking (PAGE page) none = row (end_page sizes (plain_call call)) page (omega (arith, none))
     checking (SIZE file) none = file_zero (file == file_of pass.call) (file == file_of (plain_call call))
     checking (STORE file) none = file_zero (file == file_of pass.call) (file == file_of (plain_call call))
     checking cell none = refl
 
     locking : (cell : Word) → lock_held sizes pass Idle cell ≡ lock_held sizes (begun sizes call pass) (TakePage (first_page sizes (plain_call call))) cell
-    locking (PAGE page) = row (first_page sizes (plain_call call)) page refl
     locking (SIZE file) = file_zero (file == file_of pass.call) (file == file_of (plain_call call))
     locking (STORE file) = file_zero (file == file_of pass.call) (file == file_of (plain_call call))
     locking cell = refl

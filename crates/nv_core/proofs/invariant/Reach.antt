@@ -184,7 +184,7 @@ lock_word mount cell lock = absurd (not_both lock refl)
 pub opening_is_sound : OpeningIsSound
 opening_is_sound mount is_mount = record {
   numbers = record { unborn = λ n less. record { idle = refl; owned = refl; mine = refl; faulted = refl; left = refl }; ended = λ n ended. absurd ended };
-  control_facts = λ n. record { at = tt; allowed = λ called. absurd (not_both called refl) };
+  control_facts = λ n. record { at = tt; pages = tt; allowed = λ called. absurd (not_both called refl) };
   ownership = λ n. record { locks = λ cell lock. sym (nothing mount.sizes (opening_pass mount) cell); filling = λ s fills. absurd fills; held = λ s holds. absurd holds; none = λ slot off away. refl };
   locks = record { bit = lock_word mount; keyed = λ cell. record { free = λ unshut n. refl; held = λ shut. absurd (not_both shut (open_cell mount cell)) } };
   window = record {

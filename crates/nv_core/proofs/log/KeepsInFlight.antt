@@ -1,6 +1,6 @@
 -- Each event keeps the writes in flight.
 use Rattle.std.proofs.Common.{◌≡◌, ◌≢◌, ℕ, ◌+◌, ◌-◌, ◌^◌, ◌<◌, ◌≤◌, ◌==◌, nat_lt, nat_le, ◌&&◌, not, Bool, true, false, if◌then◌else◌, List, length, inl, inr, refl, sym, ap, subst, ◌∙◌, arith}
-use Rattle.std.proofs.lemmas.Bool.{eqb-true, eq-eqb, cases_eq, and_from, le-leb, lt-ltb}
+use Rattle.std.proofs.lemmas.Bool.{eqb-true, eq-eqb, cases_eq}
 use Rattle.nv_plain.specs.declared.call.FileCall.{FileCall}
 use Rattle.nv_plain.specs.declared.call.FileCall.TheVariants.{Read, Write, Readv, Writev, Sync}
 use Rattle.nv_plain.specs.declared.call.Reply.{Reply}
@@ -17,8 +17,8 @@ use Rattle.nv_core.specs.steps.StepKinds.{MayLoad, MayTake, MayPlace, EnabledByK
 use Rattle.nv_core.specs.state.Core.{Core, changes, changed_pass, with_number, after_step, after_begin, after_work, worked, control_worked}
 use Rattle.nv_core.specs.steps.Events.{CallMayBegin}
 use Rattle.nv_core.proofs.steps.ByKind.{FoundEnabledByKind}
-use Rattle.nv_core.specs.invariant.ControlFacts.{FactsAt, HasDrawn, IsPage}
-use Rattle.nv_core.specs.invariant.Ownership.{one_if, is_among, HoldsLocks}
+use Rattle.nv_core.specs.invariant.ControlFacts.{FactsAt, HasDrawn, IsPage, PagesAt}
+use Rattle.nv_core.specs.invariant.Ownership.{HoldsLocks}
 use Rattle.nv_core.specs.invariant.LogWindow.{InWindow, entry_word_at, WasReadied}
 use Rattle.nv_core.specs.log.Groups.{Group, Log, group_of, with_group, log_stepped, log_worked, Groups}
 use Rattle.nv_core.specs.log.Pieces.{page_of_number}
@@ -35,6 +35,7 @@ use Rattle.nv_core.proofs.log.ReadiedLaws.{readied_before, readied_still, begun_
 use Rattle.nv_core.proofs.steps.CleanerControls.{tended, tended_to, of_cleaner_worked}
 use Rattle.nv_core.proofs.steps.CleanerOps.{retires_hand}
 use Rattle.nv_core.proofs.steps.SearchLaws.{turned_at, looked_at, hinting_next, tried_at}
+use Rattle.nv_core.proofs.invariant.PageLists.{pages_once}
 
 -- ---- where a flight begins and ends
 
@@ -184,25 +185,22 @@ pub flying_pages : (pass : Pass) (control : Control) → IsFlying pass control �
 flying_pages pass DrawNumbers is = tt
 flying_pages pass control is = is
 
-one_among : (from end page : ℕ) → from ≤ page → page < end → one_if (is_among from end page) ≡ 1
-one_among from end page low high = ap one_if (and_from (nat_le from page) (nat_lt page end) (le-leb from page low) (lt-ltb page end high))
-
-holds_page : (sizes : Sizes) (pass : Pass) (control : Control) → HasPages pass control → HoldsLocks sizes pass control → (page : ℕ) → IsPage sizes pass.call page → times (PAGE page) pass.owned ≡ 1
-holds_page sizes pass DrawNumbers is holds page on = holds (PAGE page) (λ slot. differ (PAGE page) (ENTRY slot) refl) ∙ one_among (first_page sizes pass.call) (end_page sizes pass.call) page on.0 on.1
-holds_page sizes pass (SeizeEntry number) is holds page on = holds (PAGE page) (λ slot. differ (PAGE page) (ENTRY slot) refl) ∙ one_among (first_page sizes pass.call) (end_page sizes pass.call) page on.0 on.1
-holds_page sizes pass (CommitGroup calls) is holds page on = holds (PAGE page) (λ slot. differ (PAGE page) (ENTRY slot) refl) ∙ one_among (first_page sizes pass.call) (end_page sizes pass.call) page on.0 on.1
-holds_page sizes pass (PledgePage next) is holds page on = holds (PAGE page) (λ slot. differ (PAGE page) (ENTRY slot) refl) ∙ one_among (first_page sizes pass.call) (end_page sizes pass.call) page on.0 on.1
-holds_page sizes pass (ReadyEntry number) is holds page on = holds (PAGE page) (λ slot. differ (PAGE page) (ENTRY slot) refl) ∙ one_among (first_page sizes pass.call) (end_page sizes pass.call) page on.0 on.1
-holds_page sizes pass TakePlace is holds page on = holds (PAGE page) (λ slot. differ (PAGE page) (ENTRY slot) refl) ∙ one_among (first_page sizes pass.call) (end_page sizes pass.call) page on.0 on.1
-holds_page sizes pass control is holds page on = absurd is
+holds_page : (sizes : Sizes) (pass : Pass) (control : Control) → HasPages pass control → PagesAt sizes pass control → HoldsLocks sizes pass control → (page : ℕ) → IsPage sizes pass.call page → times (PAGE page) pass.owned ≡ 1
+holds_page sizes pass DrawNumbers is pages holds page on = holds (PAGE page) (λ slot. differ (PAGE page) (ENTRY slot) refl) ∙ pages_once sizes pass.call pass.pages pages page on
+holds_page sizes pass (SeizeEntry number) is pages holds page on = holds (PAGE page) (λ slot. differ (PAGE page) (ENTRY slot) refl) ∙ pages_once sizes pass.call pass.pages pages page on
+holds_page sizes pass (CommitGroup calls) is pages holds page on = holds (PAGE page) (λ slot. differ (PAGE page) (ENTRY slot) refl) ∙ pages_once sizes pass.call pass.pages pages page on
+holds_page sizes pass (PledgePage next) is pages holds page on = holds (PAGE page) (λ slot. differ (PAGE page) (ENTRY slot) refl) ∙ pages_once sizes pass.call pass.pages pages page on
+holds_page sizes pass (ReadyEntry number) is pages holds page on = holds (PAGE page) (λ slot. differ (PAGE page) (ENTRY slot) refl) ∙ pages_once sizes pass.call pass.pages pages page on
+holds_page sizes pass TakePlace is pages holds page on = holds (PAGE page) (λ slot. differ (PAGE page) (ENTRY slot) refl) ∙ pages_once sizes pass.call pass.pages pages page on
+holds_page sizes pass control is pages holds page on = absurd is
 
 pub one_pass : (sizes : Sizes) (first : Values) (core : Core) → Sound sizes first core → (one other : ℕ) → HasPages (core.passes one) (core.passes one).control → HasPages (core.passes other) (core.passes other).control
     → (page : ℕ) → IsPage sizes (core.passes one).call page → IsPage sizes (core.passes other).call page → one ≡ other
 one_pass sizes first core sound one other a b page x y = elim (cases_eq other one) [
   | inl e ↦ sym e
   | inr ne ↦ absurd (
-      let here = holds_page sizes (core.passes one) (core.passes one).control a (sound.ownership one).locks page x in
-      let there = holds_page sizes (core.passes other) (core.passes other).control b (sound.ownership other).locks page y in
+      let here = holds_page sizes (core.passes one) (core.passes one).control a (sound.control_facts one).pages (sound.ownership one).locks page x in
+      let there = holds_page sizes (core.passes other) (core.passes other).control b (sound.control_facts other).pages (sound.ownership other).locks page y in
       let none = (only_holder (sound.locks.keyed (PAGE page)) one (omega (arith, here))).2 other ne in omega (arith, there, none))
 ]
 

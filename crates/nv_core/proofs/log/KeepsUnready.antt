@@ -16,7 +16,7 @@ use Rattle.nv_core.specs.steps.StepKinds.{MayPlace}
 use Rattle.nv_core.specs.state.Core.{Core, changes, changed_pass, with_value, with_number, after_step, after_begin, after_work, worked, control_worked}
 use Rattle.nv_core.specs.steps.Events.{CallMayBegin}
 use Rattle.nv_core.proofs.steps.ByKind.{StepEnabledByKind, FoundEnabledByKind}
-use Rattle.nv_core.specs.invariant.ControlFacts.{FactsAt, HasDrawn, IsPage}
+use Rattle.nv_core.specs.invariant.ControlFacts.{FactsAt, HasDrawn, IsPage, PagesAt}
 use Rattle.nv_core.specs.invariant.Ownership.{HoldsLocks}
 use Rattle.nv_core.specs.invariant.EntryWords.{IsEntryWord, SaysFree, SaysFilling, SaysBroken, SaysReadied}
 use Rattle.nv_core.specs.invariant.FaultedWrites.{HasChecked, victim_held}
@@ -214,30 +214,30 @@ has_number sizes pass control n at (inl is) = absurd is
 has_number sizes pass control n at (inr is) = absurd is
 
 -- and holds its pages
-group_page : (sizes : Sizes) (pass : Pass) (control : Control) → HasGroup control → HoldsLocks sizes pass control → (page : ℕ) → IsPage sizes pass.call page → times (PAGE page) pass.owned ≡ 1
-group_page sizes pass (SeizeEntry number) has held page on = holds_page sizes pass page on (held (PAGE page) (λ slot. differ (PAGE page) (ENTRY slot) refl))
-group_page sizes pass (CommitGroup calls) has held page on = holds_page sizes pass page on (held (PAGE page) (λ slot. differ (PAGE page) (ENTRY slot) refl))
-group_page sizes pass (PledgePage next) has held page on = holds_page sizes pass page on (held (PAGE page) (λ slot. differ (PAGE page) (ENTRY slot) refl))
-group_page sizes pass (ReadyEntry number) has held page on = holds_page sizes pass page on (held (PAGE page) (λ slot. differ (PAGE page) (ENTRY slot) refl))
-group_page sizes pass SetStopAfterCommit has held page on = holds_page sizes pass page on (held (PAGE page) (λ slot. differ (PAGE page) (ENTRY slot) refl))
-group_page sizes pass (BreakEntry number) has held page on = holds_page sizes pass page on (held (PAGE page) (λ slot. differ (PAGE page) (ENTRY slot) refl))
-group_page sizes pass control has held page on = absurd has
+group_page : (sizes : Sizes) (pass : Pass) (control : Control) → HasGroup control → PagesAt sizes pass control → HoldsLocks sizes pass control → (page : ℕ) → IsPage sizes pass.call page → times (PAGE page) pass.owned ≡ 1
+group_page sizes pass (SeizeEntry number) has pages held page on = holds_page sizes pass page pages on (held (PAGE page) (λ slot. differ (PAGE page) (ENTRY slot) refl))
+group_page sizes pass (CommitGroup calls) has pages held page on = holds_page sizes pass page pages on (held (PAGE page) (λ slot. differ (PAGE page) (ENTRY slot) refl))
+group_page sizes pass (PledgePage next) has pages held page on = holds_page sizes pass page pages on (held (PAGE page) (λ slot. differ (PAGE page) (ENTRY slot) refl))
+group_page sizes pass (ReadyEntry number) has pages held page on = holds_page sizes pass page pages on (held (PAGE page) (λ slot. differ (PAGE page) (ENTRY slot) refl))
+group_page sizes pass SetStopAfterCommit has pages held page on = holds_page sizes pass page pages on (held (PAGE page) (λ slot. differ (PAGE page) (ENTRY slot) refl))
+group_page sizes pass (BreakEntry number) has pages held page on = holds_page sizes pass page pages on (held (PAGE page) (λ slot. differ (PAGE page) (ENTRY slot) refl))
+group_page sizes pass control has pages held page on = absurd has
 
-drawing_page : (sizes : Sizes) (pass : Pass) (control : Control) → control ≡ DrawNumbers → HoldsLocks sizes pass control → (page : ℕ) → IsPage sizes pass.call page → times (PAGE page) pass.owned ≡ 1
-drawing_page sizes pass control is held page on =
+drawing_page : (sizes : Sizes) (pass : Pass) (control : Control) → control ≡ DrawNumbers → PagesAt sizes pass control → HoldsLocks sizes pass control → (page : ℕ) → IsPage sizes pass.call page → times (PAGE page) pass.owned ≡ 1
+drawing_page sizes pass control is pages held page on =
     let at : HoldsLocks sizes pass DrawNumbers = subst (HoldsLocks sizes pass) is held in
-    holds_page sizes pass page on (at (PAGE page) (λ slot. differ (PAGE page) (ENTRY slot) refl))
+    holds_page sizes pass page (subst (PagesAt sizes pass) is pages) on (at (PAGE page) (λ slot. differ (PAGE page) (ENTRY slot) refl))
 
 module _ (sizes : Sizes) (first : Values) (log : Log) (placed : ℕ → Bool) (by : ℕ) (core : Core) (sound : Sound sizes first core) (groups : Groups sizes core log) (unready : Unready sizes log placed core) (drawing : (core.passes by).control ≡ DrawNumbers) where
   holds : (page : ℕ) → IsPage sizes (core.passes by).call page → times (PAGE page) (core.passes by).owned ≡ 1
-  holds = drawing_page sizes (core.passes by) (core.passes by).control drawing (sound.ownership by).locks
+  holds = drawing_page sizes (core.passes by) (core.passes by).control drawing (sound.control_facts by).pages (sound.ownership by).locks
 
   -- a pass that draws draws for no page of a write that another pass owns
   none_shared : (other n page : ℕ) → HasUnseized (core.passes other) n ⊎ Fills (core.passes other) n → IsPage sizes (log.group n).call page → IsPage sizes (core.passes by).call page → ⊥
   none_shared other n page has on own =
       let at = has_number sizes (core.passes other) (core.passes other).control n (sound.control_facts other).at has in
       let g = (groups.own other at.0 n at.1).group in
-      let there = group_page sizes (core.passes other) (core.passes other).control at.0 (sound.ownership other).locks page (subst (λ x. IsPage sizes x.call page) g on) in
+      let there = group_page sizes (core.passes other) (core.passes other).control at.0 (sound.control_facts other).pages (sound.ownership other).locks page (subst (λ x. IsPage sizes x.call page) g on) in
       held_by_one sizes first core sound (PAGE page) other by there (holds page own) (λ e. subst HasGroup (ap (λ m. (core.passes m).control) (sym e) ∙ drawing) at.0)
 
   -- nor of a broken one

@@ -210,7 +210,7 @@ module _ (sizes : Sizes) (first : Values) (core : Core) (sound : Sound sizes fir
     grounds = record {
       stands = sound.control_facts by;
       knows = sound.searches.each by;
-      gives = λ cell may. words cell (given_held sizes (core.passes by) cell (core.passes by).control (sound.control_facts by).at (sound.ownership by).locks may);
+      gives = λ cell may. words cell (given_held sizes (core.passes by) cell (core.passes by).control (sound.control_facts by).at (sound.control_facts by).pages (sound.ownership by).locks may);
       by_cleaner = λ cleaner_op may. cleaner_step_word cleaner_op (core.passes by).control refl may;
     }
 

@@ -14,7 +14,7 @@ use Rattle.nv_core.specs.steps.Ops.{Op, Load, Give, Place, Pledge, Turn, Hint, p
 use Rattle.nv_core.specs.steps.Order.{Values, Work, CallEnabled, CallMayEnd, CallMayLeave, CallDue, CleanerCallDue, IsPieceRead, SaysOf, SaysPieceOf, gathered, page_bytes, page_start}
 use Rattle.nv_core.specs.steps.StepKinds.{MayLoad, MayPlace, MayTurn, MayLookUp, MayHint, IsMissed, IsMiss, JustNow, AfterTries, IsTryOver, EnabledByKind}
 use Rattle.nv_core.specs.state.Core.{with_value, values_read, values_worked, values_given, values_stepped}
-use Rattle.nv_core.specs.invariant.ControlFacts.{ControlFacts, FactsAt}
+use Rattle.nv_core.specs.invariant.ControlFacts.{ControlFacts, FactsAt, PagesAt}
 use Rattle.nv_core.specs.invariant.Ownership.{Ownership, HoldsLocks}
 use Rattle.nv_core.specs.steps.Frames.{AgreeOn, DependsOnOwned, PassesDependOnOwned}
 use Rattle.nv_core.proofs.state.Changes.{same_true}
@@ -42,12 +42,15 @@ module _ (sizes : Sizes) (pass : Pass) (one other : Values) (holds : Ownership s
   stands_at : (control : Control) → pass.control ≡ control → FactsAt sizes pass control
   stands_at control is = subst (FactsAt sizes pass) is stands.at
 
+  pages_at : (control : Control) → pass.control ≡ control → PagesAt sizes pass control
+  pages_at control is = subst (PagesAt sizes pass) is stands.pages
+
   -- ---- pages
 
   -- a page that a read has bytes of
   read_same : (from page : ℕ) → pass.control ≡ VisitPage from → first_page sizes pass.call ≤ page → page < end_read sizes pass.call pass.length → one (PAGE page) ≡ other (PAGE page)
   read_same from page is low high = held_same (PAGE page)
-      (let most = read_within sizes pass.call pass.length in let h = whole_holds sizes pass (VisitPage from) tt (locks_at (VisitPage from) is) page (low, omega (arith, most, high)) in omega (arith, h))
+      (let most = read_within sizes pass.call pass.length in let h = whole_holds sizes pass (VisitPage from) tt (pages_at (VisitPage from) is) (locks_at (VisitPage from) is) page (low, omega (arith, most, high)) in omega (arith, h))
 
   -- and one from the next on
   later_same : (from page : ℕ) → pass.control ≡ VisitPage from → from ≤ page → page < end_read sizes pass.call pass.length → one (PAGE page) ≡ other (PAGE page)
@@ -56,7 +59,7 @@ module _ (sizes : Sizes) (pass : Pass) (one other : Values) (holds : Ownership s
   -- the page that is searched a buffer for
   searched_same : (page tries : ℕ) (search : Search) → pass.control ≡ Searching page tries search → one (PAGE page) ≡ other (PAGE page)
   searched_same page tries search is = held_same (PAGE page)
-      (let at = stands_at (Searching page tries search) is in let h = searching_holds sizes pass page tries search at (locks_at (Searching page tries search) is) page at.1 in omega (arith, h))
+      (let at = stands_at (Searching page tries search) is in let h = searching_holds sizes pass page tries search at (pages_at (Searching page tries search) is) (locks_at (Searching page tries search) is) page at.1 in omega (arith, h))
 
   -- the page that a read has missed
   missed_same : (page tries : ℕ) → IsMiss sizes one pass page tries → one (PAGE page) ≡ other (PAGE page)
@@ -124,7 +127,7 @@ module _ (sizes : Sizes) (pass : Pass) (one other : Values) (holds : Ownership s
       with_same pass one other (PAGE page) (filled (fetched_bytes pass.fetched page) (one (PAGE page))) (filled (fetched_bytes pass.fetched page) (other (PAGE page))) agree (λ has. ap (filled (fetched_bytes pass.fetched page)) (agree (PAGE page) has))
   given_same (Searching page tries (GiveVictim buffer victim)) is =
       let at : Control = Searching page tries (GiveVictim buffer victim) in
-      let robbed = held_same (PAGE victim) (given_held sizes pass (PAGE victim) at (stands_at at is) (locks_at at is) refl) in
+      let robbed = held_same (PAGE victim) (given_held sizes pass (PAGE victim) at (stands_at at is) (pages_at at is) (locks_at at is) refl) in
       with_same pass _ _ (PAGE victim) (emptied (one (PAGE victim))) (emptied (other (PAGE victim)))
       (with_same pass one other (PAGE page) (received (one (PAGE victim)) (one (PAGE page))) (received (other (PAGE victim)) (other (PAGE page))) agree (λ has. ap₂ received robbed (agree (PAGE page) has)))
       (λ has. ap emptied robbed)

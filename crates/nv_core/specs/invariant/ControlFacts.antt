@@ -6,8 +6,8 @@ use Rattle.nv_core.specs.state.Words.{Sizes, Word}
 use Rattle.nv_core.specs.state.Cleaner.{Batch, CleanerControl, TakeHeader, LoadTail, LoadHead, WriteBack, CleanEntry, SubtractDirty, RefusedReturnEntry, FailedReturnEntry, RefusedGiveCleanup, SyncStores, MoveHeaderTail, FreeEntry, AdvanceTail, GiveStores, SetStop}
 use Rattle.nv_core.specs.state.Cleaner as cleaner
 use Rattle.nv_core.specs.steps.ControlSteps.{exceeds}
-use Rattle.nv_core.specs.state.Passes.{Control, Idle, TakePage, TakeSize, VisitPage, TakeCleanup, TakeStore, ReadStore, GiveStore, Search, TakeVictim, GiveVictim, Searching, ReadLoadHead, ReadLoadTail, LoadEntry, HoldEntry, ReadPiece, ReturnEntry, GiveCleanup, WriteLoadHead, WriteLoadTail, DrawNumbers, SeizeEntry, CommitGroup, PledgePage, ReadyEntry, GrowLength, GiveSize, GivePage, GiveBack, SetStopAfterRead, SetStopAfterPiece, SetStopAfterCommit, BreakEntry, Pass, IsAllowed, IsAmong, is_read, is_write, page_count, first_page, end_page, Cleaning}
-use Rattle.nv_core.specs.invariant.Ownership.{is_among}
+use Rattle.nv_core.specs.state.Passes.{Control, Idle, TakePage, TakeSize, VisitPage, TakeCleanup, TakeStore, ReadStore, GiveStore, Search, TakeVictim, GiveVictim, Searching, ReadLoadHead, ReadLoadTail, LoadEntry, HoldEntry, ReadPiece, ReturnEntry, GiveCleanup, WriteLoadHead, WriteLoadTail, DrawNumbers, SeizeEntry, CommitGroup, PledgePage, ReadyEntry, GrowLength, GiveSize, GivePage, GiveBack, SetStopAfterRead, SetStopAfterPiece, SetStopAfterCommit, BreakEntry, Pass, IsAllowed, IsAmong, is_read, is_write, page_count, first_page, end_page, nth_of, first_pages, pages_of, Cleaning}
+use Rattle.nv_core.specs.invariant.CleanerOwnership.{count_in}
 
 -- a page of a call
 abbrev pub IsPage : Sizes → FileCall → (page : ℕ) → Type 0
@@ -31,11 +31,11 @@ LogHasRoom sizes pass = pass.head + page_count sizes pass.call ≤ pass.tail + s
 abbrev pub ReadsPage : Sizes → Pass → (page : ℕ) → Type 0
 ReadsPage sizes pass page = (is_read pass.call ≡ true) × IsPage sizes pass.call page
 
--- the victim of a search is no page of the call
-abbrev pub IsElsewhere : Sizes → FileCall → Search → Type 0
-IsElsewhere sizes call (TakeVictim buffer victim) = is_among (first_page sizes call) (end_page sizes call) victim ≡ false
-IsElsewhere sizes call (GiveVictim buffer victim) = is_among (first_page sizes call) (end_page sizes call) victim ≡ false
-IsElsewhere sizes call search = Unit {0}
+-- the victim of a search is none of the pass's pages
+abbrev pub IsElsewhere : (pages : List ℕ) → Search → Type 0
+IsElsewhere pages (TakeVictim buffer victim) = count_in pages victim ≡ 0
+IsElsewhere pages (GiveVictim buffer victim) = count_in pages victim ≡ 0
+IsElsewhere pages search = Unit {0}
 
 -- what a cleaner needs to stand where it does
 abbrev pub CleanerFactsAt : Batch → (owned : List Word) → CleanerControl → Type 0
@@ -81,7 +81,7 @@ FactsAt sizes pass (HoldEntry page number) = ReadsPage sizes pass page × (numbe
 FactsAt sizes pass (ReadPiece page number) = ReadsPage sizes pass page × (number < pass.head)
 FactsAt sizes pass (ReturnEntry page number failed) = ReadsPage sizes pass page × (number < pass.head)
 FactsAt sizes pass (GiveCleanup page) = ReadsPage sizes pass page
-FactsAt sizes pass (Searching page tries search) = (is_read pass.call ≡ true) × IsPage sizes pass.call page × IsElsewhere sizes pass.call search
+FactsAt sizes pass (Searching page tries search) = (is_read pass.call ≡ true) × IsPage sizes pass.call page × IsElsewhere pass.pages search
 FactsAt sizes pass WriteLoadHead = is_write pass.call ≡ true
 FactsAt sizes pass WriteLoadTail = (is_write pass.call ≡ true) × IsSmall sizes pass
 FactsAt sizes pass DrawNumbers = (is_write pass.call ≡ true) × IsSmall sizes pass × LogHasRoom sizes pass
@@ -100,13 +100,22 @@ FactsAt sizes pass (BreakEntry number) = HasDrawn sizes pass.call pass.entries �
 FactsAt sizes pass (Cleaning batch inner) = CleanerFactsAt batch pass.owned inner
 FactsAt sizes pass control = Unit {0}
 
+-- Its pages are those of its call, in their order: the ones before the page that it takes next, and then all. A refused call has some first ones.
+abbrev pub PagesAt : Sizes → Pass → Control → Type 0
+PagesAt sizes pass Idle = Unit {0}
+PagesAt sizes pass (Cleaning batch inner) = Unit {0}
+PagesAt sizes pass (TakePage page) = pass.pages ≡ first_pages sizes pass.call (nth_of sizes pass.call page)
+PagesAt sizes pass GiveBack = (count : ℕ) × (count ≤ page_count sizes pass.call) × (pass.pages ≡ first_pages sizes pass.call count)
+PagesAt sizes pass control = pass.pages ≡ pages_of sizes pass.call
+
 -- a pass has a call at hand
 abbrev pub has_call : Control → Bool
 has_call Idle = false
 has_call (Cleaning batch inner) = false
 has_call control = true
 
--- A pass stands so, and its call, if it has one, is one that may be begun.
+-- A pass stands so, with these pages, and its call, if it has one, is one that may be begun.
 pub record ControlFacts (sizes : Sizes) (pass : Pass) : Type 0 where
   pub at : FactsAt sizes pass pass.control
+  pub pages : PagesAt sizes pass pass.control
   pub allowed : has_call pass.control ≡ true → IsAllowed sizes pass.call

@@ -1,11 +1,11 @@
 -- Dirty counters: DIRTY is the number of a page's entries.
-use Rattle.std.specs.Prelude.{◌≡◌, ℕ, ◌+◌, ◌-◌, ◌==◌, ◌||◌, ◌&&◌, nat_lt, nat_le, Bool, take, drop}
+use Rattle.std.specs.Prelude.{◌≡◌, ℕ, ◌+◌, ◌-◌, ◌==◌, ◌||◌, ◌&&◌, Bool, if◌then◌else◌, take, drop}
 use Rattle.nv_core.specs.state.Totals.{total}
 use Rattle.nv_core.specs.state.Words.{Sizes, Word, ENTRY, PAGE, DIRTY, kind_of, page_of, ready, held}
 use Rattle.nv_core.specs.state.Cleaner.{CleanEntry, SubtractDirty}
 use Rattle.nv_core.specs.invariant.CleanerOwnership.{count_in}
-use Rattle.nv_core.specs.state.Passes.{Control, Cleaning, PledgePage, ReadyEntry, Pass, first_page, times}
-use Rattle.nv_core.specs.invariant.Ownership.{one_if, is_among}
+use Rattle.nv_core.specs.state.Passes.{Control, Cleaning, PledgePage, ReadyEntry, Pass, nth_of, times}
+use Rattle.nv_core.specs.invariant.Ownership.{one_if}
 use Rattle.nv_core.specs.state.Core.{Core}
 
 -- whether an ENTRY word is that of a ready or held entry of a page
@@ -16,17 +16,12 @@ is_of_page page word = (kind_of word == ready || kind_of word == held) && page_o
 abbrev pub entries_of_page : Sizes → (Word → ℕ) → (page : ℕ) → ℕ
 entries_of_page sizes words page = total sizes.entries (λ slot. one_if (is_of_page page (words (ENTRY slot))))
 
--- the number of a write's entry on a page
-abbrev pub number_on : Sizes → Pass → (page : ℕ) → ℕ
-number_on sizes pass page = pass.first + (page - first_page sizes pass.call)
-
--- how many entries of a page a pass has pledged and not yet readied
+-- How many entries of a page a pass has pledged and not yet readied: those of its pages before the next, and then of the first one, and of those
+-- from the next on, as it readies the leader last.
 abbrev pub pledged : Sizes → Pass → Control → (page : ℕ) → ℕ
-pledged sizes pass (PledgePage next) page = one_if (is_among (first_page sizes pass.call) next page)
+pledged sizes pass (PledgePage next) page = count_in (take (nth_of sizes pass.call next) pass.pages) page
 pledged sizes pass (ReadyEntry next) page =
-    one_if (nat_le (first_page sizes pass.call) page
-    && (number_on sizes pass page == pass.first
-    || (nat_lt pass.first next && is_among next (pass.first + pass.entries) (number_on sizes pass page))))
+    count_in (take 1 pass.pages) page + (if next == pass.first then 0 else count_in (drop (next - pass.first) pass.pages) page)
 pledged sizes pass control page = 0
 
 -- how many entries of a page a cleaner has cleaned, whose DIRTY is still to fall

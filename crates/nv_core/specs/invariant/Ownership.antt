@@ -1,9 +1,9 @@
 -- Ownership: which cells a pass owns, by where it stands.
-use Rattle.std.specs.Prelude.{◌≡◌, ◌≢◌, ℕ, ◌+◌, ◌==◌, ◌&&◌, nat_le, nat_lt, Bool, if◌then◌else◌}
+use Rattle.std.specs.Prelude.{◌≡◌, ◌≢◌, ℕ, ◌+◌, ◌==◌, ◌&&◌, nat_le, nat_lt, Bool, if◌then◌else◌, drop}
 use Rattle.nv_core.specs.state.Words.{Sizes, Word, SIZE, STORE, ENTRY, PAGE, CLEANUP, CLEANER, HEADER, slot_of_entry}
-use Rattle.nv_core.specs.state.Passes.{Control, Idle, TakePage, TakeStore, ReadStore, GiveStore, Search, GiveVictim, Searching, ReadLoadHead, ReadLoadTail, LoadEntry, HoldEntry, ReadPiece, ReturnEntry, GiveCleanup, GivePage, GiveBack, SetStopAfterRead, SetStopAfterPiece, Pass, IsFilling, IsHeldEntry, file_of, first_page, end_page, times, Cleaning}
+use Rattle.nv_core.specs.state.Passes.{Control, Idle, TakeStore, ReadStore, GiveStore, Search, GiveVictim, Searching, ReadLoadHead, ReadLoadTail, LoadEntry, HoldEntry, ReadPiece, ReturnEntry, GiveCleanup, GivePage, GiveBack, SetStopAfterRead, SetStopAfterPiece, Pass, IsFilling, IsHeldEntry, file_of, nth_of, times, Cleaning}
 use Rattle.nv_core.specs.state.Cleaner as cleaner
-use Rattle.nv_core.specs.invariant.CleanerOwnership.{of_cleaner_header, of_cleaner_store, of_cleaner_cleanup}
+use Rattle.nv_core.specs.invariant.CleanerOwnership.{count_in, of_cleaner_header, of_cleaner_store, of_cleaner_cleanup}
 
 -- 1 where a test holds, and else 0
 abbrev pub one_if : Bool → ℕ
@@ -18,14 +18,13 @@ abbrev pub with_victim : Search → (page own : ℕ) → ℕ
 with_victim (GiveVictim buffer victim) page own = one_if (page == victim) + own
 with_victim search page own = own
 
--- it holds the pages of its call, while it takes and gives them those up to or from the next, and a victim
+-- it holds the pages that it has taken in its call, while it gives them back those from the next on, and a victim
 abbrev pub page_held : Sizes → Pass → Control → (page : ℕ) → ℕ
 page_held sizes pass Idle page = 0
 page_held sizes pass (Cleaning batch inner) page = 0
-page_held sizes pass (TakePage next) page = one_if (is_among (first_page sizes pass.call) next page)
-page_held sizes pass (GivePage next) page = one_if (is_among next (end_page sizes pass.call) page)
-page_held sizes pass (Searching missed tries search) page = with_victim search page (one_if (is_among (first_page sizes pass.call) (end_page sizes pass.call) page))
-page_held sizes pass control page = one_if (is_among (first_page sizes pass.call) (end_page sizes pass.call) page)
+page_held sizes pass (GivePage next) page = count_in (drop (nth_of sizes pass.call next) pass.pages) page
+page_held sizes pass (Searching missed tries search) page = with_victim search page (count_in pass.pages page)
+page_held sizes pass control page = count_in pass.pages page
 
 -- SIZE where it has taken it and not given it back
 abbrev pub size_held : Pass → Control → ℕ

@@ -106,7 +106,7 @@ with_seen pass other = record pass {
 
 -- a pass that has no call yet
 abbrev pub fresh : Pass → Pass
-fresh pass = record pass { control = Idle; owned = []; sized = false; first = 0; entries = 0; fetched = []; faulted = []; mine = []; left = [] }
+fresh pass = record pass { control = Idle; owned = []; pages = []; sized = false; first = 0; entries = 0; fetched = []; faulted = []; mine = []; left = [] }
 
 abbrev pub newcomer : Core → Pass
 newcomer core = fresh (fold (λ pass number. with_seen pass (core.passes number)) (core.passes 0) core.ended)

@@ -1,5 +1,6 @@
 -- Passes: a thread's view, its call at hand, and where in the order of steps it stands.
 use Rattle.std.specs.Prelude.{◌≡◌, ◌⊎◌, ℕ, ◌+◌, ◌-◌, ◌*◌, ◌/◌, ◌<◌, ◌≤◌, ◌==◌, nat_lt, min, Bool, false, if◌then◌else◌, List, [], ◌∷◌, length, slice_index}
+use Rattle.std.specs.List.{range_with_len}
 use Rattle.nv_plain.specs.Files.{empty_files}
 use Rattle.nv_plain.specs.Histories.{Answered}
 use Rattle.nv_plain.specs.Layouts.{mount_layout}
@@ -85,6 +86,8 @@ pub record Pass : Type 0 where
   pub asked : FileCall
   pub call : FileCall
   pub owned : List Word
+  -- the pages of its call that it has taken, in their order
+  pub pages : List ℕ
   -- it has taken SIZE in this call
   pub sized : Bool
   -- LENGTH as it loaded it in this call, HEAD and TAIL as it last saw them
@@ -160,6 +163,17 @@ first_page sizes call = page_number sizes (file_of call) (at_of call / sizes.pag
 
 abbrev pub end_page : Sizes → FileCall → ℕ
 end_page sizes call = first_page sizes call + page_count sizes call
+
+-- which one of its pages a page is: 0, 1 ..
+abbrev pub nth_of : Sizes → FileCall → (page : ℕ) → ℕ
+nth_of sizes call page = page - first_page sizes call
+
+-- so many of its pages, from the first on, and all
+abbrev pub first_pages : Sizes → FileCall → (count : ℕ) → List ℕ
+first_pages sizes call count = range_with_len (first_page sizes call) count
+
+abbrev pub pages_of : Sizes → FileCall → List ℕ
+pages_of sizes call = first_pages sizes call (page_count sizes call)
 
 -- how many bytes of a file of a length it covers: a read no more than there are
 abbrev pub covered : FileCall → (len : ℕ) → ℕ

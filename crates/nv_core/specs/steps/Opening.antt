@@ -30,6 +30,7 @@ opening_pass mount = record {
   asked = Sync 0;
   call = Sync 0;
   owned = [];
+  pages = [];
   sized = false;
   length = 0;
   head = mount.next;

@@ -4,12 +4,17 @@ use Rattle.nv_plain.specs.Histories.{Answered}
 use Rattle.nv_plain.specs.Made.{reply_from}
 use Rattle.nv_plain.specs.declared.call.FileCall.{FileCall}
 use Rattle.nv_plain.specs.declared.call.Reply.{Reply}
-use Rattle.nv_core.specs.state.Words.{Sizes, Word, STOP, HEAD, TAIL, LENGTH, SIZE}
-use Rattle.nv_core.specs.state.Passes.{Fault, Pass, page_count, plain_call}
+use Rattle.nv_core.specs.state.Words.{Sizes, Word, STOP, HEAD, TAIL, LENGTH, SIZE, PAGE}
+use Rattle.nv_core.specs.state.Passes.{Control, TakePage, Fault, Pass, page_count, plain_call}
 use Rattle.nv_core.specs.state.Cleaner.{MoveTail}
 use Rattle.nv_core.specs.state.Cleaner as cleaner
 use Rattle.nv_core.specs.steps.Ops.{Op, ByCleaner, value_after, move_of, moved, Load, Take, Place, Stop, Draw, PutBack}
 use Rattle.nv_core.specs.steps.ControlSteps.{first_control, control_after}
+
+-- its pages: one more, where it takes one of its call
+abbrev pub pages_after : Pass → Op → (found : ℕ) → Control → List ℕ
+pages_after pass (Take (PAGE page)) found (TakePage next) = if found == 0 then pass.pages ++ page ∷ [] else pass.pages
+pages_after pass _ found control = pass.pages
 
 -- it has taken SIZE
 abbrev pub sized_after : Pass → Op → (found : ℕ) → Bool
@@ -90,6 +95,7 @@ stepped sizes number history op found pass = record {
   asked = pass.asked;
   call = pass.call;
   owned = moved (move_of sizes op found) pass.owned;
+  pages = pages_after pass op found pass.control;
   sized = sized_after pass op found;
   length = length_after pass op found;
   head = head_after sizes pass op found;
@@ -110,6 +116,7 @@ begun sizes call pass = record pass {
   control = first_control sizes (plain_call call);
   asked = call;
   call = plain_call call;
+  pages = [];
   sized = false;
   length = 0;
   first = 0;

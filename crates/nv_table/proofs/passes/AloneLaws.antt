@@ -1,11 +1,11 @@
 -- Alone: laws of pass 0 while no other pass is out.
-use Rattle.std.proofs.Common.{◌≡◌, ◌≢◌, ℕ, ◌≤◌, ◌==◌, ◌&&◌, nat_le, nat_lt, Bool, true, false, if◌then◌else◌, List, [], ◌∷◌, ◌++◌, length, inl, inr, refl, sym, ap, subst, ◌∙◌, arith, eq-eqb, append-nil}
+use Rattle.std.proofs.Common.{◌≡◌, ◌≢◌, ℕ, ◌≤◌, ◌==◌, Bool, true, false, if◌then◌else◌, List, [], ◌∷◌, ◌++◌, length, inl, inr, refl, sym, ap, subst, ◌∙◌, arith, eq-eqb, append-nil}
 use Rattle.std.specs.Prelude.{Option, Some, None}
-use Rattle.std.proofs.lemmas.Bool.{cases_eq, cases_lt, le-ltb}
+use Rattle.std.proofs.lemmas.Bool.{cases_eq, cases_lt}
 use Rattle.std.proofs.lemmas.List.{length-map}
 use Rattle.nv_plain.specs.declared.call.FileCall.{FileCall}
 use Rattle.nv_core.specs.state.Words.{Sizes, Word, HEAD, SIZE, STORE, ENTRY, PAGE, CLEANUP, is_shut, is_lock}
-use Rattle.nv_core.specs.state.Passes.{Control, Pass, IsOneOf, TakePage, TakeSize, TakeStore, TakeCleanup, Searching, TakeVictim, file_of, first_page, times}
+use Rattle.nv_core.specs.state.Passes.{Control, Pass, IsOneOf, TakePage, TakeSize, TakeStore, TakeCleanup, Searching, TakeVictim, file_of, times}
 use Rattle.nv_core.specs.state.Cleaner as cleaner
 use Rattle.nv_core.specs.steps.Ops.{Op, Load, Take, Draw, ByCleaner, value_after}
 use Rattle.nv_core.specs.steps.Order.{Work}
@@ -14,8 +14,8 @@ use Rattle.nv_core.specs.state.Core.{Core, after_step}
 use Rattle.nv_core.specs.steps.PassSteps.{stepped, head_after}
 use Rattle.nv_core.specs.steps.Events.{Event, IsRun, own}
 use Rattle.nv_core.proofs.steps.ByKind.{FoundEnabledByKind, find_kind}
-use Rattle.nv_core.specs.invariant.Ownership.{Ownership, HoldsLocks, one_if, is_among}
-use Rattle.nv_core.specs.invariant.ControlFacts.{ControlFacts, FactsAt}
+use Rattle.nv_core.specs.invariant.Ownership.{Ownership, HoldsLocks, one_if}
+use Rattle.nv_core.specs.invariant.ControlFacts.{ControlFacts, FactsAt, PagesAt}
 use Rattle.nv_core.specs.steps.Opening.{IsMount, opening}
 use Rattle.nv_core.specs.invariant.InvariantLaws.{RunsAreSound}
 use Rattle.nv_core.specs.steps.Frames.{OwnEventsTell}
@@ -37,6 +37,7 @@ use Rattle.nv_table.proofs.invariant.Going.{told_of}
 use Rattle.nv_table.proofs.invariant.StepAt.{IsMadeAt, made_at}
 use Rattle.nv_table.proofs.invariant.PassLaws.{step_begins}
 use Rattle.nv_table.proofs.steps.TakenLaws.{knows_on}
+use Rattle.nv_core.proofs.invariant.PageLists.{front_apart}
 
 -- ---- nobody else has an event
 
@@ -74,13 +75,6 @@ module _ (sound : RunsAreSound) (view : PassView) (mount : IsMount (mount_of vie
 
 -- ---- no call takes a lock that it holds
 
-neither : (one other : Bool) → other ≡ false → (one && other) ≡ false
-neither true other is = is
-neither false other is = refl
-
-past_end : (from page : ℕ) → is_among from page page ≡ false
-past_end from page = neither (nat_le from page) (nat_lt page page) (le-ltb page page (omega arith))
-
 module _ (sizes : Sizes) (pass : Pass) (ownership : Ownership sizes pass) (control_facts : ControlFacts sizes pass) where
   locks_at : (control : Control) → pass.control ≡ control → HoldsLocks sizes pass control
   locks_at control is = subst (HoldsLocks sizes pass) is ownership.locks
@@ -97,10 +91,10 @@ module _ (sizes : Sizes) (pass : Pass) (ownership : Ownership sizes pass) (contr
 
   not_held : (cell : Word) → MayTake pass cell → times cell pass.owned ≡ 0
   not_held (PAGE page) (inl is) =
-      locks_at (TakePage page) is (PAGE page) (λ slot. differ (PAGE page) (ENTRY slot) refl) ∙ ap one_if (past_end (first_page sizes pass.call) page)
+      locks_at (TakePage page) is (PAGE page) (λ slot. differ (PAGE page) (ENTRY slot) refl) ∙ front_apart sizes pass.call pass.pages page (subst (PagesAt sizes pass) is control_facts.pages) (stands_at (TakePage page) is).0.0
   not_held (PAGE page) (inr seeks) =
       locks_at (Searching seeks.page seeks.tries (TakeVictim seeks.buffer page)) seeks.is (PAGE page) (λ slot. differ (PAGE page) (ENTRY slot) refl)
-      ∙ ap one_if (stands_at (Searching seeks.page seeks.tries (TakeVictim seeks.buffer page)) seeks.is).2
+      ∙ (stands_at (Searching seeks.page seeks.tries (TakeVictim seeks.buffer page)) seeks.is).2
   not_held (SIZE file) may = locks_at TakeSize may.0 (SIZE file) (λ slot. differ (SIZE file) (ENTRY slot) refl) ∙ none_of file (file_of pass.call) (one_if pass.sized) (ap one_if (stands_at TakeSize may.0))
   not_held (STORE file) may = locks_at (TakeStore may.0 may.1) may.2 (STORE file) (λ slot. differ (STORE file) (ENTRY slot) refl) ∙ none_of file (file_of pass.call) 0 refl
   not_held (CLEANUP page) may = locks_at (TakeCleanup page) may (CLEANUP page) (λ slot. differ (CLEANUP page) (ENTRY slot) refl)

@@ -77,7 +77,7 @@ module _ (sizes : Sizes) (pass : Pass) (holds : Ownership sizes pass) (stands : 
 
   by_kind : (values : Values) (op : Op) (found : ℕ) → EnabledByKind sizes values pass op → IsInOwned (move_of sizes op found) pass.owned
   by_kind values (Take cell) found may = if_both (λ m. IsInOwned m pass.owned) (found == 0) (Comes cell) Stays tt tt
-  by_kind values (Give cell) found may = given_held sizes pass cell pass.control stands.at holds.locks may
+  by_kind values (Give cell) found may = given_held sizes pass cell pass.control stands.at stands.pages holds.locks may
   by_kind values (Ready number) found may =
       fills_one number (subst (λ s. IsFilling s pass.first pass.entries number) (sym may) (readying_next pass.first pass.entries number (stands_at (ReadyEntry number) may).1))
   by_kind values (Break number) found may =
