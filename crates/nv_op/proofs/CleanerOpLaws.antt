@@ -1,7 +1,7 @@
 -- The steps of a batch: where they are due, their words rise and fall with no carry.
 use Rattle.std.proofs.Common.{◌≡◌, ◌≢◌, ℕ, zero, suc, ◌+◌, ◌-◌, ◌%◌, ◌^◌, ◌<◌, ◌≤◌, ◌==◌, if◌then◌else◌, inl, inr, refl, sym, ap, subst, ◌∙◌, arith, eq-eqb, ne_eqb}
-use Rattle.std.proofs.lemmas.Bool.{cases_eq, cases_lt}
-use Rattle.nv_core.specs.state.Words.{Sizes, PAGE, DIRTY}
+use Rattle.std.proofs.lemmas.Bool.{cases_lt}
+use Rattle.nv_core.specs.state.Words.{Sizes, DIRTY}
 use Rattle.nv_core.specs.state.Passes.{Idle, Cleaning}
 use Rattle.nv_core.specs.state.Cleaner.{Batch, CleanerControl, SubtractDirty, Clean as CleanStep, Subtract as SubtractStep}
 use Rattle.nv_core.specs.state.Cleaner as cleaner
@@ -72,14 +72,7 @@ module _ (sizes : Sizes) (first : Values) (core : Core) (by : ℕ) (sound : Soun
 
   -- a page has as many entries as all owe, and more
   dirty_more : (page : ℕ) → owed_by_all core page ≤ core.words (DIRTY page)
-  dirty_more page = elim (cases_eq (core.words (PAGE page)) 1) [
-    | inl shut ↦
-        let holder = (sound.locks.keyed (PAGE page)).held (eq-eqb (core.words (PAGE page)) 1 shut) in
-        let is = sound.dirty.held page holder.by holder.once in omega (arith, is)
-    | inr open_ ↦
-        let bit = sound.locks.bit (PAGE page) refl in
-        let is = sound.dirty.free page (omega (arith, open_, bit)) in omega (arith, is)
-  ]
+  dirty_more page = let is = sound.dirty.sum page in omega (arith, is)
 
   -- the page of which DIRTY is about to fall has an entry
   subtracts_some : (page : ℕ) → CleanerEnabled sizes (core.passes by) (SubtractStep page) (core.passes by).control → 1 ≤ core.words (DIRTY page)

@@ -1,16 +1,14 @@
 -- Store pages: a page that has no entries is its store's.
-use Rattle.std.proofs.Common.{◌≡◌, ◌⊎◌, ℕ, ◌-◌, ◌<◌, ◌==◌, ◌&&◌, ◌||◌, Bool, true, false, inl, inr, refl, ap, ◌∙◌, arith}
+use Rattle.std.proofs.Common.{◌≡◌, ◌⊎◌, ℕ, ◌-◌, ◌<◌, ◌==◌, ◌&&◌, ◌||◌, Bool, true, false, inl, inr, ap, ◌∙◌, arith}
 use Rattle.std.proofs.lemmas.Bool.{cases_Bool, and_parts, eqb-true, eq-eqb}
 use Rattle.std.proofs.lemmas.Nat.{mod_below}
 use Rattle.nv_plain.specs.Files.{Files}
 use Rattle.nv_core.specs.state.Words.{Sizes, HEAD, TAIL, ENTRY, page_of, ready, held, slot_of_entry}
-use Rattle.nv_core.specs.state.Passes.{Control, PledgePage, ReadyEntry, Pass, is_read}
 use Rattle.nv_core.specs.steps.Order.{Values}
-use Rattle.nv_core.specs.invariant.ControlFacts.{FactsAt}
 use Rattle.nv_core.specs.invariant.Ownership.{one_if}
 use Rattle.nv_core.specs.state.Core.{Core}
 use Rattle.nv_core.specs.invariant.LogWindow.{InWindow, entry_word_at}
-use Rattle.nv_core.specs.invariant.DirtyCounters.{is_of_page, entries_of_page, pledged}
+use Rattle.nv_core.specs.invariant.DirtyCounters.{is_of_page, entries_of_page}
 use Rattle.nv_core.specs.content.StorePages.{StorePages}
 use Rattle.nv_core.specs.log.Groups.{Log}
 use Rattle.nv_core.specs.log.Pieces.{page_of_number}
@@ -26,12 +24,6 @@ use Rattle.nv_core.proofs.state.TotalLaws.{total_none}
 use Rattle.nv_core.proofs.content.KeepsValidBuffers.{read_only}
 use Rattle.nv_core.proofs.content.PatchLaws.{page_is_patched, still_held, store_page}
 use Rattle.nv_core.proofs.content.PatchSteps.{patch_nothing, word_page, is_fresh, fresh_is}
-
--- a call that reads has pledged nothing
-none_pledged : (sizes : Sizes) (pass : Pass) (control : Control) (page : ℕ) → FactsAt sizes pass control → is_read pass.call ≡ true → pledged sizes pass control page ≡ 0
-none_pledged sizes pass (PledgePage next) page stands read = absurd (not_both stands.0.write (read_only pass.call read))
-none_pledged sizes pass (ReadyEntry next) page stands read = absurd (not_both stands.0.write (read_only pass.call read))
-none_pledged sizes pass control page stands read = refl
 
 module _ (plain : PlainLaws) (sizes : Sizes) (first : Values) (opening : Files) (tails : Tails) (log : Log) (placed : ℕ → Bool) (core : Core)
     (sound : Sound sizes first core) (content : LogContent sizes first opening tails log placed core) where
@@ -61,7 +53,7 @@ module _ (plain : PlainLaws) (sizes : Sizes) (first : Values) (opening : Files) 
   store_pages = record {
     clean = λ number page store read has clear low told.
         let none : entries_of_page sizes core.words page ≡ 0 =
-        (let d = sound.dirty.held page number has in let p = none_pledged sizes (core.passes number) (core.passes number).control page (sound.control_facts number).at read in omega (arith, d, p, clear)) in
+        (let d = sound.dirty.sum page in omega (arith, d, clear)) in
         let order = sound.window.order in
         (page_is_patched plain sizes first opening tails log placed core page sound content
         (still_held sizes first core page number sound has (λ flies. not_both (content.flight.drawn number flies).write (read_only (core.passes number).call read)))).uncleaned

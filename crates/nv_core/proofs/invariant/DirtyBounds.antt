@@ -1,6 +1,6 @@
 -- Dirty bounds: a page has no more entries than the log, but for one that is pledged and one that a cleaner has cleaned.
-use Rattle.std.proofs.Common.{ℕ, ◌+◌, ◌-◌, ◌≤◌, ◌==◌, Bool, true, false, take, drop, inl, inr, refl, arith}
-use Rattle.std.proofs.lemmas.Bool.{cases_Bool, eqb-false}
+use Rattle.std.proofs.Common.{ℕ, ◌+◌, ◌-◌, ◌≤◌, ◌==◌, Bool, true, false, take, drop, arith}
+use Rattle.std.proofs.lemmas.Bool.{eqb-false}
 use Rattle.nv_core.specs.state.Words.{Sizes, ENTRY, PAGE, CLEANUP, is_shut}
 use Rattle.nv_core.specs.state.Cleaner.{CleanEntry, SubtractDirty}
 use Rattle.nv_core.specs.state.Passes.{Control, Cleaning, PledgePage, ReadyEntry, Pass, nth_of, times}
@@ -9,7 +9,7 @@ use Rattle.nv_core.specs.steps.Order.{Values}
 use Rattle.nv_core.specs.invariant.Locks.{holds}
 use Rattle.nv_core.specs.invariant.CleanerOwnership.{count_in}
 use Rattle.nv_core.specs.invariant.Ownership.{one_if, HoldsLocks}
-use Rattle.nv_core.specs.invariant.DirtyCounters.{entries_of_page, is_of_page, owed, owed_by_all, pledged}
+use Rattle.nv_core.specs.invariant.DirtyCounters.{entries_of_page, is_of_page, owed, owed_by_all, pledged, pledged_by_all}
 use Rattle.nv_core.specs.invariant.ControlFacts.{FactsAt}
 use Rattle.nv_core.specs.invariant.ForbiddenSteps.{NoDirtyAboveTheLog}
 use Rattle.nv_core.specs.invariant.Sound.{Sound}
@@ -57,20 +57,17 @@ pledged_most sizes pass (ReadyEntry next) page at locks =
     (λ e. let ne = eqb-false next pass.first e in let low = at.1.0 in let apart = count_apart pass.pages (next - pass.first) page (omega (arith, ne, low)) in omega (arith, apart, same))
 pledged_most sizes pass control page at locks = omega arith
 
+pledged_once : (sizes : Sizes) (first : Values) (core : Core) (page : ℕ) → Sound sizes first core → pledged_by_all sizes core page ≤ 1
+pledged_once sizes first core page sound =
+    let less = total_most (core.made + 1) (λ n. pledged sizes (core.passes n) (core.passes n).control page) (holds core (PAGE page))
+    (λ n below. pledged_most sizes (core.passes n) (core.passes n).control page (sound.control_facts n).at (sound.ownership n).locks) in
+    let once = total_keyed (core.made + 1) (is_shut (PAGE page) (core.words (PAGE page))) (holds core (PAGE page)) (sound.locks.keyed (PAGE page)) in
+    omega (arith, less, once)
+
 pub no_dirty_above_the_log : NoDirtyAboveTheLog
 no_dirty_above_the_log sizes first core page sound =
     let ready = entries_most sizes core page in
     let owes = owed_once sizes first core page sound in
-    elim (cases_Bool (is_shut (PAGE page) (core.words (PAGE page)))) [
-      | inl shut ↦
-          let holder = (sound.locks.keyed (PAGE page)).held shut in
-          let is = sound.dirty.held page holder.by holder.once in
-          let pledge = pledged_most sizes (core.passes holder.by) (core.passes holder.by).control page (sound.control_facts holder.by).at (sound.ownership holder.by).locks in
-          let once = holder.once in
-          omega (arith, ready, owes, is, pledge, once)
-      | inr unshut ↦
-          let not_one = eqb-false (core.words (PAGE page)) 1 unshut in
-          let bit = sound.locks.bit (PAGE page) refl in
-          let is = sound.dirty.free page (omega (arith, not_one, bit)) in
-          omega (arith, ready, owes, is)
-    ]
+    let pledge = pledged_once sizes first core page sound in
+    let is = sound.dirty.sum page in
+    omega (arith, ready, owes, pledge, is)

@@ -1,6 +1,6 @@
 -- Each event keeps the dirty counters.
-use Rattle.std.proofs.Common.{◌≡◌, ◌≢◌, ◌⊎◌, ℕ, ◌+◌, ◌<◌, ◌≤◌, ◌==◌, ◌&&◌, ◌||◌, Bool, true, false, if◌then◌else◌, List, [], ◌∷◌, length, take, drop, inl, inr, refl, sym, ap, subst, ◌∙◌, arith, ◌-◌}
-use Rattle.std.proofs.lemmas.Bool.{eqb-true, eqb-false, eq-eqb, ne_eqb, and_left, cases_eq, cases_lt}
+use Rattle.std.proofs.Common.{◌≡◌, ◌≢◌, ℕ, ◌+◌, ◌<◌, ◌≤◌, ◌==◌, ◌&&◌, ◌||◌, Bool, true, false, if◌then◌else◌, List, [], ◌∷◌, length, take, drop, inl, inr, refl, sym, ap, subst, ◌∙◌, arith, ◌-◌}
+use Rattle.std.proofs.lemmas.Bool.{eqb-true, eq-eqb, ne_eqb, and_left, cases_eq, cases_lt}
 use Rattle.nv_plain.specs.Layouts.{mount_layout}
 use Rattle.nv_plain.specs.declared.call.FileCall.{FileCall}
 use Rattle.nv_core.specs.state.Words.{Sizes, Word, PAGE, ENTRY, DIRTY, index, kind_of, page_of, ready, held, filling, broken, entry_word, is_entry_of, slot_of_entry}
@@ -14,24 +14,22 @@ use Rattle.nv_core.specs.steps.StepKinds.{EnabledByKind}
 use Rattle.nv_core.proofs.invariant.ClearLaws.{IsClear, IsPlain, clear_from, clear_to, clear_leaving}
 use Rattle.nv_core.proofs.invariant.OwnershipSteps.{few_entries}
 use Rattle.std.proofs.lemmas.Nat.{mod_below}
-use Rattle.nv_core.specs.state.Core.{Core, changes, changed_pass, with_value, with_number, after_step, after_begin, after_work, worked, control_worked}
+use Rattle.nv_core.specs.state.Core.{Core, changes, changed_pass, with_value, after_step, after_begin, after_work, worked, control_worked}
 use Rattle.nv_core.specs.steps.Events.{CallMayBegin}
 use Rattle.nv_core.proofs.steps.ByKind.{FoundEnabledByKind}
 use Rattle.nv_core.specs.invariant.ControlFacts.{FactsAt, PagesAt, IsPage, HasDrawn, has_call}
-use Rattle.nv_core.specs.invariant.Ownership.{one_if, HoldsLocks}
+use Rattle.nv_core.specs.invariant.Ownership.{one_if}
 use Rattle.nv_core.specs.invariant.Locks.{Locks}
 use Rattle.nv_core.specs.invariant.LogWindow.{Fills, InWindow, entry_word_at}
-use Rattle.nv_core.specs.invariant.DirtyCounters.{is_of_page, entries_of_page, pledged, owed, owed_by_all, DirtyCounters}
+use Rattle.nv_core.specs.invariant.DirtyCounters.{is_of_page, entries_of_page, pledged, pledged_by_all, owed, owed_by_all, DirtyCounters}
 use Rattle.nv_core.specs.invariant.Sound.{Sound}
-use Rattle.nv_core.proofs.state.Changes.{by_number, differ, number_here, number_else, word_here, word_else}
+use Rattle.nv_core.proofs.state.Changes.{by_number, word_here, word_else}
 use Rattle.nv_core.proofs.state.Choices.{if_both, when_true, when_false, busy, not_both, step_idle}
-use Rattle.nv_core.proofs.invariant.LockLaws.{only_holder, times_without_else}
 use Rattle.nv_core.proofs.invariant.WindowLaws.{slot_within}
 use Rattle.nv_core.proofs.invariant.PageLists.{count_all, count_none, count_split, count_whole, end_less, front_all, front_more, front_none, pages_many}
 use Rattle.nv_core.proofs.steps.WordLaws.{untouched, touches}
 use Rattle.nv_core.proofs.state.TotalLaws.{total_same, total_at, total_changed, total_made}
-use Rattle.nv_core.proofs.invariant.KeepsLocks.{kind_is, locks_step, readying_next, entry_is}
-use Rattle.nv_core.proofs.invariant.KeepsLoaded.{held_by_one, holds_page, pledged_page}
+use Rattle.nv_core.proofs.invariant.KeepsLocks.{kind_is, readying_next, entry_is}
 use Rattle.nv_core.specs.invariant.Loaded.{LooksSound}
 use Rattle.nv_core.specs.state.Totals.{total}
 use Rattle.nv_core.specs.state.Cleaner.{Batch, CleanerControl, WriteBack, CleanEntry, SubtractDirty, SyncStores, MoveHeaderTail, FreeEntry, CleanerOp, Clean, Subtract, Free}
@@ -63,6 +61,18 @@ has_call_call control has = tt
 pub owed_same : (core now : Core) (page : ℕ) → now.made ≡ core.made → ((n : ℕ) → owed (now.passes n).control page ≡ owed (core.passes n).control page) → owed_by_all now page ≡ owed_by_all core page
 owed_same core now page made same = ap (λ m. total (m + 1) (λ n. owed (now.passes n).control page)) made ∙ total_same (core.made + 1) (λ n. owed (core.passes n).control page) (λ n. owed (now.passes n).control page) (λ n less. same n)
 
+pledged_same : (sizes : Sizes) (core now : Core) (page : ℕ) → now.made ≡ core.made → ((n : ℕ) → pledged sizes (now.passes n) (now.passes n).control page ≡ pledged sizes (core.passes n) (core.passes n).control page)
+    → pledged_by_all sizes now page ≡ pledged_by_all sizes core page
+pledged_same sizes core now page made same = ap (λ m. total (m + 1) (λ n. pledged sizes (now.passes n) (now.passes n).control page)) made
+    ∙ total_same (core.made + 1) (λ n. pledged sizes (core.passes n) (core.passes n).control page) (λ n. pledged sizes (now.passes n) (now.passes n).control page) (λ n less. same n)
+
+-- a pass that isn't idle is made
+pass_made : (sizes : Sizes) (first : Values) (by : ℕ) (core : Core) (control : Control) → Sound sizes first core → (core.passes by).control ≡ control → control ≢ Idle → by < core.made + 1
+pass_made sizes first by core control sound at busy_is = elim (cases_lt by (core.made + 1)) [
+  | inl less ↦ less
+  | inr more ↦ absurd (busy_is (sym at ∙ (sound.numbers.unborn by (omega (arith, more))).idle))
+]
+
 owed_step : (sizes : Sizes) (first : Values) (by : ℕ) (core : Core) (op : Op) (found : ℕ) → Sound sizes first core → (IsCleaners op → ⊥) → FoundEnabledByKind sizes by core op found → (page : ℕ) → owed_by_all (after_step sizes by op found core) page ≡ owed_by_all core page
 owed_step sizes first by core (ByCleaner cleaner_op) found sound other may page = absurd (other tt)
 owed_step sizes first by core Split found sound other may page =
@@ -79,62 +89,12 @@ owed_step sizes first by core op found sound other may page = owed_same core (af
 both_same : (sizes : Sizes) (core now : Core) (page : ℕ) → entries_of_page sizes now.words page ≡ entries_of_page sizes core.words page → owed_by_all now page ≡ owed_by_all core page → counted sizes now page ≡ counted sizes core page
 both_same sizes core now page e f = omega (arith, e, f)
 
--- a page's lock is 0 or held by one pass
-page_held : (core : Core) → Locks core → (page : ℕ) → (core.words (PAGE page) ≡ 0) ⊎ ((n : ℕ) × (times (PAGE page) (core.passes n).owned ≡ 1))
-page_held core locks page = go (core.words (PAGE page) == 1) refl
-  where
-    go : (b : Bool) → (core.words (PAGE page) == 1) ≡ b → (core.words (PAGE page) ≡ 0) ⊎ ((n : ℕ) × (times (PAGE page) (core.passes n).owned ≡ 1))
-    go true e = let h = (locks.keyed (PAGE page)).held e in inr (h.by, h.once)
-    go false e = inl (let ne = eqb-false (core.words (PAGE page)) 1 e in let bit = locks.bit (PAGE page) refl in omega (arith, ne, bit))
-
 -- a page that a pass holds is not free
 pub not_free : (core : Core) → Locks core → (page n : ℕ) → times (PAGE page) (core.passes n).owned ≡ 1 → core.words (PAGE page) ≡ 0 → ⊥
 not_free core locks page n held zero =
     let none = (locks.keyed (PAGE page)).free (ne_eqb (core.words (PAGE page)) 1 (λ e. omega (arith, e, zero))) n in omega (arith, none, held)
 
--- ---- steps that pledge nothing and ready nothing
-
--- what is counted stays, and the pass that changes has pledged nothing before or after
-silent : (sizes : Sizes) (core now : Core) (who : ℕ) (pass : Pass) → Locks core → Locks now → DirtyCounters sizes core
-    → ((page : ℕ) → now.words (DIRTY page) ≡ core.words (DIRTY page)) → ((page : ℕ) → counted sizes now page ≡ counted sizes core page)
-    → ((n : ℕ) → now.passes n ≡ with_number core.passes who pass n)
-    → ((page : ℕ) → pledged sizes (core.passes who) (core.passes who).control page ≡ 0) → ((page : ℕ) → pledged sizes pass pass.control page ≡ 0)
-    → DirtyCounters sizes now
-silent sizes core now who pass locks after dirty same entries passes none_before none_after = record {
-  free = λ page zero. same page ∙ was_free page zero (page_held core locks page) ∙ sym (entries page);
-  held = λ page n here. elim (cases_eq n who) [
-    | inl e ↦ let p = subst (λ (q : Pass). times (PAGE page) q.owned ≡ 1) (passes n ∙ ap (with_number core.passes who pass) e ∙ number_here core.passes who pass) here in
-        same page ∙ clean page p (page_held core locks page) ∙ sym (entries page) ∙ none_more page n (subst (λ (q : Pass). pledged sizes q q.control page ≡ 0) (sym (passes n ∙ ap (with_number core.passes who pass) e ∙ number_here core.passes who pass)) (none_after page))
-    | inr ne ↦ let is : now.passes n ≡ core.passes n = passes n ∙ number_else core.passes who pass n ne in
-        same page ∙ dirty.held page n (subst (λ (q : Pass). times (PAGE page) q.owned ≡ 1) is here) ∙ ap (λ e. e + pledged sizes (core.passes n) (core.passes n).control page) (sym (entries page)) ∙ ap (λ (q : Pass). counted sizes now page + pledged sizes q q.control page) (sym is)
-  ];
-}
-  where
-    none_more : (page n : ℕ) → pledged sizes (now.passes n) (now.passes n).control page ≡ 0 → counted sizes now page ≡ counted sizes now page + pledged sizes (now.passes n) (now.passes n).control page
-    none_more page n z = omega (arith, z)
-
-    by_who : (page : ℕ) → times (PAGE page) (core.passes who).owned ≡ 1 → core.words (DIRTY page) ≡ counted sizes core page
-    by_who page here = let d = dirty.held page who here in let z = none_before page in omega (arith, d, z)
-
-    still_held : (page n : ℕ) → n ≢ who → times (PAGE page) (core.passes n).owned ≡ 1 → times (PAGE page) (now.passes n).owned ≡ 1
-    still_held page n ne here = subst (λ (q : Pass). times (PAGE page) q.owned ≡ 1) (sym (passes n ∙ number_else core.passes who pass n ne)) here
-
-    was_free : (page : ℕ) → now.words (PAGE page) ≡ 0 → (core.words (PAGE page) ≡ 0) ⊎ ((n : ℕ) × (times (PAGE page) (core.passes n).owned ≡ 1)) → core.words (DIRTY page) ≡ counted sizes core page
-    was_free page zero (inl unheld) = dirty.free page unheld
-    was_free page zero (inr holder) = elim (cases_eq holder.0 who) [
-      | inl e ↦ by_who page (subst (λ n. times (PAGE page) (core.passes n).owned ≡ 1) e holder.1)
-      | inr ne ↦ absurd (not_free now after page holder.0 (still_held page holder.0 ne holder.1) zero)
-    ]
-
-    clean : (page : ℕ) → times (PAGE page) pass.owned ≡ 1 → (core.words (PAGE page) ≡ 0) ⊎ ((n : ℕ) × (times (PAGE page) (core.passes n).owned ≡ 1)) → core.words (DIRTY page) ≡ counted sizes core page
-    clean page here (inl unheld) = dirty.free page unheld
-    clean page here (inr holder) = elim (cases_eq holder.0 who) [
-      | inl e ↦ by_who page (subst (λ n. times (PAGE page) (core.passes n).owned ≡ 1) e holder.1)
-      | inr ne ↦ absurd (
-          let mine : times (PAGE page) (now.passes who).owned ≡ 1 = subst (λ (q : Pass). times (PAGE page) q.owned ≡ 1) (sym (passes who ∙ number_here core.passes who pass)) here in
-          let none = (only_holder (after.keyed (PAGE page)) who (omega (arith, mine))).2 holder.0 ne in
-          let one = still_held page holder.0 ne holder.1 in omega (arith, none, one))
-    ]
+-- ---- numbers
 
 eq_turned : (a b : ℕ) → one_if (a == b) ≡ one_if (b == a)
 eq_turned a b = elim (cases_eq a b) [
@@ -189,16 +149,29 @@ clear_unpledged control is = tt
 unpledged_leaving : (owned : List Word) → IsUnpledged (leaving owned)
 unpledged_leaving owned = clear_unpledged (leaving owned) (clear_leaving owned)
 
+-- then all passes have pledged what they did
+pledged_none : (sizes : Sizes) (by : ℕ) (core : Core) (op : Op) (found : ℕ) → IsUnpledged (core.passes (changes by core.made op)).control → IsUnpledged (changed_pass sizes by core op found).control
+    → (page : ℕ) → pledged_by_all sizes (after_step sizes by op found core) page ≡ pledged_by_all sizes core page
+pledged_none sizes by core Split found before after page =
+    let made = total_made (core.made + 1) (λ (p : Pass). pledged sizes p p.control page) core.passes (changed_pass sizes by core Split found) in omega (arith, made)
+pledged_none sizes by core op found before after page =
+    pledged_same sizes core (after_step sizes by op found core) page refl
+    (by_number (λ n (p : Pass). pledged sizes p p.control page ≡ pledged sizes (core.passes n) (core.passes n).control page) core.passes by (changed_pass sizes by core op found)
+    (unpledged sizes (changed_pass sizes by core op found) page (changed_pass sizes by core op found).control after ∙ sym (unpledged sizes (core.passes by) page (core.passes by).control before)) (λ n ne. refl))
+
 -- a step between two such control states that leaves the counted words
 silent_step : (sizes : Sizes) (first : Values) (by : ℕ) (core : Core) (op : Op) (found : ℕ) → Sound sizes first core → DirtyCounters sizes core → FoundEnabledByKind sizes by core op found
     → (IsCleaners op → ⊥) → ((page : ℕ) → touches op (DIRTY page) ≡ false) → ((page : ℕ) → entries_of_page sizes (after_step sizes by op found core).words page ≡ entries_of_page sizes core.words page)
     → IsUnpledged (core.passes (changes by core.made op)).control → IsUnpledged (changed_pass sizes by core op found).control → DirtyCounters sizes (after_step sizes by op found core)
-silent_step sizes first by core op found sound dirty may other untouched_dirty entries before after =
-    silent sizes core (after_step sizes by op found core) (changes by core.made op) (changed_pass sizes by core op found) sound.locks (locks_step sizes first by core op found sound may) dirty
-    (λ page. untouched sizes by core op found may (DIRTY page) (untouched_dirty page))
-    (λ page. both_same sizes core (after_step sizes by op found core) page (entries page) (owed_step sizes first by core op found sound other may page)) (λ n. refl)
-    (λ page. unpledged sizes (core.passes (changes by core.made op)) page (core.passes (changes by core.made op)).control before)
-    (λ page. unpledged sizes (changed_pass sizes by core op found) page (changed_pass sizes by core op found).control after)
+silent_step sizes first by core op found sound dirty may other untouched_dirty entries before after = record {
+  sum = λ page.
+      let was = dirty.sum page in
+      let word = untouched sizes by core op found may (DIRTY page) (untouched_dirty page) in
+      let same = entries page in
+      let owes = owed_step sizes first by core op found sound other may page in
+      let none = pledged_none sizes by core op found before after page in
+      omega (arith, was, word, same, owes, none);
+}
 
 -- no ENTRY word changes
 same_entries : (sizes : Sizes) (by : ℕ) (core : Core) (op : Op) (found : ℕ) → FoundEnabledByKind sizes by core op found → ((slot : ℕ) → touches op (ENTRY slot) ≡ false) → (page : ℕ) → entries_of_page sizes (after_step sizes by op found core).words page ≡ entries_of_page sizes core.words page
@@ -213,20 +186,20 @@ plain_step sizes first by core op found sound dirty may other plain step who wha
     (subst (λ n. IsUnpledged (core.passes n).control) (sym who) (clear_unpledged _ (clear_from sizes core.values (core.passes by) op plain step)))
     (subst (λ (p : Pass). IsUnpledged p.control) (sym what) (clear_unpledged _ (clear_to sizes core.values (core.passes by) op found plain step)))
 
--- nothing changes that is counted, and the passes hold and have pledged what they did
-dirty_still : (sizes : Sizes) (core now : Core) → DirtyCounters sizes core → ((word : Word) → now.words word ≡ core.words word) → ((n : ℕ) → (now.passes n).owned ≡ (core.passes n).owned)
+-- no word changes, and the passes have pledged what they did
+dirty_still : (sizes : Sizes) (core now : Core) → DirtyCounters sizes core → ((word : Word) → now.words word ≡ core.words word) → now.made ≡ core.made
     → ((n page : ℕ) → pledged sizes (now.passes n) (now.passes n).control page ≡ pledged sizes (core.passes n) (core.passes n).control page)
     → ((page : ℕ) → owed_by_all now page ≡ owed_by_all core page) → DirtyCounters sizes now
-dirty_still sizes core now dirty words owned same owes = record {
-  free = λ page zero. words (DIRTY page) ∙ dirty.free page (sym (words (PAGE page)) ∙ zero) ∙ sym (counts page);
-  held = λ page n here. words (DIRTY page) ∙ dirty.held page n (ap (times (PAGE page)) (sym (owned n)) ∙ here) ∙ ap (λ e. e + pledged sizes (core.passes n) (core.passes n).control page) (sym (counts page)) ∙ ap (λ p. counted sizes now page + p) (sym (same n page));
+dirty_still sizes core now dirty words made same owes = record {
+  sum = λ page.
+      let was = dirty.sum page in
+      let word = words (DIRTY page) in
+      let entries : entries_of_page sizes now.words page ≡ entries_of_page sizes core.words page =
+      total_same sizes.entries (λ slot. one_if (is_of_page page (core.words (ENTRY slot)))) (λ slot. one_if (is_of_page page (now.words (ENTRY slot)))) (λ slot less. ap (λ w. one_if (is_of_page page w)) (words (ENTRY slot))) in
+      let owe = owes page in
+      let pledge = pledged_same sizes core now page made (λ n. same n page) in
+      omega (arith, was, word, entries, owe, pledge);
 }
-  where
-    entries : (page : ℕ) → entries_of_page sizes now.words page ≡ entries_of_page sizes core.words page
-    entries page = total_same sizes.entries (λ slot. one_if (is_of_page page (core.words (ENTRY slot)))) (λ slot. one_if (is_of_page page (now.words (ENTRY slot)))) (λ slot less. ap (λ w. one_if (is_of_page page w)) (words (ENTRY slot)))
-
-    counts : (page : ℕ) → counted sizes now page ≡ counted sizes core page
-    counts page = both_same sizes core now page (entries page) (owes page)
 
 left_pledged : (sizes : Sizes) (pass : Pass) (left : List Word) (page : ℕ) (control : Control) → pledged sizes record pass { left = left } control page ≡ pledged sizes pass control page
 left_pledged sizes pass left page control = refl
@@ -266,31 +239,22 @@ slot_less sizes pass number drawn allowed = mod_below number sizes.entries (let 
 
 pledges_step : (sizes : Sizes) (first : Values) (by : ℕ) (core : Core) (found page : ℕ) → Sound sizes first core → DirtyCounters sizes core → FoundEnabledByKind sizes by core (Pledge page) found → DirtyCounters sizes (after_step sizes by (Pledge page) found core)
 pledges_step sizes first by core found page sound dirty may = record {
-  free = λ p zero. elim (cases_eq p page) [
-    | inl e ↦ absurd (not_free core sound.locks page by mine (subst (λ q. core.words (PAGE q) ≡ 0) e (sym (untouched sizes by core (Pledge page) found may (PAGE p) refl) ∙ zero)))
-    | inr ne ↦ word_else core.words (DIRTY page) _ (DIRTY p) (λ e. ne (ap index e)) ∙ dirty.free p (sym (untouched sizes by core (Pledge page) found may (PAGE p) refl) ∙ zero)
-        ∙ sym (both_same sizes core (after_step sizes by (Pledge page) found core) p (same_entries sizes by core (Pledge page) found may (λ slot. refl) p) (owes p))
-  ];
-  held = λ p. by_number (λ n (q : Pass). times (PAGE p) q.owned ≡ 1 → (after_step sizes by (Pledge page) found core).words (DIRTY p) ≡ counted sizes (after_step sizes by (Pledge page) found core) p + pledged sizes q q.control p) core.passes by (changed_pass sizes by core (Pledge page) found)
-      (λ here. let old = dirty.held p by here in let e = same_entries sizes by core (Pledge page) found may (λ slot. refl) p in let m = more p in let s = was p in let d = dirty_now p in let w = owes p in omega (arith, old, e, m, s, d, w))
-      (λ n ne here. let old = dirty.held p n here in let e = same_entries sizes by core (Pledge page) found may (λ slot. refl) p in
-      let d = word_else core.words (DIRTY page) (found + 1) (DIRTY p) (λ e. held_by_one sizes first core sound (PAGE page) by n mine (subst (λ q. times (PAGE q) (core.passes n).owned ≡ 1) (ap index e) here) ne) in let w = owes p in omega (arith, old, e, d, w));
+  sum = λ p.
+      let old = dirty.sum p in
+      let d = dirty_now p in
+      let e = same_entries sizes by core (Pledge page) found may (λ slot. refl) p in
+      let w = owed_step sizes first by core (Pledge page) found sound (λ f. f) may p in
+      let all_now = total_changed (core.made + 1) by (λ (q : Pass). pledged sizes q q.control p) core.passes (changed_pass sizes by core (Pledge page) found) (pass_made sizes first by core (PledgePage page) sound may.may (λ e. cc)) in
+      let m = more p in
+      let s = was p in
+      omega (arith, old, d, e, w, all_now, m, s);
 }
   where
-    owes : (p : ℕ) → owed_by_all (after_step sizes by (Pledge page) found core) p ≡ owed_by_all core p
-    owes = owed_step sizes first by core (Pledge page) found sound (λ f. f) may
-
-    pass : Pass
-    pass = core.passes by
-
     at : HasDrawn sizes (core.passes by).call (core.passes by).entries × IsPage sizes (core.passes by).call page
     at = subst (FactsAt sizes (core.passes by)) may.may (sound.control_facts by).at
 
     pages : (core.passes by).pages ≡ pages_of sizes (core.passes by).call
     pages = subst (PagesAt sizes (core.passes by)) may.may (sound.control_facts by).pages
-
-    mine : times (PAGE page) (core.passes by).owned ≡ 1
-    mine = pledged_page sizes (core.passes by) page at pages (subst (HoldsLocks sizes (core.passes by)) may.may (sound.ownership by).locks)
 
     was : (p : ℕ) → pledged sizes (core.passes by) (core.passes by).control p ≡ count_in (take (nth_of sizes (core.passes by).call page) (core.passes by).pages) p
     was p = ap (λ s. pledged sizes (core.passes by) s p) may.may
@@ -326,23 +290,16 @@ pledges_step sizes first by core found page sound dirty may = record {
 
 readies_step : (sizes : Sizes) (first : Values) (by : ℕ) (core : Core) (found next : ℕ) → Sound sizes first core → DirtyCounters sizes core → FoundEnabledByKind sizes by core (Ready next) found → DirtyCounters sizes (after_step sizes by (Ready next) found core)
 readies_step sizes first by core found next sound dirty may = record {
-  free = λ p zero. let z = sym (untouched sizes by core (Ready next) found may (PAGE p) refl) ∙ zero in
-      let old = dirty.free p z in let d = untouched sizes by core (Ready next) found may (DIRTY p) refl in
+  sum = λ p.
+      let old = dirty.sum p in
+      let d = untouched sizes by core (Ready next) found may (DIRTY p) refl in
       let e = entries_now p in
-      let o : one_if (here == p) ≡ 0 = when_false (here == p) 1 0 (ne_eqb here p (λ is. not_free core sound.locks here by mine (subst (λ q. core.words (PAGE q) ≡ 0) (sym is) z))) in let w = owes p in omega (arith, old, d, e, o, w);
-  held = λ p. by_number (λ n (q : Pass). times (PAGE p) q.owned ≡ 1 → (after_step sizes by (Ready next) found core).words (DIRTY p) ≡ counted sizes (after_step sizes by (Ready next) found core) p + pledged sizes q q.control p) core.passes by (changed_pass sizes by core (Ready next) found)
-      (λ held_now. let old = dirty.held p by (sym (times_without_else (PAGE p) (ENTRY (slot_of_entry sizes next)) (core.passes by).owned (differ (PAGE p) (ENTRY (slot_of_entry sizes next)) refl)) ∙ held_now) in
-      let d = untouched sizes by core (Ready next) found may (DIRTY p) refl in let e = entries_now p in let m = less p in let w = owes p in omega (arith, old, d, e, m, w))
-      (λ n ne held_now. let old = dirty.held p n held_now in let d = untouched sizes by core (Ready next) found may (DIRTY p) refl in let e = entries_now p in
-      let o : one_if (here == p) ≡ 0 = when_false (here == p) 1 0 (ne_eqb here p (λ is. held_by_one sizes first core sound (PAGE here) by n mine (subst (λ q. times (PAGE q) (core.passes n).owned ≡ 1) (sym is) held_now) ne)) in let w = owes p in omega (arith, old, d, e, o, w));
+      let w = owed_step sizes first by core (Ready next) found sound (λ f. f) may p in
+      let all_now = total_changed (core.made + 1) by (λ (q : Pass). pledged sizes q q.control p) core.passes (changed_pass sizes by core (Ready next) found) (pass_made sizes first by core (ReadyEntry next) sound may.may (λ e. cc)) in
+      let m = less p in
+      omega (arith, old, d, e, w, all_now, m);
 }
   where
-    owes : (p : ℕ) → owed_by_all (after_step sizes by (Ready next) found core) p ≡ owed_by_all core p
-    owes = owed_step sizes first by core (Ready next) found sound (λ f. f) may
-
-    here : ℕ
-    here = page_at sizes (core.passes by) next
-
     at : HasDrawn sizes (core.passes by).call (core.passes by).entries × IsAmong (core.passes by).first (core.passes by).entries next
     at = subst (FactsAt sizes (core.passes by)) may.may (sound.control_facts by).at
 
@@ -354,10 +311,6 @@ readies_step sizes first by core found next sound dirty may = record {
 
     pages : (core.passes by).pages ≡ pages_of sizes (core.passes by).call
     pages = subst (PagesAt sizes (core.passes by)) may.may (sound.control_facts by).pages
-
-    mine : times (PAGE (page_at sizes (core.passes by) next)) (core.passes by).owned ≡ 1
-    mine = (let held = subst (HoldsLocks sizes (core.passes by)) may.may (sound.ownership by).locks in
-        holds_page sizes (core.passes by) (page_at sizes (core.passes by) next) pages is_page (held (PAGE (page_at sizes (core.passes by) next)) (λ slot. differ (PAGE (page_at sizes (core.passes by) next)) (ENTRY slot) refl)))
 
     fills_next : Fills (core.passes by) next
     fills_next = subst (λ g. IsFilling g (core.passes by).first (core.passes by).entries next) (sym may.may) (readying_next (core.passes by).first (core.passes by).entries next at.1)
@@ -424,14 +377,21 @@ readies_step sizes first by core found next sound dirty may = record {
 
 -- ---- a cleaner's steps
 
+cleaner_pledges : (sizes : Sizes) (by : ℕ) (core : Core) (cleaner_op : CleanerOp) (found : ℕ) → FoundEnabledByKind sizes by core (ByCleaner cleaner_op) found → (page : ℕ) → pledged_by_all sizes (after_step sizes by (ByCleaner cleaner_op) found core) page ≡ pledged_by_all sizes core page
+cleaner_pledges sizes by core cleaner_op found may = pledged_none sizes by core (ByCleaner cleaner_op) found
+    (clear_unpledged _ (clear_from sizes core.values (core.passes by) (ByCleaner cleaner_op) tt may.may)) (clear_unpledged _ (clear_to sizes core.values (core.passes by) (ByCleaner cleaner_op) found tt may.may))
+
 -- one that leaves DIRTY, and of each page as many that are counted or owed
 cleaner_step_silent : (sizes : Sizes) (first : Values) (by : ℕ) (core : Core) (cleaner_op : CleanerOp) (found : ℕ) → Sound sizes first core → DirtyCounters sizes core → FoundEnabledByKind sizes by core (ByCleaner cleaner_op) found → ((page : ℕ) → touches (ByCleaner cleaner_op) (DIRTY page) ≡ false)
     → ((page : ℕ) → counted sizes (after_step sizes by (ByCleaner cleaner_op) found core) page ≡ counted sizes core page) → DirtyCounters sizes (after_step sizes by (ByCleaner cleaner_op) found core)
-cleaner_step_silent sizes first by core cleaner_op found sound dirty may untouched_dirty same =
-    silent sizes core (after_step sizes by (ByCleaner cleaner_op) found core) by (changed_pass sizes by core (ByCleaner cleaner_op) found) sound.locks (locks_step sizes first by core (ByCleaner cleaner_op) found sound may) dirty
-    (λ page. untouched sizes by core (ByCleaner cleaner_op) found may (DIRTY page) (untouched_dirty page)) same (λ n. refl)
-    (λ page. unpledged sizes (core.passes by) page (core.passes by).control (clear_unpledged _ (clear_from sizes core.values (core.passes by) (ByCleaner cleaner_op) tt may.may)))
-    (λ page. unpledged sizes (changed_pass sizes by core (ByCleaner cleaner_op) found) page (changed_pass sizes by core (ByCleaner cleaner_op) found).control (clear_unpledged _ (clear_to sizes core.values (core.passes by) (ByCleaner cleaner_op) found tt may.may)))
+cleaner_step_silent sizes first by core cleaner_op found sound dirty may untouched_dirty same = record {
+  sum = λ page.
+      let was = dirty.sum page in
+      let word = untouched sizes by core (ByCleaner cleaner_op) found may (DIRTY page) (untouched_dirty page) in
+      let counts = same page in
+      let none = cleaner_pledges sizes by core cleaner_op found may page in
+      omega (arith, was, word, counts, none);
+}
 
 -- one that neither cleans an entry nor takes from DIRTY owes what it did
 cleaner_step_owes : (sizes : Sizes) (by : ℕ) (core : Core) (cleaner_op : CleanerOp) (found : ℕ) → IsUncounted cleaner_op → FoundEnabledByKind sizes by core (ByCleaner cleaner_op) found → (page : ℕ) → owed_by_all (after_step sizes by (ByCleaner cleaner_op) found core) page ≡ owed_by_all core page
@@ -439,22 +399,12 @@ cleaner_step_owes sizes by core cleaner_op found un may page = owed_same core (a
     (by_number (λ n (p : Pass). owed p.control page ≡ owed (core.passes n).control page) core.passes by (changed_pass sizes by core (ByCleaner cleaner_op) found)
     (by_cleaner_owes sizes (core.passes by) (moved (cleaner_move sizes cleaner_op found) (core.passes by).owned) cleaner_op found (core.passes by).control un may.may page) (λ n ne. refl))
 
--- the pass of a cleaner is made
-cleaner_made : (sizes : Sizes) (first : Values) (by : ℕ) (core : Core) (batch : Batch) (inner : CleanerControl) → Sound sizes first core → (core.passes by).control ≡ Cleaning batch inner → by < core.made + 1
-cleaner_made sizes first by core batch inner sound at = elim (cases_lt by (core.made + 1)) [
-  | inl less ↦ less
-  | inr more ↦ absurd (not_idle batch inner (sym at ∙ (sound.numbers.unborn by (omega (arith, more))).idle))
-]
-  where
-    not_idle : (batch : Batch) (inner : CleanerControl) → Cleaning batch inner ≢ Idle
-    not_idle batch inner e = cc
-
 -- what all owe changes by as much as what this one does
 owed_at : (sizes : Sizes) (first : Values) (by : ℕ) (core : Core) (cleaner_op : CleanerOp) (found : ℕ) (batch : Batch) (inner : CleanerControl) (page : ℕ) → Sound sizes first core → (core.passes by).control ≡ Cleaning batch inner
     → owed_by_all (after_step sizes by (ByCleaner cleaner_op) found core) page + owed (Cleaning batch inner) page
     ≡ owed_by_all core page + owed (after_cleaner_op sizes (moved (cleaner_move sizes cleaner_op found) (core.passes by).owned) batch inner found) page
 owed_at sizes first by core cleaner_op found batch inner page sound at =
-    let e = total_changed (core.made + 1) by (λ (p : Pass). owed p.control page) core.passes (changed_pass sizes by core (ByCleaner cleaner_op) found) (cleaner_made sizes first by core batch inner sound at) in
+    let e = total_changed (core.made + 1) by (λ (p : Pass). owed p.control page) core.passes (changed_pass sizes by core (ByCleaner cleaner_op) found) (pass_made sizes first by core (Cleaning batch inner) sound at (λ e. cc)) in
     let f : owed (changed_pass sizes by core (ByCleaner cleaner_op) found).control page ≡ owed (after_cleaner_op sizes (moved (cleaner_move sizes cleaner_op found) (core.passes by).owned) batch inner found) page =
     ap (λ s. owed (after_by_cleaner sizes (moved (cleaner_move sizes cleaner_op found) (core.passes by).owned) cleaner_op found s) page) at in
     let g : owed (core.passes by).control page ≡ owed (Cleaning batch inner) page = ap (λ s. owed s page) at in
@@ -500,11 +450,12 @@ cleans_dirty sizes first by core number found sound dirty may = cleaner_step_sil
 -- DIRTY of a page falls, and one less is owed
 subtracts_dirty : (sizes : Sizes) (first : Values) (by : ℕ) (core : Core) (page found : ℕ) → Sound sizes first core → DirtyCounters sizes core → FoundEnabledByKind sizes by core (ByCleaner (Subtract page)) found → DirtyCounters sizes (after_step sizes by (ByCleaner (Subtract page)) found core)
 subtracts_dirty sizes first by core page found sound dirty may = record {
-  free = λ p zero. let old = dirty.free p (sym (word_else core.words (DIRTY page) (found - 1) (PAGE p) (differ (PAGE p) (DIRTY page) refl)) ∙ zero) in let f = falls p in let c = less_counted p in omega (arith, old, f, c);
-  held = λ p. by_number (λ n (q : Pass). times (PAGE p) q.owned ≡ 1 → (after_step sizes by (ByCleaner (Subtract page)) found core).words (DIRTY p) ≡ counted sizes (after_step sizes by (ByCleaner (Subtract page)) found core) p + pledged sizes q q.control p)
-      core.passes by (changed_pass sizes by core (ByCleaner (Subtract page)) found)
-      (λ here. let old = dirty.held p by here in let f = falls p in let c = less_counted p in let a = before p in let b = after p in omega (arith, old, f, c, a, b))
-      (λ n ne here. let old = dirty.held p n here in let f = falls p in let c = less_counted p in omega (arith, old, f, c));
+  sum = λ p.
+      let old = dirty.sum p in
+      let f = falls p in
+      let c = less_counted p in
+      let none = cleaner_pledges sizes by core (Subtract page) found may p in
+      omega (arith, old, f, c, none);
 }
   where
     t : IsTending (core.passes by) (Subtract page)
@@ -515,12 +466,6 @@ subtracts_dirty sizes first by core page found sound dirty may = record {
 
     less : t.made.0 < length t.batch.pages
     less = subst (FactsAt sizes (core.passes by)) at (sound.control_facts by).at
-
-    before : (p : ℕ) → pledged sizes (core.passes by) (core.passes by).control p ≡ 0
-    before p = unpledged sizes (core.passes by) p (core.passes by).control (clear_unpledged _ (clear_from sizes core.values (core.passes by) (ByCleaner (Subtract page)) tt may.may))
-
-    after : (p : ℕ) → pledged sizes (changed_pass sizes by core (ByCleaner (Subtract page)) found) (changed_pass sizes by core (ByCleaner (Subtract page)) found).control p ≡ 0
-    after p = unpledged sizes (changed_pass sizes by core (ByCleaner (Subtract page)) found) p (changed_pass sizes by core (ByCleaner (Subtract page)) found).control (clear_unpledged _ (clear_to sizes core.values (core.passes by) (ByCleaner (Subtract page)) found tt may.may))
 
     owes_less : (p : ℕ) → owed_by_all (after_step sizes by (ByCleaner (Subtract page)) found core) p + one_if (p == page) ≡ owed_by_all core p
     owes_less p =
@@ -536,10 +481,7 @@ subtracts_dirty sizes first by core page found sound dirty may = record {
     some : 1 ≤ core.words (DIRTY page)
     some =
         let o = owes_less page in let one : one_if (page == page) ≡ 1 = when_true (page == page) 1 0 (eq-eqb page page refl) in
-        elim (page_held core sound.locks page) [
-          | inl zero_ ↦ (let d = dirty.free page zero_ in omega (arith, d, o, one))
-          | inr holder ↦ (let d = dirty.held page holder.0 holder.1 in omega (arith, d, o, one))
-        ]
+        let d = dirty.sum page in omega (arith, d, o, one)
 
     falls : (p : ℕ) → (after_step sizes by (ByCleaner (Subtract page)) found core).words (DIRTY p) + one_if (p == page) ≡ core.words (DIRTY p)
     falls p = elim (cases_eq p page) [
@@ -627,18 +569,18 @@ dirty_step sizes first by core (ByCleaner cleaner_op) found sound dirty may = di
 dirty_step sizes first by core Split found sound dirty may = silent_step sizes first by core Split found sound dirty may (λ f. f) (λ page. refl) (same_entries sizes by core Split found may (λ slot. refl))
     (subst IsUnpledged (sym (sound.numbers.unborn (core.made + 1) (omega arith)).idle) tt) tt
 dirty_step sizes first by core (PutBack cell) found sound dirty may = dirty_still sizes core (after_step sizes by (PutBack cell) found core) dirty (λ word. untouched sizes by core (PutBack cell) found may word refl)
-    (by_number (λ n (p : Pass). p.owned ≡ (core.passes n).owned) core.passes by (changed_pass sizes by core (PutBack cell) found) refl (λ n ne. refl))
+    refl
     (λ n page. by_number (λ n (p : Pass). pledged sizes p p.control page ≡ pledged sizes (core.passes n) (core.passes n).control page) core.passes by (changed_pass sizes by core (PutBack cell) found)
     (left_pledged sizes (core.passes by) (cell ∷ (core.passes by).left) page (core.passes by).control) (λ n ne. refl) n) (owed_step sizes first by core (PutBack cell) found sound (λ f. f) may)
 dirty_step sizes first by core (Join number) found sound dirty may = dirty_still sizes core (after_step sizes by (Join number) found core) dirty (λ word. untouched sizes by core (Join number) found may word refl)
-    (by_number (λ n (p : Pass). p.owned ≡ (core.passes n).owned) core.passes by (changed_pass sizes by core (Join number) found) refl (λ n ne. refl))
+    refl
     (λ n page. by_number (λ n (p : Pass). pledged sizes p p.control page ≡ pledged sizes (core.passes n) (core.passes n).control page) core.passes by (changed_pass sizes by core (Join number) found) refl (λ n ne. refl) n) (owed_step sizes first by core (Join number) found sound (λ f. f) may)
 
 -- ---- a call that begins, and a device call
 
 pub dirty_begin : (sizes : Sizes) (first : Values) (by : ℕ) (core : Core) (call : FileCall) → DirtyCounters sizes core → CallMayBegin sizes call (core.passes by) → DirtyCounters sizes (after_begin sizes by call core)
 dirty_begin sizes first by core call dirty may = dirty_still sizes core (after_begin sizes by call core) dirty (λ word. refl)
-    (by_number (λ n (p : Pass). p.owned ≡ (core.passes n).owned) core.passes by (begun sizes call (core.passes by)) refl (λ n ne. refl))
+    refl
     (λ n page. by_number (λ n (p : Pass). pledged sizes p p.control page ≡ pledged sizes (core.passes n) (core.passes n).control page) core.passes by (begun sizes call (core.passes by))
     (if_both (λ s. pledged sizes (begun sizes call (core.passes by)) s page ≡ pledged sizes (core.passes by) (core.passes by).control page) (page_count sizes (plain_call call) == 0) LoadStop (TakePage (first_page sizes (plain_call call))) (λ _. idle page) (λ _. idle page)) (λ n ne. refl) n)
     (λ page. owed_same core (after_begin sizes by call core) page refl (by_number (λ n (p : Pass). owed p.control page ≡ owed (core.passes n).control page) core.passes by (begun sizes call (core.passes by))
@@ -673,7 +615,7 @@ of_cleaner_owes sizes values work batch how inner page due = absurd due
 
 pub dirty_work : (sizes : Sizes) (first : Values) (by : ℕ) (core : Core) (work : Work) → DirtyCounters sizes core → CallEnabled sizes core.values (core.passes by) work → DirtyCounters sizes (after_work sizes by work core)
 dirty_work sizes first by core work dirty may = dirty_still sizes core (after_work sizes by work core) dirty (λ word. refl)
-    (by_number (λ n (p : Pass). p.owned ≡ (core.passes n).owned) core.passes by (worked sizes work (core.passes by)) refl (λ n ne. refl))
+    refl
     (λ n page. by_number (λ n (p : Pass). pledged sizes p p.control page ≡ pledged sizes (core.passes n) (core.passes n).control page) core.passes by (worked sizes work (core.passes by)) (works page (core.passes by).control work.ending may.due) (λ n ne. refl) n)
     (λ page. owed_same core (after_work sizes by work core) page refl (by_number (λ n (p : Pass). owed p.control page ≡ owed (core.passes n).control page) core.passes by (worked sizes work (core.passes by)) (owes page (core.passes by).control work.ending may.due) (λ n ne. refl)))
   where

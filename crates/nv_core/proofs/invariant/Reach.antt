@@ -206,7 +206,7 @@ opening_is_sound mount is_mount = record {
     others = λ slot less off. refl;
   };
   entries = record { each = λ slot. SaysFree refl };
-  dirty = record { free = λ page zero. let n = none_counted mount.sizes.entries page in let o = none_owed in omega (arith, n, o); held = λ page n here. absurd (omega (arith, here)) };
+  dirty = record { sum = λ page. let n = none_counted mount.sizes.entries page in let o = none_owed in omega (arith, n, o) };
   loaded = record {
     head = λ n. omega arith;
     tail = λ n. omega arith;

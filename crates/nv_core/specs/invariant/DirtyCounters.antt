@@ -1,10 +1,10 @@
 -- Dirty counters: DIRTY is the number of a page's entries.
 use Rattle.std.specs.Prelude.{◌≡◌, ℕ, ◌+◌, ◌-◌, ◌==◌, ◌||◌, ◌&&◌, Bool, if◌then◌else◌, take, drop}
 use Rattle.nv_core.specs.state.Totals.{total}
-use Rattle.nv_core.specs.state.Words.{Sizes, Word, ENTRY, PAGE, DIRTY, kind_of, page_of, ready, held}
+use Rattle.nv_core.specs.state.Words.{Sizes, Word, ENTRY, DIRTY, kind_of, page_of, ready, held}
 use Rattle.nv_core.specs.state.Cleaner.{CleanEntry, SubtractDirty}
 use Rattle.nv_core.specs.invariant.CleanerOwnership.{count_in}
-use Rattle.nv_core.specs.state.Passes.{Control, Cleaning, PledgePage, ReadyEntry, Pass, nth_of, times}
+use Rattle.nv_core.specs.state.Passes.{Control, Cleaning, PledgePage, ReadyEntry, Pass, nth_of}
 use Rattle.nv_core.specs.invariant.Ownership.{one_if}
 use Rattle.nv_core.specs.state.Core.{Core}
 
@@ -24,6 +24,10 @@ pledged sizes pass (ReadyEntry next) page =
     count_in (take 1 pass.pages) page + (if next == pass.first then 0 else count_in (drop (next - pass.first) pass.pages) page)
 pledged sizes pass control page = 0
 
+-- and all passes
+abbrev pub pledged_by_all : Sizes → Core → (page : ℕ) → ℕ
+pledged_by_all sizes core page = total (core.made + 1) (λ number. pledged sizes (core.passes number) (core.passes number).control page)
+
 -- how many entries of a page a cleaner has cleaned, whose DIRTY is still to fall
 abbrev pub owed : Control → (page : ℕ) → ℕ
 owed (Cleaning batch (CleanEntry i)) page = count_in (take i batch.pages) page
@@ -34,9 +38,7 @@ owed control page = 0
 abbrev pub owed_by_all : Core → (page : ℕ) → ℕ
 owed_by_all core page = total (core.made + 1) (λ number. owed (core.passes number).control page)
 
--- DIRTY is the number of a page's entries that are ready or held, of those that PAGE's holder has pledged and not yet readied, and of those that a
--- cleaner has cleaned, and for which it is still to fall.
+-- DIRTY is the number of a page's entries that are ready or held, of those that passes have pledged and not yet readied, and of those that a cleaner
+-- has cleaned, and for which it is still to fall.
 pub record DirtyCounters (sizes : Sizes) (core : Core) : Type 0 where
-  pub free : (page : ℕ) → core.words (PAGE page) ≡ 0 → core.words (DIRTY page) ≡ entries_of_page sizes core.words page + owed_by_all core page
-  pub held : (page number : ℕ) → times (PAGE page) (core.passes number).owned ≡ 1
-      → core.words (DIRTY page) ≡ entries_of_page sizes core.words page + owed_by_all core page + pledged sizes (core.passes number) (core.passes number).control page
+  pub sum : (page : ℕ) → core.words (DIRTY page) ≡ entries_of_page sizes core.words page + owed_by_all core page + pledged_by_all sizes core page
