@@ -1,5 +1,5 @@
 -- Benches: what contracts see of one, and what each call makes of that.
-use Rattle.std.specs.Prelude.{ℕ, ◌+◌, ◌-◌, ◌^◌, Bool, true, false, List, [], ◌∷◌, ◌++◌, Option, option_map}
+use Rattle.std.specs.Prelude.{ℕ, ◌+◌, ◌-◌, ◌^◌, Bool, true, false, List, [], ◌∷◌, ◌++◌, Option, None, option_map, slice_index_or}
 use Rattle.nv_plain.specs.Faults.{saturated}
 use Rattle.nv_pmem.specs.Part.{Part}
 use Rattle.nv_pmem.specs.declared.picker.Pick.{Pick}
@@ -20,10 +20,14 @@ pub record BenchState : Type 0 where
   pub armed : ℕ
   -- how often they had failed when power last went off; 2^64 - 1 while it is armed
   pub settled : ℕ
-  -- what its devices at home held when power last went off, as it left them; none where it doesn't tell, or power never went off
-  pub left : Option Holding
-  -- the picks that power went off with, the last one first
+  -- each time that power went off, the last one first: the pick that it went off with
   pub picked : List Pick
+  -- and, beside each of them, what it left at home; none where the bench doesn't tell
+  pub lefts : List (Option Holding)
+
+-- what its devices at home held when power last went off, as it left them; none where it doesn't tell, or power never went off
+abbrev pub left_last : BenchState → Option Holding
+left_last bench = slice_index_or bench.lefts 0 None
 
 -- with another count of faults
 abbrev pub with_faults : ℕ → BenchState → BenchState
@@ -60,6 +64,6 @@ abbrev pub powered_off : Pick → BenchState → BenchState
 powered_off pick bench = record bench {
   told = option_map (powered pick) bench.told;
   settled = bench.faults;
-  left = option_map (powered pick) bench.told;
   picked = pick ∷ bench.picked;
+  lefts = option_map (powered pick) bench.told ∷ bench.lefts;
 }

@@ -9,7 +9,7 @@ use Rattle.nv_bench.specs.declared.folder_bench.FolderBench.{FolderBench}
 
 -- a bench that tells nothing, of which nothing was ever lent, and that has never failed
 abbrev pub new_folder : BenchState
-new_folder = record { told = None; is_open = false; lent = []; faults = 0; arms = 0; armed = 0; settled = 0; left = None; picked = [] }
+new_folder = record { told = None; is_open = false; lent = []; faults = 0; arms = 0; armed = 0; settled = 0; picked = []; lefts = [] }
 
 module _ {R : Type 0} where
   -- what is lent of it, and how often its devices and openings have failed
@@ -22,8 +22,8 @@ module _ {R : Type 0} where
     arms = 0;
     armed = 0;
     settled = 0;
-    left = None;
     picked = [];
+    lefts = [];
   }
 
   -- whether it is looked at alone, and makes and writes nothing

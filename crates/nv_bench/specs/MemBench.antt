@@ -26,11 +26,11 @@ held_by bench = record { parts = map part_now bench.parts.items; stores = held_s
 abbrev pub faults_by : MemBench → ℕ
 faults_by bench = saturated (bench.gone + sum_by part_faults bench.parts.items + bench_store_faults bench.bench_stores)
 
--- what devices hold, of some rows of them the first
-abbrev pub latest_of : {A : Type 0} → List (Vec MemPart A) → List BenchStores → Option Holding
-latest_of [] stores = None
-latest_of (parts ∷ past) [] = None
-latest_of (parts ∷ past) (stores ∷ earlier) = Some (record { parts = map part_now parts.items; stores = held_stores stores })
+-- what devices held that were noted together, each time
+abbrev pub noted_of : {A : Type 0} → List (Vec MemPart A) → List BenchStores → List (Option Holding)
+noted_of [] stores = []
+noted_of (parts ∷ past) [] = []
+noted_of (parts ∷ past) (stores ∷ earlier) = Some (record { parts = map part_now parts.items; stores = held_stores stores }) ∷ noted_of past earlier
 
 -- all that is seen of it; it tells all
 abbrev pub mem_state : MemBench → BenchState
@@ -42,13 +42,13 @@ mem_state bench = record {
   arms = bench.arms;
   armed = bench.armed;
   settled = bench.settled;
-  left = latest_of bench.left_parts.states bench.left_stores.states;
   picked = bench.picked.states;
+  lefts = noted_of bench.left_parts.states bench.left_stores.states;
 }
 
 -- a bench that holds this, of which nothing was ever lent, armed or powered off, and that has never failed
 abbrev pub new_state : Holding → BenchState
-new_state holding = record { told = Some holding; is_open = false; lent = []; faults = 0; arms = 0; armed = 0; settled = 0; left = None; picked = [] }
+new_state holding = record { told = Some holding; is_open = false; lent = []; faults = 0; arms = 0; armed = 0; settled = 0; picked = []; lefts = [] }
 
 -- stores in memory are whole
 stores_whole : (names : List (List ℕ)) (stores : List MemStore) → All (λ (named : NamedStore). IsWholeStore named.store) (named_stores names (map store_now stores))

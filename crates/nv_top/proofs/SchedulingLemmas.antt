@@ -11,7 +11,7 @@ use Rattle.nv_pmem.specs.Rows.{row_words}
 use Rattle.nv_pmem.specs.Steps as lines
 use Rattle.nv_pmem.specs.declared.picker.Pick.{Pick}
 use Rattle.nv_store.specs.Steps as backing
-use Rattle.nv_bench.specs.Benches.{BenchState, armed_with}
+use Rattle.nv_bench.specs.Benches.{BenchState, armed_with, left_last}
 use Rattle.nv_bench.specs.Holding.{Holding, NamedStore}
 use Rattle.nv_bench.specs.Powered.{powered}
 use Rattle.nv_open.specs.Held.{files_named, header_names}
@@ -78,7 +78,7 @@ module _ (basis : Basis) (trace : Traced) (mount : MountState) (pass zero : Pass
     (formed : IsWellFormed trace) (few : length trace.calls < 2 ^ 60) (rise : IsStrictlyIncreasing (lines_in trace)) (no_rounds : has_rounds trace.form ≡ false) (is_mount : IsMount (mount_of mount.board.opened))
     (core : HasRunInCore mount.board.opened mount.fds trace.tokens trace.calls options.batch zero.view lent armed outcome) (begin_so : SchedulesBegin) (told_so : SchedulesAreTold) (legal_so : SchedulesAreLegal) (faithful_so : SchedulesAreFaithful) (files_so : DescriptorsSayFiles) (kept_so : LeftOpenAreKept)
     (stand_so : ReadableStandsForRecovered) (before : List Pick) (bench : BenchState) (text : List ℕ) (home after_power : Holding) (shows_so : ShowsOutcome after_power outcome bench.told text)
-    (power_left : bench.left ≡ Some after_power) (picked : bench.picked ≡ options.image ∷ before) (cells : HoldsCells zero.view basis.names home) (power_is : after_power ≡ powered options.image home)
+    (power_left : left_last bench ≡ Some after_power) (picked : bench.picked ≡ options.image ∷ before) (cells : HoldsCells zero.view basis.names home) (power_is : after_power ≡ powered options.image home)
     (many : ℕ) (many_so : length after_power.parts ≡ many) (others : List NamedStore) (others_so : without_stores basis.names after_power.stores ≡ others)
     (left : LeavesWholeWrites zero.view basis.files basis.names (row_words after_power.parts) (files_of (stores_named basis.names after_power.stores))) where
   abbrev begun : List TracedCall
@@ -139,7 +139,7 @@ module _ (basis : Basis) (trace : Traced) (mount : MountState) (pass zero : Pass
     (over : HasClosedOver basis trace mount pass zero part_values store_values parts held faults placed tail)
     (options : RunOptions) (lent armed : BenchState) (core : HasRunInCore mount.board.opened mount.fds trace.tokens trace.calls options.batch zero.view lent armed (Err TurnsUsed))
     (cached : HasCache options.cache mount) (failed : Type 0) (saw : SawStop zero.view → failed) (stand_so : ReadableStandsForRecovered) (bench : BenchState) (text : List ℕ) (home power : Holding) (recovered_so : HasRecovered power bench.told text)
-    (power_left : bench.left ≡ Some power) (picked : bench.picked ≡ options.image ∷ lent.picked) (cells : HoldsCells zero.view basis.names home) (power_is : power ≡ powered options.image home)
+    (power_left : left_last bench ≡ Some power) (picked : bench.picked ≡ options.image ∷ lent.picked) (cells : HoldsCells zero.view basis.names home) (power_is : power ≡ powered options.image home)
     (many : ℕ) (many_so : length power.parts ≡ many) (others : List NamedStore) (others_so : without_stores basis.names power.stores ≡ others)
     (arms : bench.arms ≡ armed.arms) (armed_so : bench.armed ≡ armed.armed)
     (left : LeavesWholeWrites zero.view basis.files basis.names (row_words power.parts) (files_of (stores_named basis.names power.stores))) where

@@ -23,7 +23,7 @@ use Rattle.nv_pmem.specs.declared.picker.Pick.{Pick}
 use Rattle.nv_store.specs.Steps as stores
 use Rattle.nv_open.proofs.Homes.{all_behind, own_stores}
 use Rattle.nv_store.specs.Store.{IsQuietStore, Store}
-use Rattle.nv_bench.specs.Benches.{BenchState, armed_with, told_back, with_faults}
+use Rattle.nv_bench.specs.Benches.{BenchState, armed_with, told_back, with_faults, left_last}
 use Rattle.nv_bench.specs.Holding.{Holding, IsQuietHolding, NamedStore, named_stores}
 use Rattle.nv_bench.specs.Laws.{AreWholeStores, PowerLeavesAnImage}
 use Rattle.nv_bench.specs.Powered.{powered, powered_parts}
@@ -225,7 +225,7 @@ module _ (basis : Basis) (trace : Traced) (mount : MountState) (pass zero : Pass
       states are (over.closed.crash basis.files basis.names log_opens files_open region_opens) image is) bytes images
 
   -- what a recovery makes of it
-  abbrev pub lost_power : ReadableStandsForRecovered → (pick : Pick) (before : List Pick) (bench : BenchState) (power : Holding) (next : ℕ) → bench.left ≡ Some power → bench.picked ≡ pick ∷ before
+  abbrev pub lost_power : ReadableStandsForRecovered → (pick : Pick) (before : List Pick) (bench : BenchState) (power : Holding) (next : ℕ) → left_last bench ≡ Some power → bench.picked ≡ pick ∷ before
       → (many : ℕ) → length power.parts ≡ many → (others : List NamedStore) → without_stores basis.names power.stores ≡ others
       → LeavesWholeWrites zero.view basis.files basis.names (row_words power.parts) (files_of (stores_named basis.names power.stores)) → next ≡ next_in power.parts basis.files
       → RestsWith (version_in (head_image power.parts)) (header_of (head_image power.parts)).page (header_of (head_image power.parts)).entries (header_names power.parts) next (files_named power.parts (header_names power.parts) power.stores)
@@ -346,7 +346,7 @@ module _ (basis : Basis) (trace : Traced) (mount : MountState) (pass zero : Pass
     -- ---- the report
 
     module _ (faithful_so : RunsAreFaithful) (numbered_so : RunsAreNumbered) (stand_so : ReadableStandsForRecovered) (failed : Type 0) (saw : SawStop zero.view → failed) (allowed : AreFileNames mount_layout basis.names)
-        (bench : BenchState) (text : List ℕ) (after_power : Holding) (shows_so : ShowsRecovered after_power sorted [] bench.told text) (power_left : bench.left ≡ Some after_power) (before : List Pick)
+        (bench : BenchState) (text : List ℕ) (after_power : Holding) (shows_so : ShowsRecovered after_power sorted [] bench.told text) (power_left : left_last bench ≡ Some after_power) (before : List Pick)
         (picked : bench.picked ≡ plan.image ∷ before) (many : ℕ) (many_so : length after_power.parts ≡ many) (others : List NamedStore) (others_so : without_stores basis.names after_power.stores ≡ others)
         (left : LeavesWholeWrites zero.view basis.files basis.names (row_words after_power.parts) (files_of (stores_named basis.names after_power.stores)))
         (whole_so : OpenCallsAreKeptWhole) (home : Holding) (cells : HoldsCells zero.view basis.names home) (power_is : after_power ≡ powered plan.image home) where

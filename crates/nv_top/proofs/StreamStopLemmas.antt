@@ -15,7 +15,7 @@ use Rattle.nv_pmem.specs.declared.picker.Pick.{Pick}
 use Rattle.nv_store.specs.Steps as stores
 use Rattle.nv_store.specs.Store.{Store}
 use Rattle.nv_store.proofs.RowReads.{length_now}
-use Rattle.nv_bench.specs.Benches.{BenchState, armed_with, powered_off, taken_back, told_back}
+use Rattle.nv_bench.specs.Benches.{BenchState, armed_with, powered_off, taken_back, told_back, left_last}
 use Rattle.nv_bench.specs.Holding.{Holding, IsQuietHolding, named_stores}
 use Rattle.nv_bench.specs.Laws.{AreWholeStores, PowerLeavesAnImage}
 use Rattle.nv_bench.specs.Powered.{powered}
@@ -262,7 +262,7 @@ module _ {L B : Type 0} (device : L → ℕ) (history : L → lines.PartHistory)
       (has_stopped basis all mount pass zero plan sorted part_values store_values (map history parts) (map held backing) sums placed tail run told_so threads_so files_so kept_so faithful_so numbered_so stand_so failed saw allowed last
       (history_lines 0 (map placed_call sorted.placed.items) ++ text) behind.after
       (at_some off.told (λ holding. (sorted : SortedCalls) → AreKeptOf kept sorted → ShowsRecovered holding sorted [] last.told (history_lines 0 (map placed_call sorted.placed.items) ++ text)) behind.after behind.off_is shows sorted of)
-      (ap (λ (s : BenchState). s.left) back ∙ ap (λ (s : BenchState). s.left) off_is ∙ ap (option_map (powered plan.image)) behind.given_is ∙ ap Some (sym behind.after_is))
+      (ap left_last back ∙ ap left_last off_is ∙ ap (option_map (powered plan.image)) behind.given_is ∙ ap Some (sym behind.after_is))
       start.picked
       (ap (λ (s : BenchState). s.picked) back ∙ ap (λ (s : BenchState). s.picked) off_is ∙ ap (λ (s : BenchState). plan.image ∷ s.picked) taken ∙ ap (λ (s : BenchState). plan.image ∷ s.picked) armed_is)
       count

@@ -13,7 +13,7 @@ use Rattle.nv_header.specs.Needs.{HasLines}
 use Rattle.nv_open.specs.Lending.{stores_named, without_stores}
 use Rattle.nv_open.specs.Unopened.{IsAtRestWith}
 use Rattle.nv_recover.specs.Standing.{files_of}
-use Rattle.nv_bench.specs.Benches.{BenchState}
+use Rattle.nv_bench.specs.Benches.{BenchState, left_last}
 use Rattle.nv_bench.specs.Holding.{Holding, NamedStore, is_named}
 use Rattle.nv_open.specs.Held.{files_named, header_names}
 use Rattle.nv_open.specs.Refusals.{head_image, rooms_of}
@@ -103,6 +103,6 @@ next_in parts files = (recovered (row_words parts) files).next
 pub record HasLostPower (pick : Pick) (before : List Pick) (basis : Basis) (many : ℕ) (others : List NamedStore) (bench : BenchState) : Type 0 where
   pub picked : bench.picked ≡ pick ∷ before
   pub power : Holding
-  pub power_left : bench.left ≡ Some power
+  pub power_left : left_last bench ≡ Some power
   pub stands : files_named power.parts basis.names power.stores ≡ (recovered (row_words power.parts) (files_of (stores_named basis.names power.stores))).files
   pub rests : RestsWith mount_version basis.sizes.page basis.sizes.entries basis.names (next_in power.parts basis.files) (files_named power.parts basis.names power.stores) many others bench.told

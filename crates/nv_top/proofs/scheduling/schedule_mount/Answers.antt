@@ -3,7 +3,7 @@ use Rattle.std.proofs.lemmas.List.{length-map}
 use Rattle.std.proofs.lemmas.Result.{IfOk-weaker, on_ok_weaker}
 use Rattle.nv_plain.specs.Faults.{Rose, saturated}
 use Rattle.nv_plain.specs.Layouts.{mount_layout}
-use Rattle.nv_bench.specs.Benches.{BenchState, told_back}
+use Rattle.nv_bench.specs.Benches.{BenchState, told_back, left_last}
 use Rattle.nv_bench.specs.Holding.{Holding, IsQuietHolding}
 use Rattle.nv_bench.specs.Powered.{powered}
 use Rattle.nv_header.specs.FileNames.{AreFileNames}
@@ -99,7 +99,7 @@ returns-clause-scheduled g c =
     c.schedules_begin_in_order.ensures c.schedules_are_told.ensures.told c.schedules_are_told.ensures.legal c.schedules_are_faithful.ensures c.history_of_threads_is_legal.ensures.files c.open_calls_are_the_faults.ensures.kept
     c.images_stand_for_files.ensures.files start.picked last text.items behind.before behind.after
     (at_some off.told (λ holding. ShowsOutcome holding outcome last.told text.items) behind.after behind.off_is shown)
-    (ap (λ (s : BenchState). s.left) c.show_outcome.ensures.back ∙ ap (λ (s : BenchState). s.left) c.in_ok-power.ensures.off
+    (ap left_last c.show_outcome.ensures.back ∙ ap left_last c.in_ok-power.ensures.off
     ∙ ap (option_map (powered options.image)) behind.given_is ∙ ap Some (sym behind.after_is))
     (ap (λ (s : BenchState). s.picked) c.show_outcome.ensures.back ∙ ap (λ (s : BenchState). s.picked) c.in_ok-power.ensures.off
     ∙ ap (λ (s : BenchState). options.image ∷ s.picked) c.give_back.ensures.taken ∙ ap (λ (s : BenchState). options.image ∷ s.picked) c.run_schedule-closed.ensures.armed)
@@ -373,7 +373,7 @@ returns-clause-used g c is basis begins named =
     (c.schedules_run_in_the_core.ensures mount trace.tokens trace.calls options.batch pass zero start armed c.run_schedule-closed.result.outcome
     (of_trace mount trace options.batch pass zero start armed c.run_schedule-closed.result.outcome c.tokens.result.now c.calls.result.now c.tokens.ensures.tokens c.calls.ensures.calls ran.1)))
     c.requires.cache failed saw c.images_stand_for_files.ensures.files last recovered.0 behind.before behind.after recovered.1
-    (ap (λ (s : BenchState). s.left) c.show_outcome.ensures.back ∙ ap (λ (s : BenchState). s.left) c.in_ok-power.ensures.off
+    (ap left_last c.show_outcome.ensures.back ∙ ap left_last c.in_ok-power.ensures.off
     ∙ ap (option_map (powered options.image)) behind.given_is ∙ ap Some (sym behind.after_is))
     (ap (λ (s : BenchState). s.picked) c.show_outcome.ensures.back ∙ ap (λ (s : BenchState). s.picked) c.in_ok-power.ensures.off
     ∙ ap (λ (s : BenchState). options.image ∷ s.picked) c.give_back.ensures.taken ∙ ap (λ (s : BenchState). options.image ∷ s.picked) c.run_schedule-closed.ensures.armed)

@@ -6,7 +6,7 @@ use Rattle.nv_pmem.specs.MemPart.{part_now, part_faults}
 use Rattle.nv_pmem.specs.declared.mem_part.MemPart.{MemPart}
 use Rattle.nv_bench.specs.Holding.{Holding}
 use Rattle.nv_bench.specs.Powered.{powered, powered_parts}
-use Rattle.nv_bench.specs.MemBench.{held_by, faults_by, latest_of}
+use Rattle.nv_bench.specs.MemBench.{held_by, faults_by, noted_of}
 use Rattle.nv_bench.specs.BenchStores.{held_stores, bench_store_faults}
 use Rattle.nv_plain.specs.Faults.{saturated}
 use Rattle.nv_bench.specs.declared.bench_stores.BenchStores.{BenchStores}
@@ -18,10 +18,10 @@ use Rattle.nv_bench.proofs.mem_bench.MemBenchBench.power.Goals as goal
 abbrev held_with : List MemPart → BenchStores → Holding
 held_with parts bench_stores = record { parts = map part_now parts; stores = held_stores bench_stores }
 
--- what was noted last
+-- what was noted last, before all that was noted earlier
 noted_first : {A : Type 0} {rows past : List (Vec MemPart A)} {sets earlier : List BenchStores} {parts : Vec MemPart A} {bench_stores : BenchStores} → rows ≡ parts ∷ past → sets ≡ bench_stores ∷ earlier
-    → latest_of rows sets ≡ Some (held_with parts.items bench_stores)
-noted_first {A} {rows} {past} {sets} {earlier} {parts} {bench_stores} one other = ap (λ these. latest_of these sets) one ∙ ap (latest_of (parts ∷ past)) other
+    → noted_of rows sets ≡ Some (held_with parts.items bench_stores) ∷ noted_of past earlier
+noted_first {A} {rows} {past} {sets} {earlier} {parts} {bench_stores} one other = ap (λ these. noted_of these sets) one ∙ ap (noted_of (parts ∷ past)) other
 
 pub returns-clause-off : goal.returns-clause-off
 returns-clause-off c =
@@ -41,7 +41,9 @@ returns-clause-off c =
     let count : saturated (old.gone + sum_by part_faults (with_items old.parts c.power_parts.new.parts).items + bench_store_faults c.lose_power.new.self) ≡ faults_by old =
     ap (λ (these : List MemPart). saturated (old.gone + sum_by part_faults these + bench_store_faults c.lose_power.new.self)) back ∙ faults in
     let settled : c.faults-self.result ≡ faults_by old = c.faults-self.ensures ∙ count in
-    let noted : latest_of c.note.new.self.states c.note-2.new.self.states ≡ Some (powered c.args.pick (held_by old)) = noted_first c.note.ensures c.note-2.ensures ∙ ap Some items in
+    let before = noted_of old.left_parts.states old.left_stores.states in
+    let noted : noted_of c.note.new.self.states c.note-2.new.self.states ≡ Some (powered c.args.pick (held_by old)) ∷ before =
+    noted_first c.note.ensures c.note-2.ensures ∙ ap (λ (held : Holding). Some held ∷ before) items in
     λ i. record {
       told = Some (items i);
       is_open = old.is_open;
@@ -50,8 +52,8 @@ returns-clause-off c =
       arms = old.arms;
       armed = old.armed;
       settled = settled i;
-      left = noted i;
       picked = c.note-3.ensures i;
+      lefts = noted i;
     }
 
 pub invariant_of-self-clause-named : goal.invariant_of-self-clause-named
