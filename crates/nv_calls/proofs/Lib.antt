@@ -1,3 +1,4 @@
+pub mod FilledLemmas
 pub mod calls
 pub mod histories
 pub mod fsync

@@ -2,3 +2,4 @@
 pub mod AloneLaws
 pub mod MachineLaws
 pub mod OverLaws
+pub mod PartLaws

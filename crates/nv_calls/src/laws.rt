@@ -1,17 +1,18 @@
 //! Laws of calls that are over.
-ghost use Rattle.nv_calls.specs.histories.Complete.{ReadsAreComplete, SyncsAreComplete};
-ghost use Rattle.nv_calls.specs.histories.Faults.{ReadsOpenNothing, SyncsOpenNothing, WritesOpen};
-ghost use Rattle.nv_calls.specs.histories.GoingOn.{ReadsGoOn, SyncsGoOn, WritesGoOn};
-ghost use Rattle.nv_calls.specs.histories.Heeds.{ReadsHeedStop, SyncsHeedStop};
+ghost use Rattle.nv_calls.specs.histories.Complete.{CallsAreComplete, ReadsAreComplete, SyncsAreComplete};
+ghost use Rattle.nv_calls.specs.histories.Faults.{ReadsOpenNothing, ReadsOpenNothingAs, SyncsOpenNothing, WritesOpen, WritesOpenAs};
+ghost use Rattle.nv_calls.specs.histories.GoingOn.{CallsGoOn, ReadsGoOn, SyncsGoOn, WritesGoOn};
+ghost use Rattle.nv_calls.specs.histories.Heeds.{CallsHeedStop, ReadsHeedStop, SyncsHeedStop};
 ghost use Rattle.nv_calls.specs.histories.LeftWords.{LockingStepsLeaveTheRest, PassingStepsLeaveWhatStays};
-ghost use Rattle.nv_calls.specs.writes.Refusals.{WritesTellWhatIsKnown};
-ghost use Rattle.nv_calls.specs.writes.WriteLaws.{RefusedWritesLeaveWords, WritesAreComplete, WritesHeedStop};
+ghost use Rattle.nv_calls.specs.writes.Refusals.{WritesTellWhatIsKnown, WritesTellWhatIsKnownAs};
+ghost use Rattle.nv_calls.specs.writes.WriteLaws.{RefusedWritesLeaveWords, RefusedWritesLeaveWordsAs, WritesAreComplete, WritesHeedStop};
 
 use nv_core::{passes_are_left_alone, runs_are_sound};
 
 /// What the last advance of a call tells says too that the call heeds STOP: a pass that has seen it as set, or was answered that it is, or with a
 /// device fault, is answered that the mount is stopped by each later call that comes to its load of STOP.
 pub fn ended_calls_heed_stop()
+    ensures calls { CallsHeedStop }
     ensures reads { ReadsHeedStop }
     ensures writes { WritesHeedStop }
     ensures syncs { SyncsHeedStop }
@@ -23,6 +24,8 @@ pub fn ended_calls_heed_stop()
 /// A write that a device fault ended is kept by its pass, as its last open one: nothing that it asked for bars it, and it has drawn numbers. No other call adds any, nor one that is to be made
 /// again.
 pub fn faults_open_writes()
+    ensures made_writes { WritesOpenAs }
+    ensures made_reads { ReadsOpenNothingAs }
     ensures writes { WritesOpen }
     ensures reads { ReadsOpenNothing }
     ensures syncs { SyncsOpenNothing }
@@ -33,7 +36,8 @@ pub fn faults_open_writes()
 
 /// A write that is refused, and for no device fault, has changed no word of the mount but locks, and gave back each lock that it took.
 pub fn refused_writes_leave_words()
-    ensures { RefusedWritesLeaveWords }
+    ensures made { RefusedWritesLeaveWordsAs }
+    ensures writes { RefusedWritesLeaveWords }
 {
     runs_are_sound();
     passes_are_left_alone();
@@ -42,6 +46,7 @@ pub fn refused_writes_leave_words()
 /// A call that isn't refused by what it asks for is done, where each lock that it takes is free, STOP is 0, no number is used up, the log has room for a write's
 /// entries, no other write draws between, and no device fails; and one that is done has found all that, where no device has failed.
 pub fn calls_are_complete()
+    ensures calls { CallsAreComplete }
     ensures reads { ReadsAreComplete }
     ensures writes { WritesAreComplete }
     ensures syncs { SyncsAreComplete }
@@ -51,10 +56,12 @@ pub fn calls_are_complete()
 /// fault, and its call takes its place behind all calls that another had seen. Where a write is refused by HEAD or TAIL these were no lower than is known; where
 /// another one drew its numbers HEAD has risen; and it is never answered that a store has failed.
 pub fn calls_go_on_from_what_is_known()
+    ensures calls { CallsGoOn }
     ensures reads { ReadsGoOn }
     ensures writes { WritesGoOn }
     ensures syncs { SyncsGoOn }
     ensures refusals { WritesTellWhatIsKnown }
+    ensures made_refusals { WritesTellWhatIsKnownAs }
 {
     runs_are_sound();
     passes_are_left_alone();

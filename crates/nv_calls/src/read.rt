@@ -1,14 +1,17 @@
 //! Reads of files.
-ghost use Rattle.std.specs.Prelude.{◌≡◌, ◌≢◌, ℕ, IfOk, OnErr};
+ghost use Rattle.std.specs.Prelude.{◌≡◌, ◌≢◌, ◌≤◌, ℕ, length, IfOk, OnErr};
+ghost use Rattle.nv_plain.specs.declared.call.FileCall.TheVariants.{Read};
+ghost use Rattle.nv_core.specs.state.Passes.{plain_call};
 ghost use Rattle.nv_table.specs.invariant.Idle.{IsIdle, IsLater};
 ghost use Rattle.nv_table.specs.passes.Alone.{IsAlone};
 ghost use Rattle.nv_table.specs.state.States.{IsOf, PassState};
 ghost use Rattle.nv_mirror.specs.Answers.{IsReadPlaced, IsUnplaced};
+ghost use Rattle.nv_calls.specs.calls.EarlyRefusals.{IsInFile};
 ghost use Rattle.nv_calls.specs.fsync.SyncRuns.{file_of_fd};
 ghost use Rattle.nv_calls.specs.histories.Complete.{IsCompleteRead};
 ghost use Rattle.nv_calls.specs.histories.GoingOn.{GoesOn, GoesOnAtLast};
 ghost use Rattle.nv_calls.specs.histories.Heeds.{HeedsStop};
-ghost use Rattle.nv_calls.specs.reads.Reads.{IsReadOver};
+ghost use Rattle.nv_calls.specs.reads.Reads.{IsReadDoneAs, IsReadOver, got_by};
 ghost use Rattle.nv_calls.specs.histories.Tries.{IsTried};
 ghost use Rattle.nv_mirror.specs.declared.answers.Refusal.TheVariants.{Busy};
 
@@ -21,12 +24,37 @@ use nv_cache::RunningRead;
 use nv_core::{passes_are_left_alone, runs_are_sound};
 use nv_mirror::{Done, Refusal};
 use nv_mount::Mount;
+use nv_op::Asks;
 use nv_pmem::Lines;
 use nv_store::Backing;
-use nv_table::Pass;
+use nv_table::{Board, Pass};
 use std::marker::Brand;
 use std::sync::Wait;
 use std::thread::yield_now;
+
+// Reads a file whose call is asked as `A` says, and made as that read.
+pub(crate) fn read_as<A: Asks, L: Lines + Drop, B: Backing + Drop>(
+    board: &Board<L, B>,
+    pass: &mut Pass<L, B>,
+    file: u64,
+    at: u64,
+    list: &mut [u8],
+) -> Result<Done, Refusal>
+    requires board { IsOf board.now pass.old }
+    requires idle { IsIdle pass.old }
+    requires made { plain_call A.call ≡ Read file at (length list.old) }
+    requires here { IsInFile board.now.opened.sizes file at (length list.old) }
+    ensures board { IsOf board.now pass.new }
+    ensures size { length list.new ≡ length list.old }
+    ensures got { got_by result ≤ length list.new }
+    ensures done { IsReadDoneAs A.call list.new pass.old pass.new result }
+{
+    runs_are_sound();
+    passes_are_left_alone();
+    pass.sees_a_run();
+    let len = list.len() as u64;
+    RunningRead::new(board.layout(), file, at, len).run::<A, L, B>(board, pass, list)
+}
 
 /// Reads from the file of a descriptor (POSIX.1-2017, pread): the bytes from the offset `at` on, as many as `buf` has, or fewer where the file ends
 /// before, come to the front of `buf`, and the answer tells how many they are, and the call's place in the history, which is how many calls stand
@@ -55,8 +83,6 @@ pub fn try_pread<L: Lines + Drop, B: Backing + Drop>(
     ensures complete { IsCompleteRead mount.now.fds fd at buf.new pass.old pass.new result }
     ensures alone { IsAlone pass.old.view → (cell : ℕ) → result ≢ Err (Busy cell) }
 {
-    runs_are_sound();
-    passes_are_left_alone();
     ended_calls_heed_stop();
     calls_go_on_from_what_is_known();
     calls_are_complete();
@@ -65,8 +91,7 @@ pub fn try_pread<L: Lines + Drop, B: Backing + Drop>(
     pass.has_taken_in();
     let len = buf.len() as u64;
     let file = admit(mount, Access::Reads, fd, at, len)?;
-    let board = mount.board();
-    RunningRead::new(board.layout(), file, at, len).run::<Brand, L, B>(board, pass, buf)
+    read_as::<Brand, L, B>(mount.board(), pass, file, at, buf)
 }
 
 /// The same, made again as long as a lock is found held. It may wait for ever, so it returns only where the others give their locks back; then it is

@@ -1,5 +1,5 @@
 //! A read that is made one step at a time.
-ghost use Rattle.std.specs.Prelude.{◌≡◌, ◌<◌, is_some, length};
+ghost use Rattle.std.specs.Prelude.{◌≡◌, ◌<◌, ℕ, List, is_some, length};
 ghost use Rattle.nv_plain.specs.declared.call.FileCall.{FileCall};
 ghost use Rattle.nv_core.specs.state.Passes.{plain_call};
 ghost use Rattle.nv_core.specs.state.Words.{Sizes};
@@ -8,10 +8,11 @@ ghost use Rattle.nv_cache.specs.RunningReads.{IsOpen, IsSettled, IsUnderWay, ask
 ghost use Rattle.nv_table.specs.state.States.{IsOf, PassState};
 ghost use Rattle.nv_calls.specs.calls.Advances.{IsFewer, IsOneOrNone};
 ghost use Rattle.nv_calls.specs.declared.reading.ReadControl.TheVariants as reads;
-ghost use Rattle.nv_calls.specs.reads.ReadMachines.{IsBegun, IsReadUnderWay, IsSameRead, ReadGoes, early_of, fault_so_far, measure, next_kind_of, placed_by, progress_of, standing};
+ghost use Rattle.nv_calls.specs.reads.Reads.{HaveGot};
+ghost use Rattle.nv_calls.specs.reads.ReadMachines.{IsBegun, IsReadUnderWay, IsReadUnderWayAs, IsReadvUnderWay, IsSameRead, ReadGoes, ReadvGoes, early_of, fault_so_far, got_now, got_so_far, measure, next_kind_of, placed_by, progress_of, standing};
 
-use crate::Progress;
 use crate::admit::{Access, admit};
+use crate::{Progress, Scatter};
 use nv_cache::{MOST_PAGE, RunningRead};
 use nv_core::{passes_are_left_alone, runs_are_sound};
 use nv_mirror::{Done, Refusal};
@@ -78,7 +79,7 @@ fn advance_with_piece<A: Asks, L: Lines, B: Backing>(
 }
 
 // Makes the next step of a read, in this room for a page.
-fn advance_in<A: Asks, L: Lines, B: Backing>(
+pub(crate) fn advance_in<A: Asks, L: Lines, B: Backing>(
     board: &Board<L, B>,
     pass: &mut Pass<L, B>,
     read: &mut RunningRead,
@@ -100,6 +101,32 @@ fn advance_in<A: Asks, L: Lines, B: Backing>(
         advance_with_piece::<A, L, B>(board, pass, read, room, list);
     } else {
         read.advance::<A, L, B>(board, pass, room, &mut [], list);
+    }
+}
+
+// So of a vectored read, whose parts the marker's call names.
+fn advance_in_parts<A: Asks, L: Lines, B: Backing>(
+    board: &Board<L, B>,
+    pass: &mut Pass<L, B>,
+    read: &mut RunningRead,
+    room: &mut [u8],
+    parts: &mut Scatter,
+)
+    requires board { IsOf board.now pass.old }
+    requires open { IsOpen read.old }
+    requires room { length room.old ≡ pass.old.view.opened.sizes.page }
+    requires way { (start : PassState) × IsUnderWay (plain_call A.call) read.old parts.old.list room.old start pass.old }
+    ensures board { IsOf board.now pass.new }
+    ensures settled { IsSettled read.new }
+    ensures one { HasMadeOne read.old read.new pass.old pass.new }
+    ensures falls { read_measure pass.old.view.opened.sizes read.new < read_measure pass.old.view.opened.sizes read.old }
+    ensures asks { asked_in A.call read.new pass.new ≡ asked_in A.call read.old pass.old }
+    ensures way { (call : FileCall) (start : PassState) → IsUnderWay call read.old parts.old.list room.old start pass.old → IsUnderWay call read.new parts.new.list room.new start pass.new }
+    ensures got { HaveGot (got_now read.new) parts.old parts.new }
+{
+    parts.advance_as::<A, L, B>(board, pass, read, room);
+    if let RunningRead::Over(Ok(done)) = *read {
+        parts.fill(done.len);
     }
 }
 
@@ -149,14 +176,13 @@ impl ReadMachine {
         }
     }
 
-    // The read of its descriptor's file, unless it is refused before its first step. Only contracts speak of the list.
+    // The read of its descriptor's file, unless it is refused before its first step.
     fn begun<L: Lines + Drop, B: Backing + Drop>(
         &self,
         mount: &Mount<L, B>,
-        _list: &[u8],
     ) -> Result<RunningRead, Refusal>
-        requires under_way { (start : PassState) × (now : PassState) × (now.view.opened ≡ mount.now.board.opened) × IsReadUnderWay mount.now.fds self.now _list.now start now }
-        ensures { IsBegun mount.now.board.opened.sizes mount.now.fds self.now _list.now result }
+        requires under_way { (asked : ℕ → ℕ → FileCall) × (list : List ℕ) × (start : PassState) × (now : PassState) × (now.view.opened ≡ mount.now.board.opened) × IsReadUnderWayAs asked mount.now.fds self.now list start now }
+        ensures { IsBegun mount.now.board.opened.sizes mount.now.fds self.now result }
     {
         match self.control {
             ReadControl::Begin => {
@@ -188,13 +214,44 @@ impl ReadMachine {
         runs_are_sound();
         passes_are_left_alone();
         pass.sees_a_run();
-        let mut read = match self.begun(mount, list) {
+        let mut read = match self.begun(mount) {
             Ok(read) => read,
             Err(refusal) => return Progress::Ended(Err(refusal)),
         };
         let board = mount.board();
         let page = board.layout().page as usize;
         advance_in::<Brand, L, B>(board, pass, &mut read, &mut self.room[..page], list);
+        self.control = ReadControl::Running(read);
+        progress(read)
+    }
+    /// So an advance of a vectored read: it asks for as many bytes as the parts do together, and these have got none until it is over; then they have
+    /// got its reply, each filled to its end before the next.
+    pub fn advance_parts<L: Lines + Drop, B: Backing + Drop>(
+        &mut self,
+        mount: &Mount<L, B>,
+        pass: &mut Pass<L, B>,
+        parts: &mut Scatter,
+    ) -> Progress
+        requires board { IsOf mount.now.board pass.old }
+        requires under_way { (start : PassState) × IsReadvUnderWay mount.now.fds self.old parts.old start pass.old }
+        ensures board { IsOf mount.now.board pass.new }
+        ensures same { IsSameRead self.old self.new }
+        ensures one { IsOneOrNone (standing pass.old.view.opened.sizes) (early_of pass.old.view.opened.sizes mount.now.fds self.old) self.old self.new pass.old pass.new result }
+        ensures less { IsFewer (measure pass.old.view.opened.sizes) self.old self.new result }
+        ensures got { HaveGot (got_so_far result) parts.old parts.new }
+        ensures goes { (start : PassState) → IsReadvUnderWay mount.now.fds self.old parts.old start pass.old → ReadvGoes mount.now.fds start self.new parts.new pass.new result }
+    {
+        runs_are_sound();
+        passes_are_left_alone();
+        pass.sees_a_run();
+        parts.empty();
+        let mut read = match self.begun(mount) {
+            Ok(read) => read,
+            Err(refusal) => return Progress::Ended(Err(refusal)),
+        };
+        let board = mount.board();
+        let page = board.layout().page as usize;
+        advance_in_parts::<Brand, L, B>(board, pass, &mut read, &mut self.room[..page], parts);
         self.control = ReadControl::Running(read);
         progress(read)
     }

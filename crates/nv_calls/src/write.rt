@@ -1,12 +1,16 @@
 //! Writes of files.
-ghost use Rattle.std.specs.Prelude.{◌≡◌, ◌≢◌, ℕ, false, [], Some, IfOk, OnErr};
+ghost use Rattle.std.specs.Prelude.{◌≡◌, ◌≢◌, ℕ, false, [], length, Some, IfOk, OnErr};
+ghost use Rattle.nv_plain.specs.declared.call.FileCall.TheVariants.{Write};
+ghost use Rattle.nv_core.specs.state.Passes.{plain_call};
 ghost use Rattle.nv_table.specs.invariant.Idle.{IsIdle, IsLater};
 ghost use Rattle.nv_table.specs.passes.Alone.{IsAlone};
 ghost use Rattle.nv_table.specs.passes.Known.{known_by};
 ghost use Rattle.nv_table.specs.state.States.{IsOf};
 ghost use Rattle.nv_table.specs.state.Workspaces.{IsWorkspace};
-ghost use Rattle.nv_mirror.specs.Answers.{IsUnplaced};
+ghost use Rattle.nv_mirror.specs.Answers.{IsUnplaced, place_in_answer, refusal_in_answer};
+ghost use Rattle.nv_mirror.specs.Controls.{IsOver};
 ghost use Rattle.nv_mirror.specs.declared.answers.Refusal.TheVariants.{StoreFault};
+ghost use Rattle.nv_calls.specs.calls.EarlyRefusals.{IsInFile};
 ghost use Rattle.nv_calls.specs.fsync.SyncRuns.{file_of_fd};
 ghost use Rattle.nv_calls.specs.histories.GoingOn.{GoesOn, GoesOnAtLast};
 ghost use Rattle.nv_calls.specs.histories.Heeds.{HeedsStop};
@@ -22,14 +26,48 @@ use crate::{
 };
 use nv_mirror::{Done, Refusal};
 use nv_mount::Mount;
-use nv_op::Asked;
+use nv_op::{Asked, Asks};
 use nv_pmem::Lines;
 use nv_ring::RunningWrite;
 use nv_store::Backing;
-use nv_table::{Pass, Workspace};
+use nv_table::{Board, Pass, Workspace};
 use std::marker::Brand;
 use std::sync::Wait;
 use std::thread::yield_now;
+
+// Writes a file whose call is asked as `A` says, and made as that write.
+pub(crate) fn write_as<A: Asks, L: Lines + Drop, B: Backing + Drop>(
+    board: &Board<L, B>,
+    pass: &mut Pass<L, B>,
+    workspace: &mut Workspace<L, B>,
+    file: u64,
+    at: u64,
+    bytes: &[u8],
+) -> Result<Done, Refusal>
+    requires board { IsOf board.now pass.old }
+    requires idle { IsIdle pass.old }
+    requires workspace { IsWorkspace board.now.opened.sizes workspace.old }
+    requires bare { workspace.old.parts.items ≡ [] }
+    requires made { plain_call A.call ≡ Write file at bytes.now }
+    requires here { IsInFile board.now.opened.sizes file at (length bytes.now) }
+    ensures board { IsOf board.now pass.new }
+    ensures over { IsOver A.call (refusal_in_answer result) (place_in_answer result) pass.old pass.new }
+    ensures count { IfOk result (λ done. done.len ≡ length bytes.now) }
+    ensures workspace { IsWorkspace board.now.opened.sizes workspace.new }
+    ensures bare { workspace.new.parts.items ≡ [] }
+{
+    let mut write = RunningWrite::new(board.layout(), Asked::Write { file, at, bytes });
+    loop {
+        match write {
+            RunningWrite::Over(Ok(place)) => {
+                let len = bytes.len() as u64;
+                return Ok(Done { place, len });
+            }
+            RunningWrite::Over(Err(refusal)) => return Err(refusal),
+            _ => write.advance::<A, L, B>(board, pass, workspace.parts()),
+        }
+    }
+}
 
 /// Writes to the file of a descriptor (POSIX.1-2017, pwrite): all of `bytes` stand in the file from the offset `at` on, and the file ends at their end
 /// where it ended before. The answer tells how many they are, and the call's place in the history, which is how many calls stand before it. Refused by
@@ -75,24 +113,12 @@ pub fn try_pwrite<L: Lines + Drop, B: Backing + Drop>(
     a_write_alone_meets_nobody();
     pass.sees_a_run();
     pass.has_taken_in();
-    let board = mount.board();
-    let layout = board.layout();
     let file = admit(mount, Access::Writes, fd, at, bytes.len() as u64)?;
-    let mut write = RunningWrite::new(layout, Asked::Write { file, at, bytes });
-    loop {
-        match write {
-            RunningWrite::Over(Ok(place)) => {
-                let len = bytes.len() as u64;
-                return Ok(Done { place, len });
-            }
-            RunningWrite::Over(Err(refusal)) => return Err(refusal),
-            _ => write.advance::<Brand, L, B>(board, pass, workspace.parts()),
-        }
-    }
+    write_as::<Brand, L, B>(mount.board(), pass, workspace, file, at, bytes)
 }
 
 // Whether a write that was answered so is made again: a lock was held, or another write drew its numbers.
-fn is_made_again(answer: Result<Done, Refusal>) -> bool
+pub(crate) fn is_made_again(answer: Result<Done, Refusal>) -> bool
     ensures { result ≡ ends_to_be_made_again answer }
 {
     matches!(answer, Err(Refusal::Busy { .. } | Refusal::Raced { .. }))

@@ -1,20 +1,25 @@
 //! A write that is made one step at a time.
-ghost use Rattle.std.specs.Prelude.{◌≡◌, [], is_some};
+ghost use Rattle.std.specs.Prelude.{◌≡◌, ◌<◌, ℕ, [], is_some, min, vec_capacity};
+ghost use Rattle.nv_plain.specs.Layouts.{mount_layout};
+ghost use Rattle.nv_plain.specs.declared.call.FileCall.{FileCall};
+ghost use Rattle.nv_core.specs.state.Passes.{plain_call};
+ghost use Rattle.nv_ring.specs.RunningWrites.{IsOpen, IsSettled, IsUnderWay, asked_in, write_measure};
+ghost use Rattle.nv_ring.specs.WriteSteps.{HasMadeOne};
 ghost use Rattle.nv_table.specs.state.States.{IsOf, PassState};
 ghost use Rattle.nv_table.specs.state.Workspaces.{IsWorkspace};
 ghost use Rattle.nv_calls.specs.calls.Advances.{IsFewer, IsOneOrNone};
 ghost use Rattle.nv_calls.specs.declared.writing.WriteControl.TheVariants as writes;
-ghost use Rattle.nv_calls.specs.writes.WriteMachines.{IsPutIn, IsSameWrite, IsWriteUnderWay, WriteGoes, early_of, fault_so_far, measure, next_kind_of, placed_by, progress_of, standing};
+ghost use Rattle.nv_calls.specs.writes.WriteMachines.{IsPutIn, IsSameWrite, IsWriteUnderWay, IsWriteUnderWayAs, IsWritevUnderWay, WriteGoes, WritevGoes, early_of, fault_so_far, measure, next_kind_of, placed_by, progress_of, standing};
 
-use crate::Progress;
 use crate::admit::{Access, admit};
+use crate::{Gather, Progress};
 use nv_mirror::{Done, Refusal};
 use nv_mount::Mount;
-use nv_op::{Asked, Kind};
+use nv_op::{Asked, Asks, Kind};
 use nv_pmem::Lines;
 use nv_ring::RunningWrite;
 use nv_store::Backing;
-use nv_table::{Pass, Workspace};
+use nv_table::{Board, Pass, Workspace};
 use std::marker::Brand;
 
 /// Where it stands.
@@ -44,6 +49,31 @@ fn progress(write: RunningWrite<'_>, len: u64) -> Progress
         RunningWrite::Over(Err(refusal)) => Progress::Ended(Err(refusal)),
         _ => Progress::More,
     }
+}
+
+// Makes the next step of a vectored write, whose parts the marker's call names.
+fn advance_in_parts<A: Asks, L: Lines + Drop, B: Backing + Drop>(
+    board: &Board<L, B>,
+    pass: &mut Pass<L, B>,
+    workspace: &mut Workspace<L, B>,
+    write: &mut RunningWrite<'_>,
+    _parts: &Gather,
+)
+    requires board { IsOf board.now pass.old }
+    requires open { IsOpen write.old }
+    requires workspace { IsWorkspace board.now.opened.sizes workspace.old }
+    requires bare { workspace.old.parts.items ≡ [] }
+    requires way { (start : PassState) × IsUnderWay (plain_call A.call) write.old start pass.old }
+    ensures board { IsOf board.now pass.new }
+    ensures settled { IsSettled write.new }
+    ensures one { HasMadeOne write.old write.new pass.old pass.new }
+    ensures falls { write_measure write.new < write_measure write.old }
+    ensures asks { asked_in A.call write.new pass.new ≡ asked_in A.call write.old pass.old }
+    ensures way { (call : FileCall) (start : PassState) → IsUnderWay call write.old start pass.old → IsUnderWay call write.new start pass.new }
+    ensures workspace { IsWorkspace board.now.opened.sizes workspace.new }
+    ensures bare { workspace.new.parts.items ≡ [] }
+{
+    write.advance::<A, L, B>(board, pass, workspace.parts());
 }
 
 impl WriteMachine {
@@ -101,7 +131,7 @@ impl WriteMachine {
         mount: &Mount<L, B>,
         list: &'a [u8],
     ) -> Result<RunningWrite<'a>, Refusal>
-        requires under_way { (start : PassState) × (now : PassState) × (now.view.opened ≡ mount.now.board.opened) × IsWriteUnderWay mount.now.fds self.now list.now start now }
+        requires under_way { (asked : ℕ → FileCall) × (start : PassState) × (now : PassState) × (now.view.opened ≡ mount.now.board.opened) × IsWriteUnderWayAs asked mount.now.fds self.now list.now start now }
         ensures { IsPutIn mount.now.board.opened.sizes mount.now.fds self.now list.now result }
     {
         match self.control {
@@ -146,6 +176,34 @@ impl WriteMachine {
             Err(refusal) => return Progress::Ended(Err(refusal)),
         };
         write.advance::<Brand, L, B>(mount.board(), pass, workspace.parts());
+        self.control = WriteControl::Running(write.with_list(&[]));
+        progress(write, self.len)
+    }
+    /// So an advance of a vectored write of these parts, whose bytes, joined in order, are as many as it was made for.
+    pub fn advance_parts<L: Lines + Drop, B: Backing + Drop>(
+        &mut self,
+        mount: &Mount<L, B>,
+        pass: &mut Pass<L, B>,
+        workspace: &mut Workspace<L, B>,
+        parts: &Gather,
+    ) -> Progress
+        requires board { IsOf mount.now.board pass.old }
+        requires under_way { (start : PassState) × IsWritevUnderWay mount.now.fds self.old parts.now start pass.old }
+        requires workspace { IsWorkspace mount.now.board.opened.sizes workspace.old }
+        requires bare { workspace.old.parts.items ≡ [] }
+        ensures board { IsOf mount.now.board pass.new }
+        ensures same { IsSameWrite self.old self.new }
+        ensures one { IsOneOrNone standing (early_of pass.old.view.opened.sizes mount.now.fds self.old) self.old self.new pass.old pass.new result }
+        ensures fewer { IsFewer (measure pass.old.view.opened.sizes) self.old self.new result }
+        ensures goes { (start : PassState) → IsWritevUnderWay mount.now.fds self.old parts.now start pass.old → WritevGoes mount.now.fds start self.new parts.now pass.new result }
+        ensures workspace { IsWorkspace mount.now.board.opened.sizes workspace.new }
+        ensures bare { workspace.new.parts.items ≡ [] }
+    {
+        let mut write = match self.put_in(mount, parts.joined()) {
+            Ok(write) => write,
+            Err(refusal) => return Progress::Ended(Err(refusal)),
+        };
+        advance_in_parts::<Brand, L, B>(mount.board(), pass, workspace, &mut write, parts);
         self.control = WriteControl::Running(write.with_list(&[]));
         progress(write, self.len)
     }

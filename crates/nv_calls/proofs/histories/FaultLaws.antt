@@ -32,13 +32,14 @@ use Rattle.nv_mirror.specs.Answers.{refusal_in_answer}
 use Rattle.nv_mirror.specs.OwnSteps.{AreOwnAs, gives_back, is_own}
 use Rattle.nv_mirror.specs.PassSteps.{PassStep, HasMade, HasTaken, is_fault, is_stop, refusal_in, stops_in}
 use Rattle.nv_mirror.proofs.StopLaws.{own_plain, sets_stop}
+use Rattle.nv_calls.specs.calls.Asks.{IsMadeAsRead, IsMadeAsWrite, asks_read, asks_write}
 use Rattle.nv_calls.specs.calls.EarlyRefusals.{early_refusal}
 use Rattle.nv_calls.specs.calls.EndedCalls.{IsCallOver}
 use Rattle.nv_calls.specs.fsync.SyncRuns.{IsSyncRun, file_of_fd}
-use Rattle.nv_calls.specs.histories.Faults.{OpensBy, ReadsOpenNothing, SyncsOpenNothing, WritesOpen, open_in, open_writes}
-use Rattle.nv_calls.specs.histories.Tries.{Try, WereBusy}
-use Rattle.nv_calls.specs.reads.Reads.{IsReadOver}
-use Rattle.nv_calls.specs.writes.Writes.{IsWriteOver, WereMadeAgain, is_made_again}
+use Rattle.nv_calls.specs.histories.Faults.{OpensBy, ReadsOpenNothing, ReadsOpenNothingAs, SyncsOpenNothing, WritesOpen, WritesOpenAs, open_in, open_writes}
+use Rattle.nv_calls.specs.histories.Tries.{Try, WereBusyAs}
+use Rattle.nv_calls.specs.reads.Reads.{IsReadOverAs}
+use Rattle.nv_calls.specs.writes.Writes.{IsWriteOverAs, WereMadeAgainAs, is_made_again}
 use Rattle.nv_calls.proofs.histories.HeedsLaws.{early_tells, made_opened, refusal_tells, untold_mild}
 use Rattle.nv_calls.proofs.reads.OverLaws.{call_over}
 
@@ -254,26 +255,27 @@ module _ (sound : RunsAreSound) (tell : OwnEventsTell) where
       }
   write_opens false fds fd at bytes start now file early known by = ap open_in by
 
-  over_opens : (fds : List Fd) (fd at : ℕ) (bytes : List ℕ) (start now : PassState) (result : Result Done Refusal) → IsMount (mount_of start.view.opened) → IsWriteOver fds fd at bytes start now result
-      → OpensBy (is_fault (refusal_in_answer result)) fds fd at bytes start now
-  over_opens fds fd at bytes start now result mount over =
+  over_opens : (asks : ℕ → FileCall) (fds : List Fd) (fd at : ℕ) (bytes : List ℕ) (start now : PassState) (result : Result Done Refusal) → IsMadeAsWrite asks at bytes → IsMount (mount_of start.view.opened)
+      → IsWriteOverAs asks fds fd at (length bytes) start now result → OpensBy (is_fault (refusal_in_answer result)) fds fd at bytes start now
+  over_opens asks fds fd at bytes start now result is_made mount over =
       let sizes = start.view.opened.sizes in
-      elim (ended_by (early_refusal can_write sizes fds fd at (length bytes)) (file_of_fd fds fd) (λ file. Write file at bytes) start now result
-      (early_tells can_write sizes (slice_get fds fd) at (length bytes)) mount over) [
+      elim (ended_by (early_refusal can_write sizes fds fd at (length bytes)) (file_of_fd fds fd) asks start now result (early_tells can_write sizes (slice_get fds fd) at (length bytes)) mount over) [
         | inl barred ↦ subst (λ b. OpensBy b fds fd at bytes start now) (sym barred.0) (ap open_writes barred.1)
-        | inr ended ↦ write_opens (is_fault (refusal_in_answer result)) fds fd at bytes start now ended.1 ended.0 ended.2 ended.3
+        | inr ended ↦
+            write_opens (is_fault (refusal_in_answer result)) fds fd at bytes start now ended.1 ended.0 ended.2
+            (subst (λ call. FaultedBy (is_fault (refusal_in_answer result)) call start now) (is_made ended.1) ended.3)
       ]
 
   -- those that are to be made again open none
-  again_opens : (fds : List Fd) (fd at : ℕ) (bytes : List ℕ) (tries : List Refusal) (start now : PassState) → IsMount (mount_of start.view.opened) → WereMadeAgain fds fd at bytes tries start now
-      → (open_writes now ≡ open_writes start) × (now.view.opened ≡ start.view.opened)
-  again_opens fds fd at bytes [] start now mount made = (ap open_writes made, ap (λ (p : PassState). p.view.opened) made)
-  again_opens fds fd at bytes (last ∷ earlier) start now mount made =
+  again_opens : (asks : ℕ → FileCall) (fds : List Fd) (fd at : ℕ) (bytes : List ℕ) (tries : List Refusal) (start now : PassState) → IsMadeAsWrite asks at bytes → IsMount (mount_of start.view.opened)
+      → WereMadeAgainAs asks fds fd at (length bytes) tries start now → (open_writes now ≡ open_writes start) × (now.view.opened ≡ start.view.opened)
+  again_opens asks fds fd at bytes [] start now is_made mount made = (ap open_writes made, ap (λ (p : PassState). p.view.opened) made)
+  again_opens asks fds fd at bytes (last ∷ earlier) start now is_made mount made =
       let middle = made.0 in
-      let before = again_opens fds fd at bytes earlier start middle mount made.1 in
-      let opens = over_opens fds fd at bytes middle now (Err last) (subst (λ (o : Opened). IsMount (mount_of o)) (sym before.1) mount) made.3 in (
+      let before = again_opens asks fds fd at bytes earlier start middle is_made mount made.1 in
+      let opens = over_opens asks fds fd at bytes middle now (Err last) is_made (subst (λ (o : Opened). IsMount (mount_of o)) (sym before.1) mount) made.3 in (
         subst (λ b. OpensBy b fds fd at bytes middle now) (again_mild last made.2) opens ∙ before.0,
-        ended_opened (early_refusal can_write middle.view.opened.sizes fds fd at (length bytes)) (file_of_fd fds fd) (λ file. Write file at bytes) middle now (Err last) made.3 ∙ before.1,
+        ended_opened (early_refusal can_write middle.view.opened.sizes fds fd at (length bytes)) (file_of_fd fds fd) asks middle now (Err last) made.3 ∙ before.1,
       )
 
   opens_since : (ends : Bool) (fds : List Fd) (fd at : ℕ) (bytes : List ℕ) (start last now : PassState) → open_writes last ≡ open_writes start → last.view.opened ≡ start.view.opened
@@ -288,11 +290,14 @@ module _ (sound : RunsAreSound) (tell : OwnEventsTell) where
   }
   opens_since false fds fd at bytes start last now before same is = is ∙ before
 
-  pub writes_open : WritesOpen
-  writes_open fds fd at bytes start now result mount tried =
-      let before = again_opens fds fd at bytes tried.tries start tried.last mount tried.again in
+  pub made_writes_open : WritesOpenAs
+  made_writes_open asks fds fd at bytes start now result is_made mount tried =
+      let before = again_opens asks fds fd at bytes tried.tries start tried.last is_made mount tried.again in
       opens_since (is_fault (refusal_in_answer result)) fds fd at bytes start tried.last now before.0 before.1
-      (over_opens fds fd at bytes tried.last now result (subst (λ (o : Opened). IsMount (mount_of o)) (sym before.1) mount) tried.over)
+      (over_opens asks fds fd at bytes tried.last now result is_made (subst (λ (o : Opened). IsMount (mount_of o)) (sym before.1) mount) tried.over)
+
+  pub writes_open : WritesOpen
+  writes_open fds fd at bytes start now result = made_writes_open (asks_write at bytes) fds fd at bytes start now result (λ file. refl)
 
   -- ---- reads
 
@@ -301,31 +306,37 @@ module _ (sound : RunsAreSound) (tell : OwnEventsTell) where
   read_opens true file at len start now by = ap open_in by.3 ∙ opens_none by.0 (pass_of start.view).faulted (ap is_write by.1)
   read_opens false file at len start now by = ap open_in by
 
-  read_over_opens : (fds : List Fd) (fd at : ℕ) (list : List ℕ) (start now : PassState) (result : Result Done Refusal) → IsMount (mount_of start.view.opened) → IsReadOver fds fd at list start now result
-      → (open_writes now ≡ open_writes start) × (now.view.opened ≡ start.view.opened)
-  read_over_opens fds fd at list start now result mount over =
+  read_over_opens : (asks : ℕ → ℕ → FileCall) (fds : List Fd) (fd at : ℕ) (list : List ℕ) (start now : PassState) (result : Result Done Refusal) → IsMadeAsRead asks at (length list) → IsMount (mount_of start.view.opened)
+      → IsReadOverAs asks fds fd at list start now result → (open_writes now ≡ open_writes start) × (now.view.opened ≡ start.view.opened)
+  read_over_opens asks fds fd at list start now result is_made mount over =
       let sizes = start.view.opened.sizes in
       let early = early_refusal can_read sizes fds fd at (length list) in
-      let called = call_over fds fd at list start now result over in (
-        elim (ended_by early (file_of_fd fds fd) (λ file. Read file at (length list)) start now result (early_tells can_read sizes (slice_get fds fd) at (length list)) mount called) [
+      let called = call_over asks fds fd at list start now result over in (
+        elim (ended_by early (file_of_fd fds fd) (asks (length list)) start now result (early_tells can_read sizes (slice_get fds fd) at (length list)) mount called) [
           | inl barred ↦ ap open_writes barred.1
-          | inr ended ↦ read_opens (is_fault (refusal_in_answer result)) ended.1 at (length list) start now ended.3
+          | inr ended ↦
+              read_opens (is_fault (refusal_in_answer result)) ended.1 at (length list) start now
+              (subst (λ call. FaultedBy (is_fault (refusal_in_answer result)) call start now) (is_made ended.1) ended.3)
         ],
-        ended_opened early (file_of_fd fds fd) (λ file. Read file at (length list)) start now result called,
+        ended_opened early (file_of_fd fds fd) (asks (length list)) start now result called,
       )
 
-  busy_opens : (fds : List Fd) (fd at len : ℕ) (tries : List Try) (start now : PassState) → IsMount (mount_of start.view.opened) → WereBusy fds fd at len tries start now
-      → (open_writes now ≡ open_writes start) × (now.view.opened ≡ start.view.opened)
-  busy_opens fds fd at len [] start now mount busy = (ap open_writes busy, ap (λ (p : PassState). p.view.opened) busy)
-  busy_opens fds fd at len (last ∷ earlier) start now mount busy =
-      let before = busy_opens fds fd at len earlier start busy.0 mount busy.1 in
-      let over = read_over_opens fds fd at last.list busy.0 now (Err (Busy last.cell)) (subst (λ (o : Opened). IsMount (mount_of o)) (sym before.1) mount) busy.3 in
+  busy_opens : (asks : ℕ → ℕ → FileCall) (fds : List Fd) (fd at len : ℕ) (tries : List Try) (start now : PassState) → IsMadeAsRead asks at len → IsMount (mount_of start.view.opened)
+      → WereBusyAs asks fds fd at len tries start now → (open_writes now ≡ open_writes start) × (now.view.opened ≡ start.view.opened)
+  busy_opens asks fds fd at len [] start now is_made mount busy = (ap open_writes busy, ap (λ (p : PassState). p.view.opened) busy)
+  busy_opens asks fds fd at len (last ∷ earlier) start now is_made mount busy =
+      let before = busy_opens asks fds fd at len earlier start busy.0 is_made mount busy.1 in
+      let over = read_over_opens asks fds fd at last.list busy.0 now (Err (Busy last.cell)) (subst (IsMadeAsRead asks at) (sym busy.2) is_made)
+      (subst (λ (o : Opened). IsMount (mount_of o)) (sym before.1) mount) busy.3 in
       (over.0 ∙ before.0, over.1 ∙ before.1)
 
+  pub made_reads_open_nothing : ReadsOpenNothingAs
+  made_reads_open_nothing asks fds fd at list start now result is_made mount tried =
+      let before = busy_opens asks fds fd at (length list) tried.tries start tried.last is_made mount tried.busy in
+      (read_over_opens asks fds fd at list tried.last now result is_made (subst (λ (o : Opened). IsMount (mount_of o)) (sym before.1) mount) tried.over).0 ∙ before.0
+
   pub reads_open_nothing : ReadsOpenNothing
-  reads_open_nothing fds fd at list start now result mount tried =
-      let before = busy_opens fds fd at (length list) tried.tries start tried.last mount tried.busy in
-      (read_over_opens fds fd at list tried.last now result (subst (λ (o : Opened). IsMount (mount_of o)) (sym before.1) mount) tried.over).0 ∙ before.0
+  reads_open_nothing fds fd at list start now result = made_reads_open_nothing (asks_read at) fds fd at list start now result (λ file. refl)
 
 -- ---- syncs
 

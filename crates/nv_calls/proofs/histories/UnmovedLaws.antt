@@ -1,9 +1,8 @@
 -- Unmoved: a refused write changes no word but locks, and gives these back.
-use Rattle.std.proofs.Common.{◌≡◌, ℕ, ◌==◌, Bool, true, false, if◌then◌else◌, List, [], ◌∷◌, length, refl, sym, ap, ◌∙◌}
+use Rattle.std.proofs.Common.{◌≡◌, ℕ, ◌==◌, Bool, true, false, if◌then◌else◌, List, [], ◌∷◌, length, refl, sym, ap, subst, ◌∙◌}
 use Rattle.std.specs.Prelude.{Option, Some, None, Result, Ok, Err}
 use Rattle.nv_plain.specs.Modes.{can_write}
 use Rattle.nv_plain.specs.declared.call.FileCall.{FileCall}
-use Rattle.nv_plain.specs.declared.call.FileCall.TheVariants.{Write}
 use Rattle.nv_core.specs.invariant.InvariantLaws.{RunsAreSound}
 use Rattle.nv_core.specs.state.Passes.{Pass}
 use Rattle.nv_core.specs.state.Words.{Sizes, Word}
@@ -18,12 +17,14 @@ use Rattle.nv_table.specs.steps.SeatSteps.{pass_before, pass_worked, with_call}
 use Rattle.nv_table.proofs.invariant.DrawnLaws.{calls_leave}
 use Rattle.nv_mirror.specs.declared.answers.Done.{Done}
 use Rattle.nv_mirror.specs.declared.answers.Refusal.{Refusal}
-use Rattle.nv_mirror.specs.PassSteps.{PassStep, HasMade, head_in}
+use Rattle.nv_mirror.specs.OwnSteps.{AreOwnAs}
+use Rattle.nv_mirror.specs.PassSteps.{PassStep, HasMade, head_in, refusal_in}
 use Rattle.nv_calls.specs.histories.Unmoved.{AreLocking, LeavesWords, held_after, held_by, is_locking}
+use Rattle.nv_calls.specs.calls.Asks.{IsMadeAsWrite, asks_write}
 use Rattle.nv_calls.specs.calls.EarlyRefusals.{early_refusal}
 use Rattle.nv_calls.specs.calls.EndedCalls.{IsCallOver}
 use Rattle.nv_calls.specs.fsync.SyncRuns.{file_of_fd}
-use Rattle.nv_calls.specs.writes.WriteLaws.{RefusedWritesLeaveWords}
+use Rattle.nv_calls.specs.writes.WriteLaws.{RefusedWritesLeaveWords, RefusedWritesLeaveWordsAs}
 use Rattle.nv_calls.proofs.histories.WriteStages.{locking}
 
 -- ---- what the steps hold
@@ -57,20 +58,27 @@ held_so (step ∷ earlier) start now all moves none =
 
 -- ---- a write that is over
 
-over_leaves : RunsAreSound → OwnEventsTell → (by : Option Refusal) (file : Option ℕ) (at : ℕ) (bytes : List ℕ) (start now : PassState) (result : Result Done Refusal) → IsMount (mount_of start.view.opened) → IsIdle start
-    → IsCallOver by file (λ one. Write one at bytes) start now result → LeavesWords start now result
-over_leaves sound tell (Some refusal) file at bytes start now result mount idle over = record { steps = []; made = over.1; left = λ unplaced mild. (tt, refl) }
-over_leaves sound tell None file at bytes start now (Ok done) mount idle over = record { steps = over.2.steps; made = over.2.made; left = λ unplaced mild. absurd (cc) }
-over_leaves sound tell None file at bytes start now (Err refusal) mount idle over =
+over_leaves : RunsAreSound → OwnEventsTell → (by : Option Refusal) (file : Option ℕ) (asks : ℕ → FileCall) (at : ℕ) (bytes : List ℕ) (start now : PassState) (result : Result Done Refusal) → IsMadeAsWrite asks at bytes
+    → IsMount (mount_of start.view.opened) → IsIdle start → IsCallOver by file asks start now result → LeavesWords start now result
+over_leaves sound tell (Some refusal) file asks at bytes start now result is_made mount idle over = record { steps = []; made = over.1; left = λ unplaced mild. (tt, refl) }
+over_leaves sound tell None file asks at bytes start now (Ok done) is_made mount idle over = record { steps = over.2.steps; made = over.2.made; left = λ unplaced mild. absurd (cc) }
+over_leaves sound tell None file asks at bytes start now (Err refusal) is_made mount idle over =
     let ended = over.2 in
+    let sizes = start.view.opened.sizes in
+    let asked = asks over.0 in
+    let own = subst (λ one. AreOwnAs sizes asked one ended.steps) (is_made over.0) ended.own in
+    let refused = subst (λ one. refusal_in sizes one ended.steps ≡ Some refusal) (is_made over.0) ended.refused in
     record {
       steps = ended.steps;
       made = ended.made;
       left = λ unplaced mild.
-          let moves = locking sound tell start.view.opened.sizes over.0 at bytes start mount ended.steps now refusal ended.made ended.own ended.refused mild in
+          let moves = locking sound tell sizes over.0 at bytes asked (is_made over.0) start mount ended.steps now refusal ended.made own refused mild in
           (moves, sym (held_so ended.steps start now ended.made moves idle.owned) ∙ ended.idle.owned);
     }
 
+pub made_writes_leave_words : RunsAreSound → OwnEventsTell → RefusedWritesLeaveWordsAs
+made_writes_leave_words sound tell asks fds fd at bytes start now result is_made mount idle over =
+    over_leaves sound tell (early_refusal can_write start.view.opened.sizes fds fd at (length bytes)) (file_of_fd fds fd) asks at bytes start now result is_made mount idle over
+
 pub refused_writes_leave_words : RunsAreSound → OwnEventsTell → RefusedWritesLeaveWords
-refused_writes_leave_words sound tell fds fd at bytes start now result mount idle over =
-    over_leaves sound tell (early_refusal can_write start.view.opened.sizes fds fd at (length bytes)) (file_of_fd fds fd) at bytes start now result mount idle over
+refused_writes_leave_words sound tell fds fd at bytes start now result = made_writes_leave_words sound tell (asks_write at bytes) fds fd at bytes start now result (λ file. refl)

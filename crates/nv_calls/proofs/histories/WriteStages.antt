@@ -7,7 +7,7 @@ use Rattle.nv_core.specs.invariant.ControlFacts.{ControlFacts, FactsAt}
 use Rattle.nv_core.specs.invariant.InvariantLaws.{RunsAreSound}
 use Rattle.nv_core.specs.state.Cleaner.{CleanerOp}
 use Rattle.nv_core.specs.state.Core.{control_worked, worked, values_worked}
-use Rattle.nv_core.specs.state.Passes.{Control, Pass, Idle, TakePage, LoadLength, TakeSize, LoadStop, LoadOrder, TakeCleanup, TakeStore, ReadStore, GiveStore, LoadHint, Searching, ReadLoadHead, ReadLoadTail, LoadEntry, HoldEntry, ReadPiece, ReturnEntry, GiveCleanup, WriteLoadHead, WriteLoadTail, DrawNumbers, SeizeEntry, CommitGroup, PledgePage, ReadyEntry, TakePlace, GrowLength, GiveSize, GivePage, GiveBack, SetStopAfterRead, SetStopAfterPiece, SetStopAfterCommit, BreakEntry, Cleaning, is_read, first_page, end_page, page_count, without}
+use Rattle.nv_core.specs.state.Passes.{Control, Pass, Idle, TakePage, LoadLength, TakeSize, LoadStop, LoadOrder, TakeCleanup, TakeStore, ReadStore, GiveStore, LoadHint, Searching, ReadLoadHead, ReadLoadTail, LoadEntry, HoldEntry, ReadPiece, ReturnEntry, GiveCleanup, WriteLoadHead, WriteLoadTail, DrawNumbers, SeizeEntry, CommitGroup, PledgePage, ReadyEntry, TakePlace, GrowLength, GiveSize, GivePage, GiveBack, SetStopAfterRead, SetStopAfterPiece, SetStopAfterCommit, BreakEntry, Cleaning, is_read, first_page, end_page, page_count, plain_call, without}
 use Rattle.nv_core.specs.state.Values.{CallEnding, Made, Failed, Refused}
 use Rattle.nv_core.specs.state.Words.{Sizes, Word, STOP, ORDER, HEAD, TAIL, LENGTH, SIZE, STORE, ENTRY, HINT, PAGE, CLEANUP, DIRTY, slot_of_entry}
 use Rattle.nv_core.specs.steps.ControlSteps.{control_after, leaving, giving, ending, after_give, after_stop}
@@ -29,7 +29,7 @@ use Rattle.nv_table.proofs.invariant.StepAt.{IsMadeAt, made_at}
 use Rattle.nv_table.proofs.steps.RunsOn.{step_of}
 use Rattle.nv_mirror.specs.declared.answers.Refusal.{Refusal}
 use Rattle.nv_mirror.specs.declared.answers.Refusal.TheVariants.{RegionFault, StoreFault}
-use Rattle.nv_mirror.specs.OwnSteps.{gives_back, is_own, AreOwn}
+use Rattle.nv_mirror.specs.OwnSteps.{gives_back, is_own, AreOwnAs}
 use Rattle.nv_mirror.specs.PassSteps.{PassStep, HasMade, HasTaken, either_of, head_in, is_fault, refusal_in, refused_by}
 use Rattle.nv_calls.specs.histories.Unmoved.{AreLocking, is_locking}
 use Rattle.nv_mirror.proofs.StopLaws.{IsFault, faults_are, own_plain}
@@ -195,7 +195,7 @@ module _ (sizes : Sizes) (values : Values) (pass : Pass) (file at : ℕ) (bytes 
 
 -- ---- the steps of a write
 
-module _ (sound : RunsAreSound) (tell : OwnEventsTell) (sizes : Sizes) (file at : ℕ) (bytes : List ℕ) (start : PassState) (mount : IsMount (mount_of start.view.opened)) where
+module _ (sound : RunsAreSound) (tell : OwnEventsTell) (sizes : Sizes) (file at : ℕ) (bytes : List ℕ) (asked : FileCall) (is_made : plain_call asked ≡ Write file at bytes) (start : PassState) (mount : IsMount (mount_of start.view.opened)) where
   abbrev pub call : FileCall
   call = Write file at bytes
 
@@ -246,8 +246,8 @@ module _ (sound : RunsAreSound) (tell : OwnEventsTell) (sizes : Sizes) (file at 
         (was.1, before was.0)
 
     -- the first step of the call, and a later one
-    pub first_makes : step.opens ≡ Some call → there.call ≡ call
-    first_makes opens = ap (λ o. (with_call seen.opened.sizes o (pass_worked seen.opened.sizes taken.stepped.works (pass_of seen))).call) opens
+    pub first_makes : step.opens ≡ Some asked → there.call ≡ call
+    first_makes opens = ap (λ o. (with_call seen.opened.sizes o (pass_worked seen.opened.sizes taken.stepped.works (pass_of seen))).call) opens ∙ is_made
 
     module _ (opens : step.opens ≡ None) (was : Stands earlier middle) where
       pub there_is : there ≡ pass_worked seen.opened.sizes taken.stepped.works (pass_of seen)
@@ -262,7 +262,7 @@ module _ (sound : RunsAreSound) (tell : OwnEventsTell) (sizes : Sizes) (file at 
           was.early (sym (ap (λ (v : PassView). is_early (pass_of v).control) taken.between.view)
           ∙ works_early seen.opened.sizes taken.stepped.works _ (pass_of seen) taken.stepped.due (sym (ap (λ (p : Pass). is_early p.control) there_is) ∙ early))
 
-  pub stands : (steps : List PassStep) (now : PassState) → HasMade steps start now → AreOwn sizes call steps → Stands steps now
+  pub stands : (steps : List PassStep) (now : PassState) → HasMade steps start now → AreOwnAs sizes asked call steps → Stands steps now
   stands [] now all own = absurd own
   stands (step ∷ []) now all own =
       stands_on step [] all.0 now (ap (λ (p : PassState). p.view.opened) all.1) all.2 None own.1 (first_makes step [] all.0 now (ap (λ (p : PassState). p.view.opened) all.1) all.2 None own.1 own.0) (λ early. tt)
@@ -279,7 +279,7 @@ module _ (sound : RunsAreSound) (tell : OwnEventsTell) (sizes : Sizes) (file at 
   back_locking refusal op head found back mild = absurd (cc)
 
   -- one more step of one that has made some
-  next_locking : (step other : PassStep) (earlier : List PassStep) (now : PassState) (why : Refusal) → HasMade (step ∷ (other ∷ earlier)) start now → AreOwn sizes call (step ∷ (other ∷ earlier))
+  next_locking : (step other : PassStep) (earlier : List PassStep) (now : PassState) (why : Refusal) → HasMade (step ∷ (other ∷ earlier)) start now → AreOwnAs sizes asked call (step ∷ (other ∷ earlier))
       → (before : Option Refusal) → refusal_in sizes call (other ∷ earlier) ≡ before → refusal_in sizes call (step ∷ (other ∷ earlier)) ≡ Some why → is_fault (Some why) ≡ false
       → (refusal_in sizes call (other ∷ earlier) ≡ Some why → AreLocking (other ∷ earlier)) → AreLocking (step ∷ (other ∷ earlier))
   next_locking step other earlier now why all own (Some refusal) so_far is mild again =
@@ -292,7 +292,7 @@ module _ (sound : RunsAreSound) (tell : OwnEventsTell) (sizes : Sizes) (file at 
       (later_early step (other ∷ earlier) all.0 now was.opened all.2 refusal own.1 own.0 was) why
       (sym (ap (λ r. either_of r (refused_by sizes call (head_in (other ∷ earlier)) step.works step.op step.found)) so_far) ∙ is) mild
 
-  pub locking : (steps : List PassStep) (now : PassState) (why : Refusal) → HasMade steps start now → AreOwn sizes call steps → refusal_in sizes call steps ≡ Some why → is_fault (Some why) ≡ false → AreLocking steps
+  pub locking : (steps : List PassStep) (now : PassState) (why : Refusal) → HasMade steps start now → AreOwnAs sizes asked call steps → refusal_in sizes call steps ≡ Some why → is_fault (Some why) ≡ false → AreLocking steps
   locking [] now why all own is mild = absurd own
   locking (step ∷ []) now why all own is mild =
       let opened = ap (λ (p : PassState). p.view.opened) all.1 in

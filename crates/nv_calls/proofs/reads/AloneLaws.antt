@@ -6,8 +6,8 @@ use Rattle.nv_plain.specs.Layouts.{mount_layout}
 use Rattle.nv_plain.specs.Modes.{can_read}
 use Rattle.nv_plain.specs.Pieces.{pages_touched}
 use Rattle.nv_plain.specs.declared.call.FileCall.{FileCall}
-use Rattle.nv_plain.specs.declared.call.FileCall.TheVariants.{Read}
 use Rattle.nv_core.specs.state.Words.{Sizes, Word, STOP, ORDER, HEAD, TAIL, STORE, ENTRY, PAGE, place}
+use Rattle.nv_core.specs.state.Passes.{plain_call}
 use Rattle.nv_core.specs.state.Values.{CallEnding, Failed}
 use Rattle.nv_core.specs.steps.Ops.{Op, Load, Take, Stop, Draw}
 use Rattle.nv_core.specs.steps.Opening.{IsMount}
@@ -22,12 +22,13 @@ use Rattle.nv_mount.specs.declared.fds.Fd.{Fd}
 use Rattle.nv_mirror.specs.declared.answers.Done.{Done}
 use Rattle.nv_mirror.specs.declared.answers.Refusal.{Refusal}
 use Rattle.nv_mirror.specs.declared.answers.Refusal.TheVariants.{BadFd, TooFar, TooLong, Busy, Stopped, Spent, Again, Raced}
+use Rattle.nv_calls.specs.calls.Asks.{asks_read}
 use Rattle.nv_calls.specs.calls.EarlyRefusals.{early_refusal, early_fd_refusal, early_range_refusal}
 use Rattle.nv_calls.specs.calls.EndedCalls.{IsOverBy}
 use Rattle.nv_calls.specs.fsync.SyncRuns.{file_of_fd}
-use Rattle.nv_calls.specs.reads.Reads.{IsReadDone}
+use Rattle.nv_calls.specs.reads.Reads.{IsReadDoneAs}
 use Rattle.nv_mirror.specs.Answers.{refusal_in_answer}
-use Rattle.nv_calls.specs.reads.ReadsAlone.{NoReadIsBusy}
+use Rattle.nv_calls.specs.reads.ReadsAlone.{NoReadIsBusy, NoReadIsBusyAs}
 use Rattle.nv_mirror.specs.PassSteps.{PassStep, HasMade, either_of, busy_at, if_own, fault_at, fault_by, fault_in, refused_by, refusal_in, head_in}
 
 -- ---- refusals that name no lock
@@ -115,13 +116,16 @@ module _ (alone : StaysAlone) (locks : NoLockIsHeld) where
             (λ cell at. locks taken.before now step.opens cell step.found mount_then knows_then alone_then (subst (λ op. Postcondition taken.before step.opens op step.found now) at taken.stepped)));
       }
 
-  pub no_read_is_busy : NoReadIsBusy
-  no_read_is_busy fds fd at list start now result cell mount knows is over busy =
+  pub no_made_read_is_busy : NoReadIsBusyAs
+  no_made_read_is_busy asks fds fd at list start now result cell mount knows is over busy =
       by (early_refusal can_read start.view.opened.sizes fds fd at (length list)) (early_other start.view.opened.sizes fds fd at (length list)) over
     where
-      by : (refusal : Option Refusal) → IsOther refusal → IsOverBy refusal (file_of_fd fds fd) (λ file. IsReadDone file at list start now result) start now result → ⊥
+      by : (refusal : Option Refusal) → IsOther refusal → IsOverBy refusal (file_of_fd fds fd) (λ file. IsReadDoneAs (asks (length list) file) list start now result) start now result → ⊥
       by (Some refusal) other ended = subst (λ (r : Result Done Refusal). IsOther (refusal_in_answer r)) (sym ended.0 ∙ busy) other
       by None other ended =
           let over = ended.2.over in
           subst (λ (r : Result Done Refusal). IsOther (refusal_in_answer r)) busy
-          (subst IsOther over.refused (all_open start.view.opened.sizes (Read ended.0 at (length list)) over.steps start now over.made mount knows is).other)
+          (subst IsOther over.refused (all_open start.view.opened.sizes (plain_call (asks (length list) ended.0)) over.steps start now over.made mount knows is).other)
+
+  pub no_read_is_busy : NoReadIsBusy
+  no_read_is_busy fds fd at list start now result = no_made_read_is_busy (asks_read at) fds fd at list start now result

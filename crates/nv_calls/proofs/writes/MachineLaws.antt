@@ -2,7 +2,9 @@
 use Rattle.std.proofs.Common.{◌≡◌, ℕ, ◌<◌, ◌≤◌, true, false, List, length, refl, sym, ap, subst, ◌∙◌, arith}
 use Rattle.std.specs.Prelude.{None, Ok, Err}
 use Rattle.std.specs.Borrow.{Bor}
+use Rattle.std.specs.List.{concat}
 use Rattle.nv_plain.specs.Modes.{can_write}
+use Rattle.nv_plain.specs.declared.call.FileCall.{FileCall}
 use Rattle.nv_plain.specs.declared.call.FileCall.TheVariants.{Write}
 use Rattle.nv_core.specs.state.Words.{Sizes}
 use Rattle.nv_table.specs.state.States.{PassState}
@@ -33,12 +35,13 @@ use Rattle.nv_calls.proofs.calls.OverLaws.{over_asked}
 use Rattle.nv_mirror.specs.PassSteps.{either_of, fault_in, place_by}
 use Rattle.nv_ring.specs.WriteSteps.{HasMadeOne, with_list, write_fault, write_kind, write_place}
 use Rattle.nv_calls.specs.calls.Advances.{IsFewer, IsOneStep}
+use Rattle.nv_calls.specs.calls.Asks.{asks_writev}
 use Rattle.nv_calls.specs.declared.writing.WriteControl.TheVariants as writes
 use Rattle.nv_calls.specs.declared.writing.WriteMachine.{WriteMachine}
 use Rattle.nv_calls.specs.calls.EarlyRefusals.{early_refusal}
 use Rattle.nv_calls.specs.calls.EndedCalls.{IsCallOver}
 use Rattle.nv_calls.specs.fsync.SyncRuns.{file_of_fd}
-use Rattle.nv_calls.specs.writes.WriteMachines.{IsOfFile, IsPutInAs, IsWriteUnderWay, StandsAt, WriteGoes, fault_at, kind_at, measure, measure_at, place_at, progress_of, standing}
+use Rattle.nv_calls.specs.writes.WriteMachines.{IsOfFile, IsPutInAs, IsWriteUnderWayAs, StandsAt, WriteGoesAs, fault_at, kind_at, measure, measure_at, place_at, progress_of, standing}
 
 -- ---- the list is put in and taken out
 
@@ -127,8 +130,8 @@ lent_on list other file at start now write way =
 abbrev pub kept : WriteMachine → (other : Bor (List ℕ)) → RunningWrite → WriteMachine
 kept m other write = record m { control = writes.Running (with_list other write) }
 
-module _ (fds : List Fd) (m : WriteMachine) (list other : Bor (List ℕ)) (room : length list.now ≡ m.len) (start now : PassState) where
-  runs_on : (write : RunningWrite) → IsOpen write → IsOfFile fds m list.now write start now → IsWriteUnderWay fds (kept m other write) list.now start now
+module _ (asked : ℕ → FileCall) (fds : List Fd) (m : WriteMachine) (list other : Bor (List ℕ)) (room : length list.now ≡ m.len) (start now : PassState) where
+  runs_on : (write : RunningWrite) → IsOpen write → IsOfFile asked fds m list.now write start now → IsWriteUnderWayAs asked fds (kept m other write) list.now start now
   runs_on write runs of = record {
     room = room;
     stands = (
@@ -138,17 +141,17 @@ module _ (fds : List Fd) (m : WriteMachine) (list other : Bor (List ℕ)) (room 
         early = of.early;
         file = of.file;
         file_is = of.file_is;
-        asks = asked_with_list (Write of.file m.at list.now) list (with_list other write) now ∙ asked_with_list (Write of.file m.at list.now) other write now ∙ of.asks;
+        asks = asked_with_list (asked of.file) list (with_list other write) now ∙ asked_with_list (asked of.file) other write now ∙ of.asks;
         way = subst (λ w. IsUnderWay (Write of.file m.at list.now) w start now) (sym (list_twice list other write)) (list_way list of.file m.at start now write of.way);
       },
     );
   }
 
-  early_here : (write : RunningWrite) → IsOfFile fds m list.now write start now → early_refusal can_write start.view.opened.sizes fds m.fd m.at (length list.now) ≡ None
+  early_here : (write : RunningWrite) → IsOfFile asked fds m list.now write start now → early_refusal can_write start.view.opened.sizes fds m.fd m.at (length list.now) ≡ None
   early_here write of = ap (early_refusal can_write start.view.opened.sizes fds m.fd m.at) room ∙ of.early
 
   -- it goes on, or has told what a whole write tells
-  pub goes_on : (write : RunningWrite) → IsSettled write → IsOfFile fds m list.now write start now → WriteGoes fds start (kept m other write) list.now now (progress_of m.len write)
+  pub goes_on : (write : RunningWrite) → IsSettled write → IsOfFile asked fds m list.now write start now → WriteGoesAs asked fds start (kept m other write) list.now now (progress_of m.len write)
   goes_on (Pageless part) runs of = runs_on (Pageless part) runs of
   goes_on (Front part) runs of = runs_on (Front part) runs of
   goes_on (Draw part) runs of = runs_on (Draw part) runs of
@@ -157,13 +160,19 @@ module _ (fds : List Fd) (m : WriteMachine) (list other : Bor (List ℕ)) (room 
   goes_on (Over (Ok place)) runs of = (
     refl,
     refl,
-    subst (λ by. IsCallOver by (file_of_fd fds m.fd) (λ file. Write file m.at list.now) start now (Ok record { place = place; len = m.len })) (sym (early_here (Over (Ok place)) of)) (of.file, of.file_is, over_asked _ _ _ start now (Write of.file m.at list.now) of.way of.asks),
+    subst (λ by. IsCallOver by (file_of_fd fds m.fd) asked start now (Ok record { place = place; len = m.len })) (sym (early_here (Over (Ok place)) of)) (of.file, of.file_is, over_asked _ _ _ start now (asked of.file) of.way of.asks),
   )
   goes_on (Over (Err refusal)) runs of = (
     refl,
     refl,
-    subst (λ by. IsCallOver by (file_of_fd fds m.fd) (λ file. Write file m.at list.now) start now (Err refusal)) (sym (early_here (Over (Err refusal)) of)) (of.file, of.file_is, over_asked _ _ _ start now (Write of.file m.at list.now) of.way of.asks),
+    subst (λ by. IsCallOver by (file_of_fd fds m.fd) asked start now (Err refusal)) (sym (early_here (Over (Err refusal)) of)) (of.file, of.file_is, over_asked _ _ _ start now (asked of.file) of.way of.asks),
   )
+
+-- so a vectored write, of whose parts the list is joined
+pub goes_on_parts : (fds : List Fd) (m : WriteMachine) (list other : Bor (List ℕ)) (parts : List (List ℕ)) → list.now ≡ concat parts → length list.now ≡ m.len → (start now : PassState) (write : RunningWrite) → IsSettled write
+    → IsOfFile (asks_writev m.at parts) fds m list.now write start now → WriteGoesAs (asks_writev m.at parts) fds start (kept m other write) (concat parts) now (progress_of m.len write)
+goes_on_parts fds m list other parts joined room start now write settled of =
+    subst (λ l. WriteGoesAs (asks_writev m.at parts) fds start (kept m other write) l now (progress_of m.len write)) joined (goes_on (asks_writev m.at parts) fds m list other room start now write settled of)
 
 -- by fewer steps
 module _ (sizes : Sizes) (m : WriteMachine) (other : Bor (List ℕ)) (before : ℕ) (within : before ≤ measure sizes m) where
@@ -200,12 +209,12 @@ module _ (sizes : Sizes) (fds : List Fd) (m : WriteMachine) (list : Bor (List �
     place = (list_same list write).place ∙ ap place_at (sym is);
     fault = (list_same list write).fault ∙ ap fault_at (sym is);
     fewer = let same = (list_same list write).measure ∙ ap (measure_at sizes m) (sym is) in omega (arith, same);
-    way = λ start now same way. let stands = subst (StandsAt fds m list.now start now) is way.stands in let of = stands.2 in
+    way = λ asked start now same way. let stands = subst (StandsAt asked fds m list.now start now) is way.stands in let of = stands.2 in
         record {
           early = of.early;
           file = of.file;
           file_is = of.file_is;
-          asks = asked_with_list (Write of.file m.at list.now) list write now ∙ sym (asked_with_list (Write of.file m.at list.now) stands.1 write now) ∙ of.asks;
+          asks = asked_with_list (asked of.file) list write now ∙ sym (asked_with_list (asked of.file) stands.1 write now) ∙ of.asks;
           way = lent_on list stands.1 of.file m.at start now write of.way;
         };
   }

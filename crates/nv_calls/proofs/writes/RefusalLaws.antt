@@ -11,7 +11,7 @@ use Rattle.nv_core.specs.invariant.ControlFacts.{FactsAt}
 use Rattle.nv_core.specs.invariant.InvariantLaws.{RunsAreSound}
 use Rattle.nv_core.specs.invariant.Ownership.{is_among}
 use Rattle.nv_core.specs.state.Core.{control_worked, worked, values_worked}
-use Rattle.nv_core.specs.state.Passes.{Control, Pass, TakePage, LoadLength, TakeSize, LoadStop, LoadOrder, TakeCleanup, TakeStore, ReadStore, VisitPage, Searching, LoadHint, ReadLoadTail, LoadEntry, ReadPiece, WriteLoadHead, WriteLoadTail, DrawNumbers, CommitGroup, TakePlace, SetStopAfterRead, SetStopAfterPiece, SetStopAfterCommit, Cleaning, first_page, end_page, is_read, is_write, page_count}
+use Rattle.nv_core.specs.state.Passes.{Control, Pass, TakePage, LoadLength, TakeSize, LoadStop, LoadOrder, TakeCleanup, TakeStore, ReadStore, VisitPage, Searching, LoadHint, ReadLoadTail, LoadEntry, ReadPiece, WriteLoadHead, WriteLoadTail, DrawNumbers, CommitGroup, TakePlace, SetStopAfterRead, SetStopAfterPiece, SetStopAfterCommit, Cleaning, first_page, end_page, is_read, is_write, page_count, plain_call}
 use Rattle.nv_core.specs.state.Values.{CallEnding, Made, Failed, Refused}
 use Rattle.nv_core.specs.state.Words.{Sizes, Word, STOP, ORDER, HEAD, TAIL, LENGTH, SIZE, STORE, ENTRY, HINT, PAGE, CLEANUP, DIRTY, place}
 use Rattle.nv_core.specs.steps.ControlSteps.{after_load, control_after, first_control, leaving}
@@ -39,13 +39,14 @@ use Rattle.nv_mirror.specs.declared.answers.Done.{Done}
 use Rattle.nv_mirror.specs.declared.answers.Refusal.{Refusal}
 use Rattle.nv_mirror.specs.declared.answers.Refusal.TheVariants.{BadFd, TooFar, TooLong, Busy, Stopped, Spent, Again, Raced, RegionFault, StoreFault}
 use Rattle.nv_mirror.specs.Answers.{refusal_in_answer}
-use Rattle.nv_mirror.specs.OwnSteps.{is_own, AreOwn}
+use Rattle.nv_mirror.specs.OwnSteps.{is_own, AreOwnAs}
 use Rattle.nv_mirror.specs.PassSteps.{PassStep, HasMade, HasTaken, either_of, busy_at, if_own, fault_at, fault_by, fault_in, head_by, head_in, refused_by, refusal_in}
 use Rattle.nv_mirror.proofs.StopLaws.{IsFault, faults_are}
+use Rattle.nv_calls.specs.calls.Asks.{asks_write}
 use Rattle.nv_calls.specs.calls.EarlyRefusals.{early_refusal, early_fd_refusal, early_range_refusal}
 use Rattle.nv_calls.specs.calls.EndedCalls.{IsCallOver}
 use Rattle.nv_calls.specs.fsync.SyncRuns.{file_of_fd}
-use Rattle.nv_calls.specs.writes.Refusals.{IsWriteRefusal, MeetsNobody, WritesAloneMeetNobody, WritesTellWhatIsKnown}
+use Rattle.nv_calls.specs.writes.Refusals.{IsWriteRefusal, MeetsNobody, WritesAloneMeetNobody, WritesAloneMeetNobodyAs, WritesTellWhatIsKnown, WritesTellWhatIsKnownAs}
 use Rattle.nv_calls.proofs.histories.GoingOnLaws.{finds_known, knows_before}
 use Rattle.nv_calls.proofs.histories.WriteStages as stages
 use Rattle.nv_calls.proofs.histories.WriteStages.{IsEarly, call_on, is_early, first_makes, late_or_early, later_makes, later_on, not_at, stands_so, works_early}
@@ -231,7 +232,7 @@ free_at sizes call head works op found open_ still = tt
 
 -- ---- the steps of a write
 
-module _ (sound : RunsAreSound) (tell : OwnEventsTell) (sizes : Sizes) (file at : ℕ) (bytes : List ℕ) (start : PassState) (mount : IsMount (mount_of start.view.opened)) (taken : start.view.number ≡ 0 → KnowsTaken start.view) where
+module _ (sound : RunsAreSound) (tell : OwnEventsTell) (sizes : Sizes) (file at : ℕ) (bytes : List ℕ) (asked : FileCall) (is_made : plain_call asked ≡ Write file at bytes) (start : PassState) (mount : IsMount (mount_of start.view.opened)) (taken : start.view.number ≡ 0 → KnowsTaken start.view) where
   abbrev call : FileCall
   call = Write file at bytes
 
@@ -367,37 +368,37 @@ module _ (sound : RunsAreSound) (tell : OwnEventsTell) (sizes : Sizes) (file at 
 
   -- ---- what each step finds
 
-  first_before : (step : PassStep) (now : PassState) → (made : HasMade (step ∷ []) start now) → (own : AreOwn sizes call (step ∷ [])) → Before step [] made.0 now made.2
+  first_before : (step : PassStep) (now : PassState) → (made : HasMade (step ∷ []) start now) → (own : AreOwnAs sizes asked call (step ∷ [])) → Before step [] made.0 now made.2
   first_before step now made own =
       let opened = ap (λ (p : PassState). p.view.opened) made.1 in
       let here = made.2.before.view.opened.sizes in
       let begins = ap (λ o. (with_call here o (pass_worked here made.2.stepped.works (pass_of made.2.before.view))).control) own.0 in
       record {
-        values = (stages.come sound tell sizes file at bytes start mount step [] made.0 now opened made.2 None own.1).core.values;
-        makes = first_makes sound tell sizes file at bytes start mount step [] made.0 now opened made.2 None own.1 own.0;
-        may_come = stages.may sound tell sizes file at bytes start mount step [] made.0 now opened made.2 None own.1;
-        facts = stands_so sound tell sizes file at bytes start mount step [] made.0 now opened made.2 None own.1;
-        loaded = λ is. not_loaded _ (first_unloaded here call) (sym (ap is_loaded begins) ∙ is);
-        opens = λ is. not_loaded _ (first_unloaded here call) (sym (ap is_loaded begins) ∙ is);
-        commits = λ fails. absurd (first_calm here call (subst IsFailing begins fails));
+        values = (stages.come sound tell sizes file at bytes asked is_made start mount step [] made.0 now opened made.2 None own.1).core.values;
+        makes = first_makes sound tell sizes file at bytes asked is_made start mount step [] made.0 now opened made.2 None own.1 own.0;
+        may_come = stages.may sound tell sizes file at bytes asked is_made start mount step [] made.0 now opened made.2 None own.1;
+        facts = stands_so sound tell sizes file at bytes asked is_made start mount step [] made.0 now opened made.2 None own.1;
+        loaded = λ is. not_loaded _ (first_unloaded here (plain_call asked)) (sym (ap is_loaded begins) ∙ is);
+        opens = λ is. not_loaded _ (first_unloaded here (plain_call asked)) (sym (ap is_loaded begins) ∙ is);
+        commits = λ fails. absurd (first_calm here (plain_call asked) (subst IsFailing begins fails));
       }
 
-  later_before : (step other : PassStep) (earlier : List PassStep) (now : PassState) → (made : HasMade (step ∷ (other ∷ earlier)) start now) → (own : AreOwn sizes call (step ∷ (other ∷ earlier)))
+  later_before : (step other : PassStep) (earlier : List PassStep) (now : PassState) → (made : HasMade (step ∷ (other ∷ earlier)) start now) → (own : AreOwnAs sizes asked call (step ∷ (other ∷ earlier)))
       → (IsLoaded (pass_of made.0.view).control → HasHead (other ∷ earlier) made.0) → Before step (other ∷ earlier) made.0 now made.2
   later_before step other earlier now made own heads =
-      let was = stages.stands sound tell sizes file at bytes start mount (other ∷ earlier) made.0 made.1 own.2 in
+      let was = stages.stands sound tell sizes file at bytes asked is_made start mount (other ∷ earlier) made.0 made.1 own.2 in
       let refusal = refusal_in sizes call (other ∷ earlier) in
       let view = made.2.before.view in
       let here = view.opened.sizes in
       let works = made.2.stepped.works in
-      let makes = later_makes sound tell sizes file at bytes start mount step (other ∷ earlier) made.0 now was.opened made.2 refusal own.1 own.0 was in
-      let facts = stands_so sound tell sizes file at bytes start mount step (other ∷ earlier) made.0 now was.opened made.2 refusal own.1 in
+      let makes = later_makes sound tell sizes file at bytes asked is_made start mount step (other ∷ earlier) made.0 now was.opened made.2 refusal own.1 own.0 was in
+      let facts = stands_so sound tell sizes file at bytes asked is_made start mount step (other ∷ earlier) made.0 now was.opened made.2 refusal own.1 in
       let goes_on = ap (λ o. (with_call here o (pass_worked here works (pass_of view))).control) own.0 in
-      let values = (stages.come sound tell sizes file at bytes start mount step (other ∷ earlier) made.0 now was.opened made.2 refusal own.1).core.values in
+      let values = (stages.come sound tell sizes file at bytes asked is_made start mount step (other ∷ earlier) made.0 now was.opened made.2 refusal own.1).core.values in
       record {
         values = values;
         makes = makes;
-        may_come = stages.may sound tell sizes file at bytes start mount step (other ∷ earlier) made.0 now was.opened made.2 refusal own.1;
+        may_come = stages.may sound tell sizes file at bytes asked is_made start mount step (other ∷ earlier) made.0 now was.opened made.2 refusal own.1;
         facts = facts;
         loaded = λ is. heads (sym (ap (λ (v : PassView). is_loaded (pass_of v).control) made.2.between.view) ∙ works_loaded here works _ (pass_of view) made.2.stepped.due (sym (ap is_loaded goes_on) ∙ is));
         opens = λ is. own.0;
@@ -406,20 +407,20 @@ module _ (sound : RunsAreSound) (tell : OwnEventsTell) (sizes : Sizes) (file at 
             subst (λ w. NoStore (fault_in w)) made.2.works_are (works_plain here works _ (pass_of view) made.2.stepped.due (ap is_committing (sym goes_on ∙ at_stop))).1;
       }
 
-  heads : (steps : List PassStep) (now : PassState) → HasMade steps start now → AreOwn sizes call steps → IsLoaded (pass_of now.view).control → HasHead steps now
+  heads : (steps : List PassStep) (now : PassState) → HasMade steps start now → AreOwnAs sizes asked call steps → IsLoaded (pass_of now.view).control → HasHead steps now
   heads [] now made own is = absurd own
   heads (step ∷ []) now made own is = head_then step [] now made None own.1 (first_before step now made own) is
   heads (step ∷ (other ∷ earlier)) now made own is =
       head_then step (other ∷ earlier) now made (refusal_in sizes call (other ∷ earlier)) own.1 (later_before step other earlier now made own (heads (other ∷ earlier) made.0 made.1 own.2)) is
 
-  pub all_told : (steps : List PassStep) (now : PassState) → HasMade steps start now → AreOwn sizes call steps → Told known (refusal_in sizes call steps)
+  pub all_told : (steps : List PassStep) (now : PassState) → HasMade steps start now → AreOwnAs sizes asked call steps → Told known (refusal_in sizes call steps)
   all_told [] now made own = absurd own
   all_told (step ∷ []) now made own = tells step [] now made None own.1 (first_before step now made own)
   all_told (step ∷ (other ∷ earlier)) now made own =
       either (Told known) (refusal_in sizes call (other ∷ earlier)) _ (all_told (other ∷ earlier) made.0 made.1 own.2)
       (tells step (other ∷ earlier) now made (refusal_in sizes call (other ∷ earlier)) own.1 (later_before step other earlier now made own (heads (other ∷ earlier) made.0 made.1 own.2)))
 
-  pub all_free : IsAlone start.view → (steps : List PassStep) (now : PassState) → HasMade steps start now → AreOwn sizes call steps → Free (refusal_in sizes call steps)
+  pub all_free : IsAlone start.view → (steps : List PassStep) (now : PassState) → HasMade steps start now → AreOwnAs sizes asked call steps → Free (refusal_in sizes call steps)
   all_free alone [] now made own = absurd own
   all_free alone (step ∷ []) now made own = frees step [] now made None own.1 (first_before step now made own) alone
   all_free alone (step ∷ (other ∷ earlier)) now made own =
@@ -448,21 +449,45 @@ free_answer : (result : Result Done Refusal) → Free (refusal_in_answer result)
 free_answer (Ok done) free = tt
 free_answer (Err refusal) free = free
 
-pub writes_tell_what_is_known : RunsAreSound → OwnEventsTell → WritesTellWhatIsKnown
-writes_tell_what_is_known sound tell fds fd at bytes start now result mount taken over =
+-- a write of its file, asked so, as one of what it is made as
+own_as : (asked one : FileCall) (sizes : Sizes) (steps : List PassStep) → plain_call asked ≡ one → AreOwnAs sizes asked (plain_call asked) steps → AreOwnAs sizes asked one steps
+own_as asked one sizes steps is = subst (λ made. AreOwnAs sizes asked made steps) is
+
+refused_as : (asked one : FileCall) (sizes : Sizes) (steps : List PassStep) (refusal : Option Refusal) → plain_call asked ≡ one → refusal_in sizes (plain_call asked) steps ≡ refusal → refusal_in sizes one steps ≡ refusal
+refused_as asked one sizes steps refusal is = subst (λ made. refusal_in sizes made steps ≡ refusal) is
+
+pub made_writes_tell : RunsAreSound → OwnEventsTell → WritesTellWhatIsKnownAs
+made_writes_tell sound tell asks fds fd at bytes start now result is_made mount taken over =
     by (early_refusal can_write start.view.opened.sizes fds fd at (length bytes)) (early_plain (Told (known_by start.view)) tt tt tt tt start.view.opened.sizes fds fd at (length bytes)) over
   where
-    by : (early : Option Refusal) → Told (known_by start.view) early → IsCallOver early (file_of_fd fds fd) (λ file. Write file at bytes) start now result → IsWriteRefusal (known_by start.view) result
+    by : (early : Option Refusal) → Told (known_by start.view) early → IsCallOver early (file_of_fd fds fd) asks start now result → IsWriteRefusal (known_by start.view) result
     by (Some refusal) told over = told_answer (known_by start.view) result (subst (λ r. Told (known_by start.view) (refusal_in_answer r)) (sym over.0) told)
     by None told over =
+        let sizes = start.view.opened.sizes in
+        let asked = asks over.0 in
+        let call = Write over.0 at bytes in
+        let own = own_as asked call sizes over.2.steps (is_made over.0) over.2.own in
         told_answer (known_by start.view) result
-        (subst (Told (known_by start.view)) over.2.refused (all_told sound tell start.view.opened.sizes over.0 at bytes start mount taken over.2.steps now over.2.made over.2.own))
+        (subst (Told (known_by start.view)) (refused_as asked call sizes over.2.steps (refusal_in_answer result) (is_made over.0) over.2.refused)
+        (all_told sound tell sizes over.0 at bytes asked (is_made over.0) start mount taken over.2.steps now over.2.made own))
 
-pub writes_alone_meet_nobody : RunsAreSound → OwnEventsTell → WritesAloneMeetNobody
-writes_alone_meet_nobody sound tell fds fd at bytes start now result mount knows alone over =
+pub made_writes_meet_nobody : RunsAreSound → OwnEventsTell → WritesAloneMeetNobodyAs
+made_writes_meet_nobody sound tell asks fds fd at bytes start now result is_made mount knows alone over =
     by (early_refusal can_write start.view.opened.sizes fds fd at (length bytes)) (early_plain Free tt tt tt tt start.view.opened.sizes fds fd at (length bytes)) over
   where
-    by : (early : Option Refusal) → Free early → IsCallOver early (file_of_fd fds fd) (λ file. Write file at bytes) start now result → MeetsNobody result
+    by : (early : Option Refusal) → Free early → IsCallOver early (file_of_fd fds fd) asks start now result → MeetsNobody result
     by (Some refusal) free over = free_answer result (subst (λ r. Free (refusal_in_answer r)) (sym over.0) free)
     by None free over =
-        free_answer result (subst Free over.2.refused (all_free sound tell start.view.opened.sizes over.0 at bytes start mount (λ zero. knows) alone over.2.steps now over.2.made over.2.own))
+        let sizes = start.view.opened.sizes in
+        let asked = asks over.0 in
+        let call = Write over.0 at bytes in
+        let own = own_as asked call sizes over.2.steps (is_made over.0) over.2.own in
+        free_answer result
+        (subst Free (refused_as asked call sizes over.2.steps (refusal_in_answer result) (is_made over.0) over.2.refused)
+        (all_free sound tell sizes over.0 at bytes asked (is_made over.0) start mount (λ zero. knows) alone over.2.steps now over.2.made own))
+
+pub writes_tell_what_is_known : RunsAreSound → OwnEventsTell → WritesTellWhatIsKnown
+writes_tell_what_is_known sound tell fds fd at bytes start now result = made_writes_tell sound tell (asks_write at bytes) fds fd at bytes start now result (λ file. refl)
+
+pub writes_alone_meet_nobody : RunsAreSound → OwnEventsTell → WritesAloneMeetNobody
+writes_alone_meet_nobody sound tell fds fd at bytes start now result = made_writes_meet_nobody sound tell (asks_write at bytes) fds fd at bytes start now result (λ file. refl)

@@ -35,6 +35,12 @@ early_fd_refusal may sizes (Some one) at len = if may one.mode then early_range_
 abbrev pub early_refusal : (may : Mode → Bool) → Sizes → List Fd → (fd at len : ℕ) → Option Refusal
 early_refusal may sizes fds fd at len = early_fd_refusal may sizes (slice_get fds fd) at len
 
+-- There is such a file, it has room for so many bytes, and these touch no more pages than a group has entries.
+pub record IsInFile (sizes : Sizes) (file at len : ℕ) : Type 0 where
+  pub known : file < sizes.files
+  pub near : at + len ≤ sizes.page * sizes.pages
+  pub short : pages_touched at len sizes.page ≤ min mount_layout.group_limit sizes.entries
+
 -- ---- the test
 
 -- A call that is not refused so is one of its descriptor's file, within what the core allows.

@@ -13,7 +13,9 @@ use Rattle.nv_mirror.specs.declared.answers.Done.{Done}
 use Rattle.nv_mirror.specs.declared.answers.Refusal.{Refusal}
 use Rattle.nv_mirror.specs.PassSteps.{PassStep, HasMade, fault_in, head_in}
 use Rattle.nv_calls.specs.fsync.SyncRuns.{file_of_fd, IsSyncRun}
+use Rattle.nv_calls.specs.calls.Asks.{asks_readv}
 use Rattle.nv_calls.specs.calls.EarlyRefusals.{early_refusal}
+use Rattle.nv_calls.specs.calls.EndedCalls.{IsCallOver}
 use Rattle.nv_calls.specs.reads.Reads.{IsReadOver}
 
 -- What a step needs to find, where its call loaded HEAD as it was: a lock is free, unless it is that of a page which is no page of the call, a victim's; STOP is 0, and
@@ -45,13 +47,22 @@ pub record IsComplete (asks : (file : ℕ) → FileCall) (early : Option Refusal
   pub done : early ≡ None → (one : ℕ) → file ≡ Some one → AllFind start.view.opened.sizes (plain_call (asks one)) steps → (answer : Done) × (result ≡ Ok answer)
   pub needed : (answer : Done) → result ≡ Ok answer → (one : ℕ) → file ≡ Some one → NoneFailed steps → AllFind start.view.opened.sizes (plain_call (asks one)) steps
 
+-- a law: each that is over is so, whatever made its steps
+abbrev pub CallsAreComplete : Type 0
+CallsAreComplete =
+    (early : Option Refusal) (file : Option ℕ) (asks : (file : ℕ) → FileCall) (start now : PassState) (result : Result Done Refusal)
+    → IsCallOver early file asks start now result → IsComplete asks early file start now result
+
 -- ---- reads
+
+abbrev pub IsCompleteReadv : List Fd → (fd at : ℕ) → (lens list : List ℕ) → (start now : PassState) → Result Done Refusal → Type 0
+IsCompleteReadv fds fd at lens list start now result =
+    IsComplete (asks_readv at lens (length list)) (early_refusal can_read start.view.opened.sizes fds fd at (length list)) (file_of_fd fds fd) start now result
 
 abbrev pub IsCompleteRead : List Fd → (fd at : ℕ) → (list : List ℕ) → (start now : PassState) → Result Done Refusal → Type 0
 IsCompleteRead fds fd at list start now result =
     IsComplete (λ file. Read file at (length list)) (early_refusal can_read start.view.opened.sizes fds fd at (length list)) (file_of_fd fds fd) start now result
 
--- a law: each that is over is so, whatever made its steps
 abbrev pub ReadsAreComplete : Type 0
 ReadsAreComplete =
     (fds : List Fd) (fd at : ℕ) (list : List ℕ) (start now : PassState) (result : Result Done Refusal)

@@ -13,10 +13,11 @@ use Rattle.nv_mirror.specs.declared.answers.Done.{Done}
 use Rattle.nv_mirror.specs.declared.answers.Refusal.{Refusal}
 use Rattle.nv_mirror.specs.Answers.{refusal_in_answer}
 use Rattle.nv_mirror.specs.PassSteps.{is_fault}
+use Rattle.nv_calls.specs.calls.Asks.{IsMadeAsRead, IsMadeAsWrite}
 use Rattle.nv_calls.specs.calls.EarlyRefusals.{early_refusal}
 use Rattle.nv_calls.specs.fsync.SyncRuns.{file_of_fd, IsSyncRun}
-use Rattle.nv_calls.specs.histories.Tries.{IsTried}
-use Rattle.nv_calls.specs.writes.Writes.{IsWriteTried}
+use Rattle.nv_calls.specs.histories.Tries.{IsTried, IsTriedAs}
+use Rattle.nv_calls.specs.writes.Writes.{IsWriteTried, IsWriteTriedAs}
 
 -- a write that a device fault ended, and the first number that it drew
 pub record OpenWrite : Type 0 where
@@ -47,6 +48,18 @@ OpensBy true fds fd at bytes start now = IsOpened fds fd at bytes start now
 OpensBy false fds fd at bytes start now = open_writes now ≡ open_writes start
 
 -- ---- laws: what became of them by a call that is over, whatever made its steps, and by all that were to be made again before it
+
+-- A write is an open one as what it is made as, whatever it was asked as.
+abbrev pub WritesOpenAs : Type 0
+WritesOpenAs =
+    (asks : (file : ℕ) → FileCall) (fds : List Fd) (fd at : ℕ) (bytes : List ℕ) (start now : PassState) (result : Result Done Refusal)
+    → IsMadeAsWrite asks at bytes → IsMount (mount_of start.view.opened) → IsWriteTriedAs asks fds fd at (length bytes) start now result
+    → OpensBy (is_fault (refusal_in_answer result)) fds fd at bytes start now
+
+abbrev pub ReadsOpenNothingAs : Type 0
+ReadsOpenNothingAs =
+    (asks : (len file : ℕ) → FileCall) (fds : List Fd) (fd at : ℕ) (list : List ℕ) (start now : PassState) (result : Result Done Refusal)
+    → IsMadeAsRead asks at (length list) → IsMount (mount_of start.view.opened) → IsTriedAs asks fds fd at list start now result → open_writes now ≡ open_writes start
 
 abbrev pub WritesOpen : Type 0
 WritesOpen =

@@ -1,5 +1,6 @@
 -- Going on: a call goes on from all that its pass knows, by itself and by those that it took in.
-use Rattle.std.specs.Prelude.{◌≡◌, ℕ, ◌≤◌, true, List, length, Some, Result, Err, IfOk}
+use Rattle.std.specs.Prelude.{◌≡◌, ℕ, ◌≤◌, true, List, length, Option, Some, Result, Err, IfOk}
+use Rattle.nv_plain.specs.declared.call.FileCall.{FileCall}
 use Rattle.nv_core.specs.steps.Frames.{Covers}
 use Rattle.nv_core.specs.steps.Opening.{IsMount}
 use Rattle.nv_table.specs.invariant.BetweenSteps.{KnowsTaken}
@@ -11,6 +12,7 @@ use Rattle.nv_mirror.specs.declared.answers.Done.{Done}
 use Rattle.nv_mirror.specs.declared.answers.Refusal.{Refusal}
 use Rattle.nv_mirror.specs.declared.answers.Refusal.TheVariants.{Stopped}
 use Rattle.nv_mirror.specs.PassSteps.{PassStep, HasMade}
+use Rattle.nv_calls.specs.calls.EndedCalls.{IsCallOver}
 use Rattle.nv_calls.specs.fsync.SyncRuns.{IsSyncRun, file_of_fd}
 use Rattle.nv_calls.specs.histories.Heeds.{loads_stop}
 use Rattle.nv_calls.specs.reads.Reads.{IsReadOver}
@@ -38,6 +40,12 @@ pub record GoesOnAtLast (start now : PassState) (result : Result Done Refusal) :
 
 -- ---- laws: so does each call that is over, whatever made its steps
 
+abbrev pub CallsGoOn : Type 0
+CallsGoOn =
+    (early : Option Refusal) (file : Option ℕ) (asks : (file : ℕ) → FileCall) (start now : PassState) (result : Result Done Refusal)
+    → IsMount (mount_of start.view.opened) → (start.view.number ≡ 0 → KnowsTaken start.view) → IsCallOver early file asks start now result → GoesOn start now result
+
+-- so reads, writes and fsyncs
 abbrev pub ReadsGoOn : Type 0
 ReadsGoOn =
     (fds : List Fd) (fd at : ℕ) (list : List ℕ) (start now : PassState) (result : Result Done Refusal)

@@ -1,5 +1,7 @@
 -- Heeds: a pass that has seen STOP is stopped for good.
 use Rattle.std.specs.Prelude.{◌≡◌, ℕ, Bool, true, false, ◌||◌, List, [], ◌∷◌, Some, Result, Err}
+use Rattle.nv_plain.specs.declared.call.FileCall.{FileCall}
+use Rattle.nv_plain.specs.declared.mode.Mode.{Mode}
 use Rattle.nv_core.specs.state.Words.{STOP}
 use Rattle.nv_core.specs.steps.Ops.{Op, Load}
 use Rattle.nv_core.specs.steps.Opening.{IsMount}
@@ -10,6 +12,8 @@ use Rattle.nv_mount.specs.declared.fds.Fd.{Fd}
 use Rattle.nv_mirror.specs.declared.answers.Done.{Done}
 use Rattle.nv_mirror.specs.declared.answers.Refusal.{Refusal}
 use Rattle.nv_mirror.specs.declared.answers.Refusal.TheVariants.{Stopped, RegionFault, StoreFault}
+use Rattle.nv_calls.specs.calls.EarlyRefusals.{early_refusal}
+use Rattle.nv_calls.specs.calls.EndedCalls.{IsCallOver}
 use Rattle.nv_calls.specs.fsync.SyncRuns.{file_of_fd, IsSyncRun}
 use Rattle.nv_mirror.specs.Answers.{refusal_in_answer}
 use Rattle.nv_mirror.specs.PassSteps.{PassStep, HasMade, is_fault, stops_in}
@@ -56,6 +60,12 @@ pub record SyncHeedsStop (fds : List Fd) (fd : ℕ) (start now : PassState) (res
 
 -- ---- laws: so does each call that is over, whatever made its steps
 
+abbrev pub CallsHeedStop : Type 0
+CallsHeedStop =
+    (may : Mode → Bool) (fds : List Fd) (fd at len : ℕ) (asks : (file : ℕ) → FileCall) (start now : PassState) (result : Result Done Refusal)
+    → IsMount (mount_of start.view.opened) → IsCallOver (early_refusal may start.view.opened.sizes fds fd at len) (file_of_fd fds fd) asks start now result → HeedsStop start now result
+
+-- so reads and fsyncs
 abbrev pub ReadsHeedStop : Type 0
 ReadsHeedStop =
     (fds : List Fd) (fd at : ℕ) (list : List ℕ) (start now : PassState) (result : Result Done Refusal)

@@ -1,8 +1,10 @@
 -- Write machines: where a write of a descriptor stands that is made one step at a time.
 use Rattle.std.specs.Prelude.{◌≡◌, ℕ, ◌+◌, ◌*◌, ◌≤◌, List, length, Option, Some, None, Result, Ok, Err}
 use Rattle.std.specs.Borrow.{Bor}
+use Rattle.std.specs.List.{concat}
 use Rattle.nv_plain.specs.Pieces.{pages_touched}
 use Rattle.nv_plain.specs.Modes.{can_write}
+use Rattle.nv_plain.specs.declared.call.FileCall.{FileCall}
 use Rattle.nv_plain.specs.declared.call.FileCall.TheVariants.{Write}
 use Rattle.nv_core.specs.state.Words.{Sizes}
 use Rattle.nv_table.specs.invariant.Idle.{IsIdle}
@@ -17,6 +19,7 @@ use Rattle.nv_ring.specs.declared.write.RunningWrite.TheVariants.{Over}
 use Rattle.nv_ring.specs.RunningWrites.{IsOpen, IsUnderWay, asked_in, write_measure}
 use Rattle.nv_ring.specs.WriteSteps.{first_kind, part_fault, with_list, write_fault, write_kind, write_place}
 use Rattle.nv_calls.specs.calls.Advances.{Standing}
+use Rattle.nv_calls.specs.calls.Asks.{asks_write, asks_writev}
 use Rattle.nv_calls.specs.calls.CallAnswers.{answer_of, done_at, done_of}
 use Rattle.nv_calls.specs.calls.EarlyRefusals.{early_refusal}
 use Rattle.nv_calls.specs.declared.progress.Progress.{Progress}
@@ -25,7 +28,7 @@ use Rattle.nv_calls.specs.declared.writing.WriteControl.{WriteControl}
 use Rattle.nv_calls.specs.declared.writing.WriteControl.TheVariants as writes
 use Rattle.nv_calls.specs.declared.writing.WriteMachine.{WriteMachine}
 use Rattle.nv_calls.specs.fsync.SyncRuns.{file_of_fd}
-use Rattle.nv_calls.specs.writes.Writes.{IsWriteOver}
+use Rattle.nv_calls.specs.writes.Writes.{IsWriteOverAs}
 
 -- ---- what comes next, and what has come of it
 
@@ -66,28 +69,42 @@ standing m = record { kind = next_kind_of m; place = place_so_far m; fault = fau
 
 -- ---- since a start
 
--- It isn't refused before its first step, and this is that write of its descriptor's file, of this list, which has made some steps.
-pub record IsOfFile (fds : List Fd) (m : WriteMachine) (list : List ℕ) (write : RunningWrite) (start now : PassState) : Type 0 where
+-- It isn't refused before its first step, and this is that write of its descriptor's file, of this list and asked so, which has made some steps.
+pub record IsOfFile (asked : (file : ℕ) → FileCall) (fds : List Fd) (m : WriteMachine) (list : List ℕ) (write : RunningWrite) (start now : PassState) : Type 0 where
   pub early : early_of start.view.opened.sizes fds m ≡ None
   pub file : ℕ
   pub file_is : file_of_fd fds m.fd ≡ Some file
-  pub asks : asked_in (Write file m.at list) write now ≡ Write file m.at list
+  pub asks : asked_in (asked file) write now ≡ asked file
   pub way : IsUnderWay (Write file m.at list) write start now
 
 -- Its pass was idle at the start. It has made no step yet, or is under way with a list of its bytes put in.
-abbrev pub StandsAt : List Fd → WriteMachine → (list : List ℕ) → (start now : PassState) → WriteControl → Type 0
-StandsAt fds m list start now writes.Begin = IsIdle start × (now ≡ start)
-StandsAt fds m list start now (writes.Running write) = IsOpen write × (lent : Bor (List ℕ)) × IsOfFile fds m list (with_list lent write) start now
+abbrev pub StandsAt : (asked : (file : ℕ) → FileCall) → List Fd → WriteMachine → (list : List ℕ) → (start now : PassState) → WriteControl → Type 0
+StandsAt asked fds m list start now writes.Begin = IsIdle start × (now ≡ start)
+StandsAt asked fds m list start now (writes.Running write) = IsOpen write × (lent : Bor (List ℕ)) × IsOfFile asked fds m list (with_list lent write) start now
 
-pub record IsWriteUnderWay (fds : List Fd) (m : WriteMachine) (list : List ℕ) (start now : PassState) : Type 0 where
+pub record IsWriteUnderWayAs (asked : (file : ℕ) → FileCall) (fds : List Fd) (m : WriteMachine) (list : List ℕ) (start now : PassState) : Type 0 where
   pub room : length list ≡ m.len
-  pub stands : StandsAt fds m list start now m.control
+  pub stands : StandsAt asked fds m list start now m.control
 
 -- It goes on from a start, or has told what a whole write tells: then its machine tells the same answer, and whether that is a device fault.
+abbrev pub WriteGoesAs : (asked : (file : ℕ) → FileCall) → List Fd → (start : PassState) → WriteMachine → (list : List ℕ) → (now : PassState) → Progress → Type 0
+WriteGoesAs asked fds start m list now More = IsWriteUnderWayAs asked fds m list start now
+WriteGoesAs asked fds start m list now (Ended result) =
+    (placed_by m ≡ done_of result) × (fault_so_far m ≡ part_fault (refusal_in_answer result)) × IsWriteOverAs asked fds m.fd m.at (length list) start now result
+
+-- so a write of a list
+abbrev pub IsWriteUnderWay : List Fd → WriteMachine → (list : List ℕ) → (start now : PassState) → Type 0
+IsWriteUnderWay fds m list start now = IsWriteUnderWayAs (asks_write m.at list) fds m list start now
+
 abbrev pub WriteGoes : List Fd → (start : PassState) → WriteMachine → (list : List ℕ) → (now : PassState) → Progress → Type 0
-WriteGoes fds start m list now More = IsWriteUnderWay fds m list start now
-WriteGoes fds start m list now (Ended result) =
-    (placed_by m ≡ done_of result) × (fault_so_far m ≡ part_fault (refusal_in_answer result)) × IsWriteOver fds m.fd m.at list start now result
+WriteGoes fds start m list now progress = WriteGoesAs (asks_write m.at list) fds start m list now progress
+
+-- and of parts
+abbrev pub IsWritevUnderWay : List Fd → WriteMachine → (parts : List (List ℕ)) → (start now : PassState) → Type 0
+IsWritevUnderWay fds m parts start now = IsWriteUnderWayAs (asks_writev m.at parts) fds m (concat parts) start now
+
+abbrev pub WritevGoes : List Fd → (start : PassState) → WriteMachine → (parts : List (List ℕ)) → (now : PassState) → Progress → Type 0
+WritevGoes fds start m parts now progress = WriteGoesAs (asks_writev m.at parts) fds start m (concat parts) now progress
 
 -- ---- an advance
 
@@ -120,7 +137,7 @@ pub record IsPutInAs (sizes : Sizes) (fds : List Fd) (m : WriteMachine) (list : 
   pub place : write_place write ≡ place_so_far m
   pub fault : write_fault write ≡ fault_so_far m
   pub fewer : write_measure write ≤ measure sizes m
-  pub way : (start now : PassState) → now.view.opened.sizes ≡ sizes → IsWriteUnderWay fds m list start now → IsOfFile fds m list write start now
+  pub way : (asked : (file : ℕ) → FileCall) (start now : PassState) → now.view.opened.sizes ≡ sizes → IsWriteUnderWayAs asked fds m list start now → IsOfFile asked fds m list write start now
 
 -- unless it is refused before its first step
 abbrev pub IsPutIn : Sizes → List Fd → WriteMachine → (list : List ℕ) → Result RunningWrite Refusal → Type 0

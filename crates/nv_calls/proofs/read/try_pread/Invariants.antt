@@ -1,6 +1,7 @@
 -- It is asked as what it is made as.
-use Rattle.nv_cache.specs.RunningReads.{made_call}
+use Rattle.std.proofs.Common.{length}
+use Rattle.nv_plain.specs.declared.call.FileCall.TheVariants.{Read}
 use Rattle.nv_calls.proofs.read.try_pread.Given as goal
 
-abbrev pub ghosts-run : goal.ghosts-run
-ghosts-run g a = record { call = made_call a.self }
+abbrev pub ghosts-read_as : goal.ghosts-read_as
+ghosts-read_as g a = record { call = Read a.file a.at (length a.list.now) }

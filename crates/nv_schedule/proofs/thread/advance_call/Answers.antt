@@ -33,7 +33,7 @@ returns-then-anew-clause-goes g c = λ later last at.
     let way = of_trying fds call c.in_ok-tried.tried t.0 c.args.pass.now t.2 in
     let over = subst (TryGoes fds call c.advance-progress.new.self t.0 c.advance-progress.new.pass) c.in-Ended.is (c.advance-progress.ensures.goes t.0 t.2) in
     subst (λ (hand : Option Hand). IsAtCall fds (c.args.call.now ∷ later) hand last c.advance-progress.new.pass) (sym c.in_ok-tried.ensures.none) (
-      tried_more c.refused_writes_leave_words.ensures fds call (list_at_hand c.advance-progress.new.self) last t.0 c.advance-progress.new.pass c.in-Ended.ended
+      tried_more c.refused_writes_leave_words.ensures.writes fds call (list_at_hand c.advance-progress.new.self) last t.0 c.advance-progress.new.pass c.in-Ended.ended
           (subst (λ (o : Opened). IsMount (mount_of o)) way.mount c.sees_a_run.ensures.mount) way.idle t.1 over (sym c.anew.ensures ∙ c.if-anew.true),
       over_idle fds call (list_at_hand c.advance-progress.new.self) t.0 c.advance-progress.new.pass c.in-Ended.ended way.idle over,
     )

@@ -9,5 +9,6 @@ returns-in-Running g c =
     let m = c.args.self.now in
     let fds = c.args.mount.now.fds in
     let sizes = c.args.mount.now.board.opened.sizes in
-    let stands = subst (StandsAt fds m c.args.list.now c.requires.under_way.0 c.requires.under_way.1) c.in-Running.is c.requires.under_way.3.stands in
-    subst (IsPutInAs sizes fds m c.args.list.now) (sym c.with_list.ensures) (puts_running sizes fds m c.args.list c.requires.under_way.3.room c.in-Running.write c.in-Running.is stands.0)
+    let way = c.requires.under_way in
+    let stands = subst (StandsAt way.0 fds m c.args.list.now way.1 way.2) c.in-Running.is way.4.stands in
+    subst (IsPutInAs sizes fds m c.args.list.now) (sym c.with_list.ensures) (puts_running sizes fds m c.args.list way.4.room c.in-Running.write c.in-Running.is stands.0)
