@@ -20,7 +20,7 @@ done
     echo "no_memory: nv_plain nv_pmem nv_store nv_bench nv_header nv_table nv_mount nv_calls nv_clean"
 } > "$room/crates.txt"
 # More numbers than there are calls.
-for call in {00..57}; do
+for call in {00..69}; do
     : > "$room/cases/$call"
     echo "$call" > "$room/cases/$call.args"
 done

@@ -16,3 +16,5 @@ mod groups;
 mod machines;
 #[cfg(test)]
 mod mounts;
+#[cfg(test)]
+mod vectored;
