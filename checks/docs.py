@@ -147,7 +147,7 @@ def missing_files(page):
 def foreign_code(page):
     """Lines of Rust that the example doesn't have, but for comments."""
     sources = [file for name in ("nv_example", "nv_four", "nv_keys") for file in (TOP / "crates" / name / "src").glob("*.rt")]
-    sources.append(TOP / "crates/nv_pmem/src/file_part.rt")
+    sources += [TOP / "crates/nv_pmem/src/file_part.rt", TOP / "crates/nv_board_tests/src/vectored.rt"]
     known = {line.strip() for file in sources for line in file.read_text().split("\n")}
     for block in re.findall(r"^```(?:rust)?\n(.*?)^```", page.read_text(), re.M | re.S):
         if "let " not in block and "fn " not in block:

@@ -15,7 +15,10 @@ mod work;
 pub use descriptors::{FdError, open_fd};
 pub use first::FirstSession;
 pub use nv_bench::{Bench, BenchError, FolderBench, MemBench};
-pub use nv_calls::{Done, Refusal, pread, pwrite, try_fsync, try_pread, try_pwrite};
+pub use nv_calls::{
+    AddError, Done, Gather, Refusal, Scatter, pread, preadv, pwrite, pwritev, try_fsync, try_pread,
+    try_preadv, try_pwrite, try_pwritev,
+};
 pub use nv_clean::{CleanRefusal, Cleaned, try_clean};
 pub use nv_header::{Names, Region};
 pub use nv_mount::{Fds, Mount};
