@@ -346,7 +346,7 @@ module _ (given left : Option (List ℕ)) (before now : ℕ) (old new : BenchSta
 
   shown_good : (command : Command) (text : List ℕ) → HasMadeRegion command result → IsShown command given old new was text → IsGood here.parts
   shown_good (Run options) text made shows = of_read forms.Run given _ (IsGood here.parts) (λ trace run. shown_run options options.stop trace text run) shows
-  shown_good (Sched options) text made shows = of_read forms.Sched given _ (IsGood here.parts) (λ trace run. rests_good here new.told told_here run.scheduled.left.lost.rests) shows
+  shown_good (Sched options) text made shows = of_read forms.Sched given _ (IsGood here.parts) (λ trace run. rests_good here new.told told_here run.last.scheduled.left.lost.rests) shows
   shown_good Recover text made shows = leaves_good here new.told told_here shows.left
   shown_good (Look files) text made shows = absurd made
   shown_good (Gen load) text made shows = leaves_good here new.told told_here shows.ran.left

@@ -87,14 +87,14 @@ mapped_moves f xs [] = refl
 mapped_moves f xs (p ∷ ps) = map_swapped f (apply_swaps xs ps) p.0 p.1 ∙ ap (λ l. swap l p.0 p.1) (mapped_moves f xs ps)
 
 -- an order of what is made of some is what is made of an order of these
-ordered : {X Y : Type 0} (f : X → Y) (xs : List X) (ys : List Y) → IsPermutation (map f xs) ys → (zs : List X) × IsPermutation xs zs × (ys ≡ map f zs)
+pub ordered : {X Y : Type 0} (f : X → Y) (xs : List X) (ys : List Y) → IsPermutation (map f xs) ys → (zs : List X) × IsPermutation xs zs × (ys ≡ map f zs)
 ordered f xs ys moved = (
   apply_swaps xs moved.moves,
   record { moves = moved.moves; below = subst (λ n. SwapsInRange n moved.moves) (length-map xs f) moved.below; is = refl },
   moved.is ∙ sym (mapped_moves f xs moved.moves),
 )
 
-falls_before : {X Y : Type 0} (f : X → Y) (key : Y → ℕ) (xs : List X) → IsNonDecreasingBy key (map f xs) → IsNonDecreasingBy (λ x. key (f x)) xs
+pub falls_before : {X Y : Type 0} (f : X → Y) (key : Y → ℕ) (xs : List X) → IsNonDecreasingBy key (map f xs) → IsNonDecreasingBy (λ x. key (f x)) xs
 falls_before f key xs rises i j d before within =
     let long = length-map xs f in
     let up = rises i j (f d) before (omega (arith, long)) in

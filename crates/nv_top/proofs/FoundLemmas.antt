@@ -178,7 +178,7 @@ next_finds_stopped options old new holding trace text run own =
     rests.rests.stores_are rests.rests.files_are (named_many power.parts names power.stores) own)
 
 pub next_finds_scheduled : NextFindsScheduled
-next_finds_scheduled options old new holding trace text run own =
+next_finds_scheduled options old new holding trace run own =
     let names = run.basis.names in
     let power = run.scheduled.left.lost.power in
     let rests = run.scheduled.left.lost.rests in
@@ -187,8 +187,8 @@ next_finds_scheduled options old new holding trace text run own =
     (named_many power.parts names power.stores) own
 
 pub next_finds_shown : NextFindsShown
-next_finds_shown options old new holding trace text run own =
-    subst (λ files. FindsFiles run.basis.names files run.scheduled.left.lost.rests.now) run.scheduled.shows (next_finds_scheduled options old new holding trace text run own)
+next_finds_shown options old new holding trace run own =
+    subst (λ files. FindsFiles run.basis.names files run.scheduled.left.lost.rests.now) run.scheduled.shows (next_finds_scheduled options old new holding trace run own)
 
 pub next_finds_recovered : NextFindsRecovered
 next_finds_recovered holding told text recovered own =

@@ -23,8 +23,9 @@ use Rattle.nv_trace.specs.declared.trace.Form.{Form}
 use Rattle.nv_trace.specs.declared.trace.Form.TheVariants as forms
 use Rattle.nv_load.specs.Generated.{generated}
 use Rattle.nv_top.specs.Commands.{HasRecovered, HasRunOn, IsBasis, IsLookedAt}
-use Rattle.nv_top.specs.Headline.{HasFollowed, HasStopped, IsLeftBy, IsShown, IsShownOf}
+use Rattle.nv_top.specs.Headline.{HasStopped, IsLeftBy, IsShown, IsShownOf, ShowsLives}
 use Rattle.nv_top.specs.InTurn.{EachHasALife, GoesOn, IsLifeOf, IsShownLife, Life, LivesGoOnInTurn, files_into}
+use Rattle.nv_top.specs.LifeLines.{IsTextOfLives}
 use Rattle.nv_top.specs.Loads.{load_options}
 use Rattle.nv_top.specs.NextCommands.{BeginsWith, FindsFiles, HasOwnNames, IsReportOf, done_by}
 use Rattle.nv_top.specs.Endings.{OfRead}
@@ -94,18 +95,19 @@ module _ (options : RunOptions) (was now : Holding) where
         found = subst (FindsFiles run.basis.names (files_shown run.basis trace stopped.report)) same (next_finds_stopped options old new was trace text run (subst HasOwnNames (sym same) own));
       }
 
-  scheduled_reported : (old new : BenchState) (trace : Traced) (text : List ℕ) → new.told ≡ Some now → HasOwnNames now → HasFollowed (Rose old.faults new.faults) options old.picked was new trace text
-      → Reported options was now trace (λ report. text ≡ text_as shows.Report report)
+  scheduled_reported : (old new : BenchState) (trace : Traced) (text : List ℕ) → new.told ≡ Some now → HasOwnNames now → ShowsLives (Rose old.faults new.faults) options old.picked was new trace text
+      → Reported options was now trace (λ report. IsTextOfLives [] report text)
   scheduled_reported old new trace text tells own run =
-      let scheduled = run.scheduled in
+      let last = run.last in
+      let scheduled = last.scheduled in
       let rests = scheduled.left.lost.rests in
       let same : rests.now ≡ now = some_is (sym rests.told_is ∙ tells) in record {
-        basis = run.basis;
+        basis = last.basis;
         report = scheduled.report;
-        begun = run.begun;
+        begun = last.begun;
         faithful = inr (inr (old.faults, new.faults, scheduled.faithful));
-        shows = scheduled.text_is;
-        found = subst (FindsFiles run.basis.names (files_shown run.basis trace scheduled.report)) same (next_finds_shown options old new was trace text run (subst HasOwnNames (sym same) own));
+        shows = run.text_is;
+        found = subst (FindsFiles last.basis.names (files_shown last.basis trace scheduled.report)) same (next_finds_shown options old new was trace last (subst HasOwnNames (sym same) own));
       }
 
   run_reported : (stop : Option ℕ) (old new : BenchState) (trace : Traced) (text : List ℕ) → new.told ≡ Some now → HasOwnNames now → IsShownOf stop options old new was trace text
@@ -118,19 +120,18 @@ module _ (options : RunOptions) (was now : Holding) where
   Goes life = (names : List (List ℕ)) (files : Files) → FindsFiles names files was → GoesOn names files was life now
 
   -- its life
-  life_of : (show : Show) (trace : Traced) (text : List ℕ) → Reported options was now trace (λ report. text ≡ text_as show report)
-      → (life : Life) × IsShownLife show options was trace text life × Goes life
-  life_of show trace text r = (
+  life_of : (IsShownSo : Report → Type 0) (trace : Traced) → Reported options was now trace IsShownSo → (life : Life) × IsShownLife IsShownSo options was trace life × Goes life
+  life_of IsShownSo trace r = (
     life_by r.basis trace r.report,
-    record { basis = r.basis; begun = r.begun; report = r.report; text_is = r.shows; faithful = r.faithful; wanted_are = refl; done_is = refl },
+    record { basis = r.basis; begun = r.begun; report = r.report; shown = r.shows; faithful = r.faithful; wanted_are = refl; done_is = refl },
     λ names files finds. goes_on names files was now options.worker r.basis trace r.report r.faithful (finds.begins options trace.names r.basis r.begun) r.found,
   )
 
   -- that of a trace which was read
-  read_life : (form : Form) (input : Option (List ℕ)) (text : List ℕ) → OfRead form input (λ trace. Reported options was now trace (λ report. text ≡ text_as shows.Report report))
-      → (life : Life) × OfRead form input (λ trace. IsShownLife shows.Report options was trace text life) × Goes life
-  read_life form None text (trace, form_is, runnable, r) = let life = life_of shows.Report trace text r in (life.0, (trace, form_is, runnable, life.1), life.2)
-  read_life form (Some input) text (trace, whole, r) = let life = life_of shows.Report trace text r in (life.0, (trace, whole, life.1), life.2)
+  read_life : (IsShownSo : Report → Type 0) (form : Form) (input : Option (List ℕ)) → OfRead form input (λ trace. Reported options was now trace IsShownSo)
+      → (life : Life) × OfRead form input (λ trace. IsShownLife IsShownSo options was trace life) × Goes life
+  read_life IsShownSo form None (trace, form_is, runnable, r) = let life = life_of IsShownSo trace r in (life.0, (trace, form_is, runnable, life.1), life.2)
+  read_life IsShownSo form (Some input) (trace, whole, r) = let life = life_of IsShownSo trace r in (life.0, (trace, whole, life.1), life.2)
 
 of_read : (form : Form) (input : Option (List ℕ)) (P Q : Traced → Type 0) → ((trace : Traced) → P trace → Q trace) → OfRead form input P → OfRead form input Q
 of_read form None P Q each (trace, form_is, runnable, is) = (trace, form_is, runnable, each trace is)
@@ -191,17 +192,17 @@ looked_stays true old new was now told tells own left names files finds =
 life_by_command : (command : Command) (input : Option (List ℕ)) (old new : BenchState) (text : List ℕ) (was now : Holding) → old.told ≡ Some was → new.told ≡ Some now → HasOwnNames was → HasOwnNames now
     → IsLeftBy command old new → IsShown command input old new was text → HasLife command input text was now
 life_by_command (Run options) input old new text was now told tells own own_now left shown =
-    read_life options was now forms.Run input text
+    read_life options was now (λ report. text ≡ text_as shows.Report report) forms.Run input
     (of_read forms.Run input (λ trace. IsShownOf options.stop options old new was trace text) (λ trace. Reported options was now trace (λ report. text ≡ text_as shows.Report report))
     (λ trace is. run_reported options was now options.stop old new trace text tells own_now is) shown)
 life_by_command (Sched options) input old new text was now told tells own own_now left shown =
-    read_life options was now forms.Sched input text
-    (of_read forms.Sched input (λ trace. HasFollowed (Rose old.faults new.faults) options old.picked was new trace text) (λ trace. Reported options was now trace (λ report. text ≡ text_as shows.Report report))
+    read_life options was now (λ report. IsTextOfLives [] report text) forms.Sched input
+    (of_read forms.Sched input (λ trace. ShowsLives (Rose old.faults new.faults) options old.picked was new trace text) (λ trace. Reported options was now trace (λ report. IsTextOfLives [] report text))
     (λ trace is. scheduled_reported options was now old new trace text tells own_now is) shown)
 life_by_command Recover input old new text was now told tells own own_now left shown = (idle, refl, recovered_stays was now new.told text tells own_now shown)
 life_by_command (Look files) input old new text was now told tells own own_now left shown = (idle, refl, looked_stays files old new was now told tells own left)
 life_by_command (Gen load) input old new text was now told tells own own_now left shown =
-    life_of load_options was now (shows.Summary load) (generated load) text (ran_reported load_options was now (shows.Summary load) new (generated load) text tells own_now shown.ran)
+    life_of load_options was now (λ report. text ≡ text_as (shows.Summary load) report) (generated load) (ran_reported load_options was now (shows.Summary load) new (generated load) text tells own_now shown.ran)
 
 pub each_has_a_life : EachHasALife
 each_has_a_life one = life_by_command one.command one.input one.old one.new one.text one.was one.now one.told one.tells one.own_was one.own_now one.left one.shown

@@ -33,5 +33,6 @@ pub mod NextLemmas
 pub mod FoundLemmas
 pub mod InTurnLemmas
 pub mod FollowedLemmas
+pub mod LifeLineLemmas
 pub mod SchedulingLemmas
 pub mod ScheduleLifeLemmas

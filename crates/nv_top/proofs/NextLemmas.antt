@@ -145,7 +145,7 @@ next_is_ready (Sched options) input old new holding text ready told room has lef
     let Shown : Option (List ℕ) → Type 0 = λ input. IsShown (Sched options) input old new holding text in
     let report = subst Shown has.1 shown in
     schedule_ready old new holding ready told room counts left.0
-    (rests_quiet report.2.basis.names holding (told_at old.told IsQuietHolding holding told ready.quiet) report.2.scheduled.left.lost.rests)
+    (rests_quiet report.2.last.basis.names holding (told_at old.told IsQuietHolding holding told ready.quiet) report.2.last.scheduled.left.lost.rests)
 next_is_ready Recover input old new holding text ready told room has left counts shown =
     given_ready old new holding ready told room counts left (left_quiet (told_at old.told IsQuietHolding holding told ready.quiet) shown.left)
 next_is_ready (Look files) input old new holding text ready told room has left counts shown = look_ready old new holding ready told room counts files left
@@ -182,7 +182,7 @@ next_begins_behind_stop options later old new holding trace text run wanted basi
     (begins_at mount_version run.basis.sizes.page run.basis.sizes.entries (next_in run.stopped.left.lost.power.parts run.basis.files) run.basis.names rests.now later wanted basis rests.rests.rest second).0
 
 pub next_begins_behind_schedule : NextBeginsBehindSchedule
-next_begins_behind_schedule options later old new holding trace text run wanted basis second =
+next_begins_behind_schedule options later old new holding trace run wanted basis second =
     let rests = run.scheduled.left.lost.rests in
     (begins_at mount_version run.basis.sizes.page run.basis.sizes.entries (next_in run.scheduled.left.lost.power.parts run.basis.files) run.basis.names rests.now later wanted basis rests.rests.rest second).0
 

@@ -19,8 +19,8 @@ use Rattle.nv_trace.specs.Lines.{onto_first, parts_between, but_last, fields_of,
 use Rattle.nv_trace.specs.Report.{spaced, line_text, hex_text, listed, call_fields, reply_text, refusal_text, fate_text, history_text, refused_text, open_text, recovered_text, file_text, end_text}
 use Rattle.nv_runner.specs.Histories.{PlacedCall}
 use Rattle.nv_runner.specs.Reports.{NamedFile, OpenCall, Report, ShownRefusal, history_lines, refused_lines}
-use Rattle.nv_top.specs.Reports.{RecoveryReport, open_lines, file_lines, report_text, recovery_text}
-use Rattle.nv_top.specs.Readings.{behind_last, refusal_fields, placed_fields, history_listing, refused_fields, open_fields, recovered_fields, file_fields, end_fields, listing, recovery_listing, IsPlainByte, HavePlainNames}
+use Rattle.nv_top.specs.Reports.{RecoveryReport, crash_text, ended_lines as ended_text_lines, file_lines, lives_text, open_in_lives, open_lines, placed_in_lives, recovery_text, report_text}
+use Rattle.nv_top.specs.Readings.{behind_last, refusal_fields, placed_fields, history_listing, refused_fields, open_fields, recovered_fields, file_fields, end_fields, ended_listing, listing, lives_end_fields, lives_listing, recovery_listing, IsPlainByte, HavePlainNames}
 
 abbrev IsPlain : List ℕ → Type 0
 IsPlain text = Each IsPlainByte text
@@ -219,6 +219,40 @@ report_text_is report =
     ∙ ap (λ text. lines_text placed ++ lines_text refused ++ lines_text left ++ text ++ line_text last) (file_text_is report.files)
     ∙ sym (lines_text-five placed refused left files last)
 
+lines_text-four : (ws xs : List (List (List ℕ))) (one : List (List ℕ)) (rest : List (List (List ℕ))) → lines_text (ws ++ xs ++ one ∷ rest) ≡ lines_text ws ++ lines_text xs ++ line_text one ++ lines_text rest
+lines_text-four ws xs one rest =
+    flat_map-append line_text (ws ++ xs) (one ∷ rest) ∙ ap (λ text. text ++ (line_text one ++ lines_text rest)) (flat_map-append line_text ws xs)
+    ∙ sym (append_assoc (lines_text ws ++ lines_text xs) (line_text one) (lines_text rest))
+
+ended_text_is : (place : ℕ) (ended : List Report) → ended_text_lines place ended ≡ lines_text (ended_listing place ended)
+unfolding crash_text
+ended_text_is place [] = refl
+ended_text_is place (life ∷ later) =
+    let placed = history_listing place life.history in
+    let left = map open_fields life.open_calls in
+    let rest = ended_listing (place + length life.history) later in
+    ap (λ text. text ++ open_lines life.open_calls ++ crash_text ++ ended_text_lines (place + length life.history) later) (history_text_is place life.history)
+    ∙ ap (λ text. lines_text placed ++ text ++ crash_text ++ ended_text_lines (place + length life.history) later) (open_text_is life.open_calls)
+    ∙ ap (λ text. lines_text placed ++ lines_text left ++ crash_text ++ text) (ended_text_is (place + length life.history) later)
+    ∙ sym (lines_text-four placed left (codes "crash" ∷ []) rest)
+
+lives_text_is : (ended : List Report) (refused : List ShownRefusal) (last : Report) → lives_text ended refused last ≡ lines_text (lives_listing ended refused last)
+unfolding lives_text end_text
+lives_text_is ended refused last =
+    let before = ended_listing 0 ended in
+    let placed = history_listing (placed_in_lives ended) last.history in
+    let said = map refused_fields refused in
+    let left = map open_fields last.open_calls in
+    let files = map file_fields last.files in
+    let end = lives_end_fields ended refused last in
+    ap (λ text. text ++ history_lines (placed_in_lives ended) last.history ++ refused_lines refused ++ open_lines last.open_calls ++ file_lines last.files ++ line_text end) (ended_text_is 0 ended)
+    ∙ ap (λ text. lines_text before ++ text ++ refused_lines refused ++ open_lines last.open_calls ++ file_lines last.files ++ line_text end) (history_text_is (placed_in_lives ended) last.history)
+    ∙ ap (λ text. lines_text before ++ lines_text placed ++ text ++ open_lines last.open_calls ++ file_lines last.files ++ line_text end) (refused_text_is refused)
+    ∙ ap (λ text. lines_text before ++ lines_text placed ++ lines_text said ++ text ++ file_lines last.files ++ line_text end) (open_text_is last.open_calls)
+    ∙ ap (λ text. lines_text before ++ lines_text placed ++ lines_text said ++ lines_text left ++ text ++ line_text end) (file_text_is last.files)
+    ∙ ap (λ text. text ++ lines_text said ++ lines_text left ++ lines_text files ++ line_text end) (sym (flat_map-append line_text before placed))
+    ∙ sym (lines_text-five (before ++ placed) said left files end)
+
 recovery_text_is : (report : RecoveryReport) → recovery_text report ≡ lines_text (recovery_listing report)
 unfolding recovery_text recovered_text
 recovery_text_is report = ap (λ text. line_text (recovered_fields report) ++ text) (file_text_is report.files)
@@ -393,6 +427,35 @@ listing_plain report plain =
     (files_plain report.files plain))
     (end_plain report, tt)
 
+ended_plain : (place : ℕ) (ended : List Report) → Each IsLine (ended_listing place ended)
+ended_plain place [] = tt
+ended_plain place (life ∷ later) =
+    let placed = history_listing place life.history in
+    let left = map open_fields life.open_calls in
+    each-append IsLine (placed ++ left) ((codes "crash" ∷ []) ∷ ended_listing (place + length life.history) later)
+    (each-append IsLine placed left (history_plain place life.history) (all_open_plain life.open_calls))
+    ((word (codes "crash") refl, tt), ended_plain (place + length life.history) later)
+
+lives_end_plain : (ended : List Report) (refused : List ShownRefusal) (last : Report) → IsLine (lives_end_fields ended refused last)
+lives_end_plain ended refused last =
+    (word (codes "end") refl, (decimal_plain (placed_in_lives ended + length last.history), (decimal_plain (length refused), (decimal_plain (open_in_lives ended + length last.open_calls), tt))))
+
+lives_plain : (ended : List Report) (refused : List ShownRefusal) (last : Report) → HavePlainNames last.files → Each IsLine (lives_listing ended refused last)
+lives_plain ended refused last plain =
+    let placed = history_listing (placed_in_lives ended) last.history in
+    let said = map refused_fields refused in
+    let left = map open_fields last.open_calls in
+    let files = map file_fields last.files in
+    let end = lives_end_fields ended refused last ∷ [] in
+    let before = ended_listing 0 ended in
+    each-append IsLine (before ++ placed ++ said ++ left ++ files) end
+    (each-append IsLine (before ++ placed ++ said ++ left) files
+    (each-append IsLine (before ++ placed ++ said) left
+    (each-append IsLine (before ++ placed) said
+    (each-append IsLine before placed (ended_plain 0 ended) (history_plain (placed_in_lives ended) last.history)) (all_refused_plain refused)) (all_open_plain last.open_calls))
+    (files_plain last.files plain))
+    (lives_end_plain ended refused last, tt)
+
 -- ---- the text of a report is read back
 
 report_read : (report : Report) → HavePlainNames report.files → map fields_of (ended_lines (report_text report)) ≡ listing report
@@ -402,6 +465,15 @@ report_read report plain =
 pub one_reading : (report other : Report) → HavePlainNames report.files → HavePlainNames other.files → report_text report ≡ report_text other → listing report ≡ listing other
 one_reading report other p q same =
     sym (report_read report p) ∙ (ap (λ text. map fields_of (ended_lines text)) same ∙ report_read other q)
+
+lives_read : (ended : List Report) (refused : List ShownRefusal) (last : Report) → HavePlainNames last.files → map fields_of (ended_lines (lives_text ended refused last)) ≡ lives_listing ended refused last
+lives_read ended refused last plain =
+    ap (λ text. map fields_of (ended_lines text)) (lives_text_is ended refused last) ∙ text_read (lives_listing ended refused last) (lives_plain ended refused last plain)
+
+pub one_lives_reading : (ended others : List Report) (refused rejected : List ShownRefusal) (last final : Report) → HavePlainNames last.files → HavePlainNames final.files
+    → lives_text ended refused last ≡ lives_text others rejected final → lives_listing ended refused last ≡ lives_listing others rejected final
+one_lives_reading ended others refused rejected last final p q same =
+    sym (lives_read ended refused last p) ∙ (ap (λ text. map fields_of (ended_lines text)) same ∙ lives_read others rejected final q)
 
 recovery_read : (report : RecoveryReport) → HavePlainNames report.files → map fields_of (ended_lines (recovery_text report)) ≡ recovery_listing report
 recovery_read report plain =

@@ -48,12 +48,13 @@ use Rattle.nv_schedule.specs.declared.schedule_error.ScheduleError.{ScheduleErro
 use Rattle.nv_schedule.specs.declared.schedule_error.ScheduleError.TheVariants.{Fault, NoMemory, TurnsUsed}
 use Rattle.nv_schedule.specs.declared.scheduled.ScheduledCalls.{ScheduledCalls}
 use Rattle.nv_top.specs.Runs.{BeginsMount, HasCache}
+use Rattle.nv_top.specs.LifeLines.{AreLinesOf}
 use Rattle.nv_top.specs.Outcomes.{shown_report}
-use Rattle.nv_top.specs.Reports.{report_text}
+use Rattle.nv_top.specs.declared.life.LifeLines.{LifeLines}
 use Rattle.nv_top.specs.Commands.{HasRecovered, recovery_of}
 use Rattle.nv_top.specs.Behind.{HasLostPowerBehind, HoldsCells}
-use Rattle.nv_top.specs.Scheduling.{HasScheduledOn, HasUsedTurns, IsArmedAt, IsArmedAtSome, IsOpenedFor, ShowsOutcome, fds_in}
-use Rattle.nv_top.specs.Stopping.{IsSettledStop, RestsWith, ShowsOpen, StopSettles}
+use Rattle.nv_top.specs.Scheduling.{HasUsedTurns, IsArmedAt, IsArmedAtSome, IsOpenedFor, ShowsOutcome, ShowsScheduled, fds_in}
+use Rattle.nv_top.specs.Stopping.{IsSettledStop, RestsWith, StopSettles}
 use Rattle.nv_top.specs.declared.ending.Stop.{Stop}
 use Rattle.nv_top.specs.declared.ending.Stop.TheVariants as stops
 use Rattle.nv_words.specs.declared.words.RunOptions.{RunOptions}
@@ -77,7 +78,7 @@ module _ (basis : Basis) (trace : Traced) (mount : MountState) (pass zero : Pass
     (cached : HasCache options.cache mount) (failed : Type 0) (saw : SawStop zero.view → failed) (allowed : AreFileNames mount_layout basis.names)
     (formed : IsWellFormed trace) (few : length trace.calls < 2 ^ 60) (rise : IsStrictlyIncreasing (lines_in trace)) (no_rounds : has_rounds trace.form ≡ false) (is_mount : IsMount (mount_of mount.board.opened))
     (core : HasRunInCore mount.board.opened mount.fds trace.tokens trace.calls options.batch zero.view lent armed outcome) (begin_so : SchedulesBegin) (told_so : SchedulesAreTold) (legal_so : SchedulesAreLegal) (faithful_so : SchedulesAreFaithful) (files_so : DescriptorsSayFiles) (kept_so : LeftOpenAreKept)
-    (stand_so : ReadableStandsForRecovered) (before : List Pick) (bench : BenchState) (text : List ℕ) (home after_power : Holding) (shows_so : ShowsOutcome after_power outcome bench.told text)
+    (stand_so : ReadableStandsForRecovered) (before : List Pick) (bench : BenchState) (place : ℕ) (final : Bool) (lines : LifeLines) (home after_power : Holding) (shows_so : ShowsOutcome place final after_power outcome bench.told lines)
     (power_left : left_last bench ≡ Some after_power) (picked : bench.picked ≡ options.image ∷ before) (cells : HoldsCells zero.view basis.names home) (power_is : after_power ≡ powered options.image home)
     (many : ℕ) (many_so : length after_power.parts ≡ many) (others : List NamedStore) (others_so : without_stores basis.names after_power.stores ≡ others)
     (left : LeavesWholeWrites zero.view basis.files basis.names (row_words after_power.parts) (files_of (stores_named basis.names after_power.stores))) where
@@ -87,7 +88,7 @@ module _ (basis : Basis) (trace : Traced) (mount : MountState) (pass zero : Pass
   names_so : header_names after_power.parts ≡ basis.names
   names_so = names_read after_power.parts left.header.readable ∙ left.header.names_are
 
-  pub has_scheduled : HasScheduledOn failed options before basis trace many others bench text
+  pub has_scheduled : ShowsScheduled failed options before basis trace many others bench place final lines
   has_scheduled =
       let found = shows_so.shown.found in
       let shown = shows_so.shown.shown in
@@ -96,41 +97,43 @@ module _ (basis : Basis) (trace : Traced) (mount : MountState) (pass zero : Pass
       let ran : HasRunInCore mount.board.opened mount.fds trace.tokens trace.calls options.batch zero.view lent armed (Ok shows_so.calls) =
       subst (λ outcome. HasRunInCore mount.board.opened mount.fds trace.tokens trace.calls options.batch zero.view lent armed outcome) shows_so.is_ok core in
       let fds_so : mount.fds ≡ fds_in basis trace = over.begins.is_mount.fds_are in
-      let files : List (List ℕ) → Files = λ names. files_named after_power.parts names after_power.stores in
-      record {
-        opened = mount.board.opened;
-        begins = opened_for basis trace mount pass options.cache over.begins cached;
-        then_ = ran.0;
-        last = zero.view;
-        run = subst (λ fds. IsRunBy mount.board.opened fds trace.tokens trace.calls options.batch ran.0 zero.view) fds_so ran.1;
-        listed = made_calls shows_so.calls.answered.items;
-        unanswered = begun;
-        told = subst (λ fds. AreListed mount.board.opened fds (state_of mount.board.opened zero.view.run).history ran.0 (made_calls shows_so.calls.answered.items) begun) fds_so ran.2;
-        stopped = saw;
-        sorted = shows_so.sorted;
-        sorted_out = shows_so.sorted_out;
-        report = shown_report shows_so.sorted shown.open_calls basis.names (files basis.names);
-        faithful = schedule_more (SawStop zero.view) failed basis trace (shown_report shows_so.sorted shown.open_calls basis.names (files basis.names)) saw
-            (is_faithful basis trace mount pass zero part_values store_values parts held faults placed tail over options.batch followed.told.0 shows_so.calls shows_so.sorted followed.told.1 followed.told.2 shows_so.sorted_out
-            formed few rise no_rounds is_mount begin_so told_so legal_so faithful_so files_so kept_so stand_so after_power left found shows_so.shown.log shown.open_calls shown.are_open);
-        ran = of_report basis trace mount pass zero part_values store_values parts held faults placed tail over options.batch followed.told.0 shows_so.calls shows_so.sorted followed.told.1 followed.told.2 shows_so.sorted_out
-            formed few rise no_rounds is_mount begin_so told_so legal_so faithful_so files_so kept_so stand_so after_power left found shows_so.shown.log shown.open_calls shown.are_open;
-        plain = names_plain mount_layout.name_limit basis.names (files basis.names).contents (each_allowed mount_layout basis.names allowed);
-        text_is = shown.text_is ∙ ap (λ names. report_text (shown_report shows_so.sorted shown.open_calls names (files names))) names_so;
-        left = record {
-          lost = lost_power basis trace mount pass zero part_values store_values parts held faults placed tail over stand_so options.image before bench after_power found.next power_left picked many many_so others others_so left
-              (shows_so.shown.log.next basis.files) shows_so.shown.left;
-          home = home;
-          cells = cells;
-          power_is = power_is;
-          whole = left;
-        };
-        shows = files_are basis trace mount pass zero part_values store_values parts held faults placed tail over options.batch followed.told.0 shows_so.calls shows_so.sorted followed.told.1 followed.told.2 shows_so.sorted_out
-            formed few rise no_rounds is_mount begin_so told_so legal_so faithful_so files_so kept_so stand_so after_power left found shows_so.shown.log shown.open_calls shown.are_open;
-        found = found;
-        log = shows_so.shown.log;
-        shown = subst (λ names. ShowsOpen shows_so.sorted begun found names (files names) text) names_so shows_so.shown.shown;
-      }
+      let files : List (List ℕ) → Files = λ names. files_named after_power.parts names after_power.stores in (
+        record {
+          opened = mount.board.opened;
+          begins = opened_for basis trace mount pass options.cache over.begins cached;
+          then_ = ran.0;
+          last = zero.view;
+          run = subst (λ fds. IsRunBy mount.board.opened fds trace.tokens trace.calls options.batch ran.0 zero.view) fds_so ran.1;
+          listed = made_calls shows_so.calls.answered.items;
+          unanswered = begun;
+          told = subst (λ fds. AreListed mount.board.opened fds (state_of mount.board.opened zero.view.run).history ran.0 (made_calls shows_so.calls.answered.items) begun) fds_so ran.2;
+          stopped = saw;
+          sorted = shows_so.sorted;
+          sorted_out = shows_so.sorted_out;
+          report = shown_report shows_so.sorted shown.open_calls basis.names (files basis.names);
+          faithful = schedule_more (SawStop zero.view) failed basis trace (shown_report shows_so.sorted shown.open_calls basis.names (files basis.names)) saw
+              (is_faithful basis trace mount pass zero part_values store_values parts held faults placed tail over options.batch followed.told.0 shows_so.calls shows_so.sorted followed.told.1 followed.told.2 shows_so.sorted_out
+              formed few rise no_rounds is_mount begin_so told_so legal_so faithful_so files_so kept_so stand_so after_power left found shows_so.shown.log shown.open_calls shown.are_open);
+          ran = of_report basis trace mount pass zero part_values store_values parts held faults placed tail over options.batch followed.told.0 shows_so.calls shows_so.sorted followed.told.1 followed.told.2 shows_so.sorted_out
+              formed few rise no_rounds is_mount begin_so told_so legal_so faithful_so files_so kept_so stand_so after_power left found shows_so.shown.log shown.open_calls shown.are_open;
+          plain = names_plain mount_layout.name_limit basis.names (files basis.names).contents (each_allowed mount_layout basis.names allowed);
+          left = record {
+            lost = lost_power basis trace mount pass zero part_values store_values parts held faults placed tail over stand_so options.image before bench after_power found.next power_left picked many many_so others others_so left
+                (shows_so.shown.log.next basis.files) shows_so.shown.left;
+            home = home;
+            cells = cells;
+            power_is = power_is;
+            whole = left;
+          };
+          shows = files_are basis trace mount pass zero part_values store_values parts held faults placed tail over options.batch followed.told.0 shows_so.calls shows_so.sorted followed.told.1 followed.told.2 shows_so.sorted_out
+              formed few rise no_rounds is_mount begin_so told_so legal_so faithful_so files_so kept_so stand_so after_power left found shows_so.shown.log shown.open_calls shown.are_open;
+          found = found;
+          log = shows_so.shown.log;
+          are_open = shown.are_open;
+          report_is = refl;
+        },
+        subst (λ names. AreLinesOf place final (shown_report shows_so.sorted shown.open_calls names (files names)) lines) names_so shown.lines_are,
+      )
 
 -- ---- a token that has used its advances up
 

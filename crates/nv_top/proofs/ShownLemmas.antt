@@ -106,9 +106,9 @@ module _ (good_so : FittingHasNoBad) (read_so : HeadIsNotUnread) where
       (rested_few run.basis.sizes.page run.basis.sizes.entries (next_in run.stopped.left.lost.power.parts run.basis.files) run.basis.names rests.now.parts rests.rests.rest)
 
   -- a schedule that was followed wasn't either
-  followed_allowed : (failed : Type 0) (options : RunOptions) (before : List Pick) (holding : Holding) (bench : BenchState) (trace : Traced) (text : List ℕ) → HasFollowed failed options before holding bench trace text
+  followed_allowed : (failed : Type 0) (options : RunOptions) (before : List Pick) (holding : Holding) (bench : BenchState) (trace : Traced) → HasFollowed failed options before holding bench trace
       → (why : Refusal) → ¬ (IsNotRun options holding trace.names why)
-  followed_allowed failed options before holding bench trace text shown =
+  followed_allowed failed options before holding bench trace shown =
       let basis = shown.basis in
       let rests = shown.scheduled.left.lost.rests in
       begun_allowed options holding trace.names basis shown.begun
@@ -142,7 +142,7 @@ module _ (good_so : FittingHasNoBad) (read_so : HeadIsNotUnread) where
       let report = subst Shown has.1 shown in
       let cause = subst Refused has.1 refused in
       let same : cause.0 ≡ report.0 = one_trace (sym cause.1 ∙ report.1) in
-      followed_allowed (Rose old.faults new.faults) options old.picked holding new report.0 text report.2 why (subst (λ (trace : Traced). IsNotRun options holding trace.names why) same cause.2)
+      followed_allowed (Rose old.faults new.faults) options old.picked holding new report.0 report.2.last why (subst (λ (trace : Traced). IsNotRun options holding trace.names why) same cause.2)
   shown_is_not_refused Recover input old new holding text has shown why refused = region_allowed read_so holding.parts shown.readable shown.long good_so shown.fits why refused
   shown_is_not_refused (Look files) input old new holding text has shown why refused = look_allowed files holding text shown why refused
   shown_is_not_refused (Gen load) input old new holding text has shown why refused = ran_allowed (Summary load) load_options holding new.told (generated load) text shown.ran why refused

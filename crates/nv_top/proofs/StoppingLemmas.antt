@@ -77,7 +77,7 @@ use Rattle.nv_top.specs.Reports.{report_text}
 use Rattle.nv_top.specs.Runs.{BeginsMount}
 use Rattle.nv_top.specs.Behind.{HoldsCells}
 use Rattle.nv_top.specs.Stopped.{HasStoppedOn, HaveFates, IsRunOfReport, left_write}
-use Rattle.nv_top.specs.Stopping.{HasLostPower, IsAway, RestsWith, ShowsOpen, ShowsRecovered, next_in}
+use Rattle.nv_top.specs.Stopping.{HasLostPower, IsAway, IsShownRecovered, RestsWith, ShowsRecovered, next_in}
 use Rattle.nv_top.specs.Stops.{CountHasCause, StopHasCause}
 use Rattle.nv_top.specs.declared.ending.Stop.{Stop}
 use Rattle.nv_top.specs.declared.ending.Stop.TheVariants.{Usage, BadLine, InputLong, Read, Write, Device, Region, NoMemory, Turns}
@@ -122,17 +122,17 @@ told_again old lent holding names now disks told_is home lent_is =
     ∙ ap (λ (lent : List (List ℕ)). Some (record { parts = now; stores = without_stores names holding.stores ++ named_stores (lent ++ names) disks })) home
 
 -- a recovery's report shows what the bench stood for
-pub shows : (old lent : BenchState) (new_told : Option Holding) (holding : Holding) (sorted : SortedCalls) (begun : List TracedCall) (text : List ℕ) (found : recover.Recovered) (version : Version) (page entries next : ℕ) (names shown : List (List ℕ))
+pub shows : (old lent : BenchState) (new_told : Option Holding) (holding : Holding) (Shown : recover.Recovered → List (List ℕ) → Files → Type 0) (found : recover.Recovered) (version : Version) (page entries next : ℕ) (names shown : List (List ℕ))
     (parts_row : List lines.PartHistory) (row : List stores.StoreHistory)
     → old.told ≡ Some holding → length parts_row ≡ length holding.parts → old.lent ≡ [] → lent ≡ with_faults lent.faults (all_lent names old) → names ≡ shown
-    → ((now : List Store) → AreNow row now → ShowsOpen sorted begun found shown (files_of now) text)
+    → ((now : List Store) → AreNow row now → Shown found shown (files_of now))
     → version ≡ version_in (head_image holding.parts) → IsRecovered holding.parts page entries names next found
     → HoldFiles row (files_named holding.parts names holding.stores)
     → All (λ history. 0 < length history) parts_row → RowTells parts_row (IsAtRest (layout_of version) page entries names next)
     → ((now : List Part) → AreNow parts_row now → HasLines (layout_of version) page entries (rooms_of now))
     → ((now : List Part) (disks : List Store) → AreNow parts_row now → AreNow row disks → new_told ≡ told_back now disks lent)
-    → ShowsRecovered holding sorted begun new_told text
-shows old lent new_told holding sorted begun text found version page entries next names shown parts_row row told_is many home lent_is same text_of own recovered holds tell rest long gives =
+    → IsShownRecovered Shown holding new_told
+shows old lent new_told holding Shown found version page entries next names shown parts_row row told_is many home lent_is same text_of own recovered holds tell rest long gives =
     let now = present parts_row tell in
     let header = header_of (head_image holding.parts) in
     let Rests : List (List ℕ) → Type 0 = λ names. RestsWith (version_in (head_image holding.parts)) header.page header.entries names found.next (files_named holding.parts names holding.stores) (length holding.parts) (without_stores names holding.stores) new_told in
@@ -142,9 +142,9 @@ shows old lent new_told holding sorted begun text found version page entries nex
     record {
       found = found;
       log = recovered.log;
-      shown = subst (λ names. ShowsOpen sorted begun found names (files_named holding.parts names holding.stores) text) recovered.names_are
-          (subst (λ files. ShowsOpen sorted begun found names files text) holds.files_are
-          (subst (λ names. ShowsOpen sorted begun found names (files_of holds.held) text) (sym same) (text_of holds.held holds.are)));
+      shown = subst (λ names. Shown found names (files_named holding.parts names holding.stores)) recovered.names_are
+          (subst (λ files. Shown found names files) holds.files_are
+          (subst (λ names. Shown found names (files_of holds.held)) (sym same) (text_of holds.held holds.are)));
       left = subst Rests recovered.names_are
           (subst (λ version. Sized version header.page header.entries found.next) own (subst (λ page. Sized version page header.entries found.next) recovered.page_is (subst (λ entries. Sized version page entries found.next) recovered.entries_is (subst (λ next. Sized version page entries next) recovered.next_is (record {
             now = record { parts = now.states; stores = others ++ named_stores names holds.held };

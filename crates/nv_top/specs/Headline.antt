@@ -1,5 +1,5 @@
 -- The top call: what each command makes of a bench, and what it shows.
-use Rattle.std.specs.Prelude.{◌≡◌, ◌⊎◌, ◌≤◌, ℕ, Bool, List, length, true, if◌then◌else◌, Option, Some, None, IfSome, option_map, max}
+use Rattle.std.specs.Prelude.{◌≡◌, ◌⊎◌, ◌≤◌, ℕ, Bool, List, [], length, true, if◌then◌else◌, Option, Some, None, IfSome, option_map, max}
 use Rattle.std.specs.Option.{option_and_then}
 use Rattle.nv_plain.specs.Faults.{Rose}
 use Rattle.nv_plain.specs.Layouts.{mount_layout}
@@ -22,7 +22,9 @@ use Rattle.nv_top.specs.Commands.{HasLooked, HasRecovered, HasRunOn, IsBasis, Is
 use Rattle.nv_runner.specs.Faithful.{Basis}
 use Rattle.nv_runner.specs.Histories.{PlacedCall}
 use Rattle.nv_load.specs.Generated.{generated}
+use Rattle.nv_top.specs.LifeLines.{AreLinesOf, IsTextOfLives}
 use Rattle.nv_top.specs.Loads.{HasGenerated, load_options}
+use Rattle.nv_top.specs.declared.life.LifeLines.{LifeLines}
 use Rattle.nv_top.specs.declared.show.Show.TheVariants.{Report}
 use Rattle.nv_top.specs.Endings.{IsTrace, OfRead}
 use Rattle.nv_top.specs.Rounds.{OfReadSoFar, OfRunRounds}
@@ -119,11 +121,20 @@ abbrev pub HasRunRounds : RunOptions → Stop → (input : Option (List ℕ)) �
 HasRunRounds options stop input shown old new holding =
     OfRunRounds stop input (λ trace. (text : List ℕ) × (run : IsShownOf options.stop options old new holding trace text) × (history_of_shown options.stop options old new holding trace text run ≡ shown))
 
--- The text is that of a report of a trace whose schedule was followed on a bench that held this, and had lost power with those picks, and is that now. Its parts and its other stores are as behind a stop.
-pub record HasFollowed (failed : Type 0) (options : RunOptions) (before : List Pick) (holding : Holding) (bench : BenchState) (trace : Traced) (text : List ℕ) : Type 0 where
+-- A life of a schedule: that of a trace was followed on a bench that held this, and had lost power with those picks, and is that now. Its parts and its other stores are as behind a stop.
+pub record HasFollowed (failed : Type 0) (options : RunOptions) (before : List Pick) (holding : Holding) (bench : BenchState) (trace : Traced) : Type 0 where
   pub basis : Basis
   pub begun : IsBasis options holding trace.names basis
-  pub scheduled : HasScheduledOn failed options before basis trace (length (opened (Some begun.geometry) holding.parts)) (without_stores basis.names holding.stores) bench text
+  pub scheduled : HasScheduledOn failed options before basis trace (length (opened (Some begun.geometry) holding.parts)) (without_stores basis.names holding.stores) bench
+
+-- and the lines are those of its report
+abbrev pub ShowsFollowed : (failed : Type 0) (options : RunOptions) (before : List Pick) (holding : Holding) (bench : BenchState) (trace : Traced) (place : ℕ) (last : Bool) (lines : LifeLines) → Type 0
+ShowsFollowed failed options before holding bench trace place last lines = (life : HasFollowed failed options before holding bench trace) × AreLinesOf place last life.scheduled.report lines
+
+-- The text is that of the report of a life of a schedule: of the last one, and no other.
+pub record ShowsLives (failed : Type 0) (options : RunOptions) (before : List Pick) (holding : Holding) (bench : BenchState) (trace : Traced) (text : List ℕ) : Type 0 where
+  pub last : HasFollowed failed options before holding bench trace
+  pub text_is : IsTextOfLives [] last.scheduled.report text
 
 -- The schedule of a trace was followed up to a token that has used its advances up, on a bench that held this, and is that now: it was armed at the cuts before that token, and lost power behind that run. Its parts and its other stores
 -- are as behind a stop.
@@ -139,7 +150,7 @@ UsesTurns options input old new holding = OfRead forms.Sched input (HasUsedTurns
 -- what the report of a command shows of a bench that held this, and of the input that it had
 abbrev pub IsShown : Command → (input : Option (List ℕ)) → (old new : BenchState) → Holding → (text : List ℕ) → Type 0
 IsShown (Run options) input old new holding text = OfRead forms.Run input (λ trace. IsShownOf options.stop options old new holding trace text)
-IsShown (Sched options) input old new holding text = OfRead forms.Sched input (λ trace. HasFollowed (Rose old.faults new.faults) options old.picked holding new trace text)
+IsShown (Sched options) input old new holding text = OfRead forms.Sched input (λ trace. ShowsLives (Rose old.faults new.faults) options old.picked holding new trace text)
 IsShown Recover input old new holding text = HasRecovered holding new.told text
 IsShown (Look files) input old new holding text = HasLooked files holding text
 IsShown (Gen load) input old new holding text = HasGenerated load holding new.told text

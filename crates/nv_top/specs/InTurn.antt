@@ -15,10 +15,10 @@ use Rattle.nv_trace.specs.declared.trace.Form.TheVariants as forms
 use Rattle.nv_top.specs.Commands.{IsBasis}
 use Rattle.nv_top.specs.Endings.{OfRead}
 use Rattle.nv_top.specs.Headline.{IsLeftBy, IsShown}
+use Rattle.nv_top.specs.LifeLines.{IsTextOfLives}
 use Rattle.nv_top.specs.Loads.{load_options}
 use Rattle.nv_top.specs.NextCommands.{FindsFiles, HasOwnNames, IsReportOf, done_by}
 use Rattle.nv_top.specs.Shows.{text_as}
-use Rattle.nv_top.specs.declared.show.Show.{Show}
 use Rattle.nv_top.specs.declared.show.Show.TheVariants as shows
 use Rattle.nv_words.specs.declared.words.Command.{Command}
 use Rattle.nv_words.specs.declared.words.Command.TheVariants.{Run, Sched, Recover, Look, Gen}
@@ -47,23 +47,23 @@ pub record Followed : Type 0 where
   pub own_was : HasOwnNames was
   pub own_now : HasOwnNames now
 
--- the life that a report of a trace shows by this text, from the basis that its bench began it with
-pub record IsShownLife (show : Show) (options : RunOptions) (was : Holding) (trace : Traced) (text : List ℕ) (life : Life) : Type 0 where
+-- the life of a report of a trace that is shown so, from the basis that its bench began it with
+pub record IsShownLife (IsShownSo : Report → Type 0) (options : RunOptions) (was : Holding) (trace : Traced) (life : Life) : Type 0 where
   pub basis : Basis
   pub begun : IsBasis options was trace.names basis
   pub report : Report
-  pub text_is : text ≡ text_as show report
+  pub shown : IsShownSo report
   pub faithful : IsReportOf options.worker basis trace report
   pub wanted_are : life.wanted ≡ trace.names
   pub done_is : life.done ≡ done_by basis trace report
 
 -- The life of a command is the one that its text shows; a recovery and a look do nothing to files.
 abbrev pub IsLifeOf : Command → (input : Option (List ℕ)) → (was : Holding) → (text : List ℕ) → Life → Type 0
-IsLifeOf (Run options) input was text life = OfRead forms.Run input (λ trace. IsShownLife shows.Report options was trace text life)
-IsLifeOf (Sched options) input was text life = OfRead forms.Sched input (λ trace. IsShownLife shows.Report options was trace text life)
+IsLifeOf (Run options) input was text life = OfRead forms.Run input (λ trace. IsShownLife (λ report. text ≡ text_as shows.Report report) options was trace life)
+IsLifeOf (Sched options) input was text life = OfRead forms.Sched input (λ trace. IsShownLife (λ report. IsTextOfLives [] report text) options was trace life)
 IsLifeOf Recover input was text life = life ≡ record { wanted = []; done = [] }
 IsLifeOf (Look files) input was text life = life ≡ record { wanted = []; done = [] }
-IsLifeOf (Gen load) input was text life = IsShownLife (shows.Summary load) load_options was (generated load) text life
+IsLifeOf (Gen load) input was text life = IsShownLife (λ report. text ≡ text_as (shows.Summary load) report) load_options was (generated load) life
 
 -- the files that a life begins with, on a bench that held this and stood for those: behind them the new ones, with what their stores held
 abbrev pub files_into : (names : List (List ℕ)) → Files → Holding → Life → Files

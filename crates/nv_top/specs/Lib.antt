@@ -12,6 +12,7 @@ pub mod Fates
 pub mod Outcomes
 pub mod Stopping
 pub mod Behind
+pub mod LifeLines
 pub mod Stopped
 pub mod Tied
 pub mod Stops

@@ -76,7 +76,7 @@ NextBeginsBehindStop =
 -- So does a run behind a schedule.
 abbrev pub NextBeginsBehindSchedule : Type 0
 NextBeginsBehindSchedule =
-    (options later : RunOptions) (old new : BenchState) (holding : Holding) (trace : Traced) (text : List ℕ) (run : HasFollowed (Rose old.faults new.faults) options old.picked holding new trace text) (wanted : List (List ℕ)) (basis : Basis)
+    (options later : RunOptions) (old new : BenchState) (holding : Holding) (trace : Traced) (run : HasFollowed (Rose old.faults new.faults) options old.picked holding new trace) (wanted : List (List ℕ)) (basis : Basis)
     → IsBasis later run.scheduled.left.lost.rests.now wanted basis → BeginsAt run.basis.sizes.page run.basis.sizes.entries (next_in run.scheduled.left.lost.power.parts run.basis.files) basis
 
 -- Behind a recovery it begins with the sizes that the header said, at the next number that the recovery shows.
@@ -118,7 +118,7 @@ NextFindsStopped =
 -- So it does behind a schedule: it finds those that the bench stood for as power left it.
 abbrev pub NextFindsScheduled : Type 0
 NextFindsScheduled =
-    (options : RunOptions) (old new : BenchState) (holding : Holding) (trace : Traced) (text : List ℕ) (run : HasFollowed (Rose old.faults new.faults) options old.picked holding new trace text)
+    (options : RunOptions) (old new : BenchState) (holding : Holding) (trace : Traced) (run : HasFollowed (Rose old.faults new.faults) options old.picked holding new trace)
     → HasOwnNames run.scheduled.left.lost.rests.now
     → FindsFiles run.basis.names (files_named run.scheduled.left.lost.power.parts run.basis.names run.scheduled.left.lost.power.stores) run.scheduled.left.lost.rests.now
 
@@ -138,7 +138,7 @@ NextFindsLooked =
 -- So the files that it finds behind a schedule are those that the schedule's report shows.
 abbrev pub NextFindsShown : Type 0
 NextFindsShown =
-    (options : RunOptions) (old new : BenchState) (holding : Holding) (trace : Traced) (text : List ℕ) (run : HasFollowed (Rose old.faults new.faults) options old.picked holding new trace text)
+    (options : RunOptions) (old new : BenchState) (holding : Holding) (trace : Traced) (run : HasFollowed (Rose old.faults new.faults) options old.picked holding new trace)
     → HasOwnNames run.scheduled.left.lost.rests.now → FindsFiles run.basis.names (files_shown run.basis trace run.scheduled.report) run.scheduled.left.lost.rests.now
 
 -- ---- the history of two commands

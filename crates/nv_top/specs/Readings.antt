@@ -6,7 +6,7 @@ use Rattle.nv_trace.specs.declared.report.Refusal.TheVariants.{BadDescriptor, To
 use Rattle.nv_trace.specs.Report.{call_fields, reply_text, fate_text, hex_text}
 use Rattle.nv_runner.specs.Histories.{PlacedCall}
 use Rattle.nv_runner.specs.Reports.{NamedFile, OpenCall, Report, ShownRefusal}
-use Rattle.nv_top.specs.Reports.{RecoveryReport, report_text, recovery_text}
+use Rattle.nv_top.specs.Reports.{RecoveryReport, lives_text, open_in_lives, placed_in_lives, report_text, recovery_text}
 
 -- a text behind the last of some fields
 abbrev pub behind_last : List (List ℕ) → List ℕ → List (List ℕ)
@@ -65,6 +65,23 @@ listing report =
     history_listing 0 report.history ++ map refused_fields report.refused ++ map open_fields report.open_calls
     ++ map file_fields report.files ++ end_fields report ∷ []
 
+-- the lines of lives that crashes ended, the first place being this
+abbrev pub ended_listing : (place : ℕ) → List Report → List (List (List ℕ))
+ended_listing place [] = []
+ended_listing place (life ∷ later) =
+    history_listing place life.history ++ map open_fields life.open_calls ++ (codes "crash" ∷ []) ∷ ended_listing (place + length life.history) later
+
+-- the fields of the last line of lives in turn
+abbrev pub lives_end_fields : (ended : List Report) → (refused : List ShownRefusal) → (last : Report) → List (List ℕ)
+lives_end_fields ended refused last =
+    codes "end" ∷ decimal (placed_in_lives ended + length last.history) ∷ decimal (length refused) ∷ decimal (open_in_lives ended + length last.open_calls) ∷ []
+
+-- the lines of a report of lives in turn
+abbrev pub lives_listing : (ended : List Report) → (refused : List ShownRefusal) → (last : Report) → List (List (List ℕ))
+lives_listing ended refused last =
+    ended_listing 0 ended ++ history_listing (placed_in_lives ended) last.history ++ map refused_fields refused ++ map open_fields last.open_calls
+    ++ map file_fields last.files ++ lives_end_fields ended refused last ∷ []
+
 -- those of a recovery's report
 abbrev pub recovery_listing : RecoveryReport → List (List (List ℕ))
 recovery_listing report = recovered_fields report ∷ map file_fields report.files
@@ -83,7 +100,13 @@ OneReading =
     (report other : Report) → HavePlainNames report.files → HavePlainNames other.files
     → report_text report ≡ report_text other → listing report ≡ listing other
 
--- So it is with the reports of recoveries.
+-- So it is with the reports of lives in turn.
+abbrev pub OneLivesReading : Type 0
+OneLivesReading =
+    (ended others : List Report) (refused rejected : List ShownRefusal) (last final : Report) → HavePlainNames last.files → HavePlainNames final.files
+    → lives_text ended refused last ≡ lives_text others rejected final → lives_listing ended refused last ≡ lives_listing others rejected final
+
+-- And with those of recoveries.
 abbrev pub OneRecoveryReading : Type 0
 OneRecoveryReading =
     (report other : RecoveryReport) → HavePlainNames report.files → HavePlainNames other.files

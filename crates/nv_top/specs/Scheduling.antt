@@ -1,5 +1,5 @@
 -- Scheduling: a schedule that is followed over a bench, and what it leaves.
-use Rattle.std.specs.Prelude.{◌≡◌, ℕ, ◌*◌, min, List, ◌++◌, map, Option, Result, Ok}
+use Rattle.std.specs.Prelude.{◌≡◌, ℕ, ◌*◌, min, Bool, List, ◌++◌, map, Option, Result, Ok}
 use Rattle.nv_pmem.specs.Rows.{row_words}
 use Rattle.nv_pmem.specs.declared.picker.Pick.{Pick}
 use Rattle.nv_bench.specs.Benches.{BenchState}
@@ -29,10 +29,12 @@ use Rattle.nv_schedule.specs.FaithfulSchedules.{IsFaithfulSchedule}
 use Rattle.nv_schedule.specs.declared.schedule_error.ScheduleError.{ScheduleError}
 use Rattle.nv_schedule.specs.declared.scheduled.ScheduledCalls.{ScheduledCalls}
 use Rattle.nv_top.specs.Readings.{HavePlainNames}
-use Rattle.nv_top.specs.Reports.{report_text}
 use Rattle.nv_top.specs.Behind.{HasLostPowerBehind}
+use Rattle.nv_top.specs.Fates.{AreShownOpen}
+use Rattle.nv_top.specs.LifeLines.{AreLinesOf, ShowsLife}
+use Rattle.nv_top.specs.Outcomes.{shown_report}
 use Rattle.nv_top.specs.Stopped.{IsRunOfReport}
-use Rattle.nv_top.specs.Stopping.{ShowsOpen, ShowsRecovered}
+use Rattle.nv_top.specs.declared.life.LifeLines.{LifeLines}
 use Rattle.nv_words.specs.declared.words.RunOptions.{RunOptions}
 
 -- a bench was armed at each of the cuts among these tokens, one after another, with its number
@@ -43,13 +45,13 @@ IsArmedAt tokens old new = (new.arms ≡ (armed_by (cuts_of tokens) old).arms) �
 abbrev pub IsArmedAtSome : List Token → (old new : BenchState) → Type 0
 IsArmedAtSome tokens old new = (reached : List Token) × (later : List Token) × (tokens ≡ reached ++ later) × IsArmedAt reached old new
 
--- A schedule was followed to its end; the text is that of a report of what a recovery made of a bench that held this.
-pub record ShowsOutcome (holding : Holding) (outcome : Result ScheduledCalls ScheduleError) (told : Option Holding) (text : List ℕ) : Type 0 where
+-- A schedule was followed to its end; the lines are those of a report of what a recovery made of a bench that held this.
+pub record ShowsOutcome (place : ℕ) (last : Bool) (holding : Holding) (outcome : Result ScheduledCalls ScheduleError) (told : Option Holding) (lines : LifeLines) : Type 0 where
   pub calls : ScheduledCalls
   pub is_ok : outcome ≡ Ok calls
   pub sorted : SortedCalls
   pub sorted_out : AreSortedOut (made_calls calls.answered.items) sorted
-  pub shown : ShowsRecovered holding sorted (map (λ call. call.now) calls.unanswered.items) told text
+  pub shown : ShowsLife place last holding sorted (map (λ call. call.now) calls.unanswered.items) told lines
 
 -- the descriptors of a trace, over the files of a basis
 abbrev pub fds_in : Basis → Traced → List Fd
@@ -74,10 +76,9 @@ pub record HasUsedTurns (failed : Type 0) (options : RunOptions) (basis : Basis)
   pub armed_at : IsArmedAt run.played.before old bench
   pub left : HasLostPowerBehind last options.image old.picked basis many others bench
 
--- The text is that of a report of a trace whose schedule was played over a mount of this basis: that was a run of the core, whose history and writes in flight are the report's. The calls that it lists are those that were begun, with what
--- that run's passes tell of them. Power went off behind it; what it left stood for the files that are shown, and the fates are by the log of that. The report is faithful to the trace; devices failed, and a pass saw STOP set, only where this
--- says so.
-pub record HasScheduledOn (failed : Type 0) (options : RunOptions) (before : List Pick) (basis : Basis) (trace : Traced) (many : ℕ) (others : List NamedStore) (bench : BenchState) (text : List ℕ) : Type 0 where
+-- A life of a schedule: that of a trace was played over a mount of this basis, which was a run of the core, whose history and writes in flight are the report's. The calls that it lists are those that were begun, with what that run's passes tell
+-- of them. Power went off behind it; what it left stood for the files that are shown, and the fates are by the log of that. The report is faithful to the trace; devices failed, and a pass saw STOP set, only where this says so.
+pub record HasScheduledOn (failed : Type 0) (options : RunOptions) (before : List Pick) (basis : Basis) (trace : Traced) (many : ℕ) (others : List NamedStore) (bench : BenchState) : Type 0 where
   pub opened : Opened
   pub begins : IsOpenedFor basis trace options.cache opened
   pub then_ : List Actor
@@ -93,9 +94,14 @@ pub record HasScheduledOn (failed : Type 0) (options : RunOptions) (before : Lis
   pub faithful : IsFaithfulSchedule failed basis trace report
   pub ran : IsRunOfReport basis trace report (map opened_call sorted.open_calls.items) last
   pub plain : HavePlainNames report.files
-  pub text_is : text ≡ report_text report
   pub left : HasLostPowerBehind last options.image before basis many others bench
   pub shows : files_named left.lost.power.parts basis.names left.lost.power.stores ≡ files_shown basis trace report
   pub found : recover.Recovered
   pub log : HasFoundAll (row_words left.lost.power.parts) found
-  pub shown : ShowsOpen sorted unanswered found basis.names (files_named left.lost.power.parts basis.names left.lost.power.stores) text
+  pub are_open : AreShownOpen found.first found.groups sorted.open_calls.items unanswered report.open_calls
+  pub report_is : report ≡ shown_report sorted report.open_calls basis.names (files_named left.lost.power.parts basis.names left.lost.power.stores)
+
+-- and the lines are those of its report
+abbrev pub ShowsScheduled : (failed : Type 0) (options : RunOptions) (before : List Pick) (basis : Basis) (trace : Traced) (many : ℕ) (others : List NamedStore) (bench : BenchState) (place : ℕ) (last : Bool) (lines : LifeLines) → Type 0
+ShowsScheduled failed options before basis trace many others bench place last lines =
+    (life : HasScheduledOn failed options before basis trace many others bench) × AreLinesOf place last life.report lines

@@ -84,15 +84,18 @@ pub record ShowsOpen (sorted : SortedCalls) (begun : List TracedCall) (found : r
   pub are_open : AreShownOpen found.first found.groups sorted.open_calls.items begun open_calls
   pub text_is : text ≡ report_text (shown_report sorted open_calls names files)
 
--- The text is that of a report of what a recovery made of a bench that held this, and the bench rests with the files shown, and with the version and the sizes that the header said; the log goes on where it was found to end. It has as many parts as
--- before, and the stores of other names are as they were.
--- Beside the calls that were sorted out, these were begun and drew no number.
-pub record ShowsRecovered (holding : Holding) (sorted : SortedCalls) (begun : List TracedCall) (told : Option Holding) (text : List ℕ) : Type 0 where
+-- A recovery of a bench that held this is shown: what it found, by the region's names and the files that the bench stood for. The bench rests with these files, and with the version and the sizes that the header said; the log goes on where it was
+-- found to end. It has as many parts as before, and the stores of other names are as they were.
+pub record IsShownRecovered (Shown : (found : recover.Recovered) (names : List (List ℕ)) (files : Files) → Type 0) (holding : Holding) (told : Option Holding) : Type 0 where
   pub found : recover.Recovered
   pub log : HasFoundAll (row_words holding.parts) found
-  pub shown : ShowsOpen sorted begun found (header_names holding.parts) (files_named holding.parts (header_names holding.parts) holding.stores) text
+  pub shown : Shown found (header_names holding.parts) (files_named holding.parts (header_names holding.parts) holding.stores)
   pub left : RestsWith (version_in (head_image holding.parts)) (header_of (head_image holding.parts)).page (header_of (head_image holding.parts)).entries (header_names holding.parts) found.next
       (files_named holding.parts (header_names holding.parts) holding.stores) (length holding.parts) (without_stores (header_names holding.parts) holding.stores) told
+
+-- The text is that of its report. Beside the calls that were sorted out, these were begun and drew no number.
+abbrev pub ShowsRecovered : (holding : Holding) → SortedCalls → (begun : List TracedCall) → (told : Option Holding) → (text : List ℕ) → Type 0
+ShowsRecovered holding sorted begun told text = IsShownRecovered (λ found names files. ShowsOpen sorted begun found names files text) holding told
 
 -- the number behind the log that stands in these parts
 abbrev pub next_in : List Part → Files → ℕ

@@ -7,7 +7,7 @@ ghost use Rattle.nv_top.specs.Headline.{PlainIsUnhindered, RefusedIsNotGood, Sho
 ghost use Rattle.nv_top.specs.InTurn.{EachHasALife, LivesGoOnInTurn};
 ghost use Rattle.nv_top.specs.Loads.{NewBenchesAreFresh};
 ghost use Rattle.nv_top.specs.NextCommands.{NextBeginsBehind, NextBeginsBehindRecovery, NextBeginsBehindSchedule, NextBeginsBehindStop, NextFindsLooked, NextFindsRecovered, NextFindsRun, NextFindsScheduled, NextFindsShown, NextFindsStopped, NextIsReady, RunsHaveOneHistory};
-ghost use Rattle.nv_top.specs.Readings.{OneNumber, OneReading, OneRecoveryReading};
+ghost use Rattle.nv_top.specs.Readings.{OneLivesReading, OneNumber, OneReading, OneRecoveryReading};
 ghost use Rattle.nv_top.specs.Said.{StatusesTellWhatCame};
 ghost use Rattle.nv_top.specs.Tied.{FatesAreTied};
 
@@ -16,10 +16,11 @@ use nv_header::a_header_has_one_answer;
 use nv_pmem::images_follow_calls;
 use nv_recover::images_stand_for_files;
 
-/// The text of a report has one reading: reports of one text list the same lines, field by field, those of runs and those of
+/// The text of a report has one reading: reports of one text list the same lines, field by field, those of runs, of lives in turn and of
 /// recoveries. A field that is a number below 2^64 stands for that number alone.
 pub fn report_has_one_reading()
     ensures lines { OneReading }
+    ensures lives { OneLivesReading }
     ensures recoveries { OneRecoveryReading }
     ensures numbers { OneNumber }
 {}

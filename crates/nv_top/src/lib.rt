@@ -7,6 +7,7 @@ mod fates;
 mod files;
 mod input;
 mod laws;
+mod life;
 mod loading;
 mod looking;
 mod mounting;

@@ -22,41 +22,38 @@ ghost use Rattle.nv_runner.specs.Faithful.{Basis};
 ghost use Rattle.nv_schedule.specs.declared.schedule_error.ScheduleError.TheVariants as schedule_errors;
 ghost use Rattle.nv_schedule.specs.declared.scheduled.ScheduledCalls.{ScheduledCalls as AnyCalls};
 ghost use Rattle.nv_top.specs.Commands.{HasRecovered, IsGivenBack};
-ghost use Rattle.nv_top.specs.Headline.{HasFollowed, expected_faults, HasUsedTurnsOn, IsRunRefused};
+ghost use Rattle.nv_top.specs.Headline.{HasUsedTurnsOn, IsRunRefused, ShowsFollowed, ShowsLives, expected_faults};
 ghost use Rattle.nv_top.specs.Lives.{HasLived, LeavesRun, TellsNothing};
 ghost use Rattle.nv_top.specs.Runs.{BeginsMount, HasCache, basis_over};
-ghost use Rattle.nv_top.specs.Scheduling.{HasScheduledOn, HasUsedTurns, IsArmedAt, IsArmedAtSome, ShowsOutcome};
-ghost use Rattle.nv_top.specs.Stopping.{IsAllBack, IsAway, IsPickedOnce, IsSettledStop, ShowsRecovered};
+ghost use Rattle.nv_top.specs.Scheduling.{HasUsedTurns, IsArmedAt, IsArmedAtSome, ShowsOutcome, ShowsScheduled};
+ghost use Rattle.nv_top.specs.Stopping.{IsAllBack, IsAway, IsPickedOnce, IsSettledStop};
 ghost use Rattle.nv_top.specs.Stops.{CountHasCause};
 ghost use Rattle.nv_top.specs.Ready.{IsAtHome, IsReady, IsRunnable};
 ghost use Rattle.nv_words.specs.Words.{AreInLimits};
 ghost use Rattle.nv_top.specs.declared.ending.Stop.TheVariants as stops;
 
 use crate::ending::Stop;
+use crate::life::{LifeLines, LivesShown, show_life};
 use crate::mounting::{Unmounted, mount_over};
 use crate::names::copy_names;
 use crate::recovery::recover;
-use crate::stopping::show_recovered;
 use nv_bench::{Bench, power_leaves_an_image};
 use nv_header::a_header_has_one_answer;
 use nv_mount::Mount;
 use nv_open::{Opened, open};
 use nv_pmem::{Geometry, images_follow_calls};
 use nv_recover::images_stand_for_files;
-use nv_runner::{
-    KeptCalls, SortedCalls, history_of_threads_is_legal, open_calls_are_the_faults, sort_out,
-};
+use nv_runner::{history_of_threads_is_legal, open_calls_are_the_faults, sort_out};
 use nv_schedule::{
     ScheduleError, Scheduled, ScheduledCalls, run_schedule, schedules_are_faithful,
     schedules_are_told, schedules_begin_in_order, schedules_leave_lives, schedules_run_in_the_core,
 };
 use nv_table::Pass;
-use nv_trace::{Trace, TracedCall};
+use nv_trace::Trace;
 use nv_words::RunOptions;
 use std::alloc::Global;
 
-/// Follows the schedule of a trace over a bench: opens its region, of these sizes where it is blank, with the files of the trace, lets callers follow the tokens over a mount of them, gives all back, powers
-/// off, recovers, and shows what became of the calls that were begun, and the files.
+/// Follows the schedule of a trace over a bench, power failing behind it. The text of its report.
 pub(crate) fn schedule<T: Bench>(
     alloc: Global,
     bench: &mut T,
@@ -79,7 +76,44 @@ pub(crate) fn schedule<T: Bench>(
     ensures never_falls { (T.state bench.old).faults ≤ (T.state bench.new).faults }
     ensures life { IfSome (T.state bench.old).told (λ was. LeavesRun TellsNothing options was trace.now [] (T.state bench.new).told) }
     ensures followed { IfOk result (λ text. IfSome (T.state bench.old).told (λ holding.
-        HasFollowed (Rose (T.state bench.old).faults (T.state bench.new).faults) options (T.state bench.old).picked holding (T.state bench.new) trace.now text.items)) }
+        ShowsLives (Rose (T.state bench.old).faults (T.state bench.new).faults) options (T.state bench.old).picked holding (T.state bench.new) trace.now text.items)) }
+    ensures refused { (why : _) → result ≡ Err (stops.Region why) → IfSome (T.state bench.old).told (λ holding. IsRunRefused options holding trace.now.names (T.state bench.old) (T.state bench.new) why
+        × ((T.state bench.new).picked ≡ (T.state bench.old).picked)) }
+    ensures unarmed { (why : _) → result ≡ Err (stops.Region why) → IfSome (T.state bench.old).told (λ holding. (T.state bench.new).arms ≡ (T.state bench.old).arms) }
+{
+    let shown = LivesShown::new(alloc);
+    let last = follow_life(alloc, bench, options, trace, shown.placed, true)?;
+    Ok(shown.text_with(alloc, last)?)
+}
+
+// Follows the schedule of a trace over a bench: opens its region, of these sizes where it is blank, with the files of the trace, lets callers follow the tokens over a mount of them, gives all back, powers
+// off, and recovers. The lines of the calls that were begun, the first place being this, and of the files, where it is the last life.
+fn follow_life<T: Bench>(
+    alloc: Global,
+    bench: &mut T,
+    options: RunOptions,
+    trace: &Trace,
+    place: u64,
+    last: bool,
+) -> Result<LifeLines, Stop>
+    requires place { place < 2 ^ 63 }
+    requires ready { IsReady (T.state bench.old) }
+    requires images { T.can_lose_power ≡ true }
+    requires limits { AreInLimits options }
+    requires trace { IsRunnable trace.now }
+    requires no_rounds { has_rounds trace.now.form ≡ false }
+    ensures runnable { IsRunnable trace.now }
+    ensures back { IsAllBack (T.state bench.new) }
+    ensures cuts { IsArmedAtSome trace.now.tokens (T.state bench.old) (T.state bench.new) }
+    ensures all_cuts { OnOk result (IsArmedAt trace.now.tokens (T.state bench.old) (T.state bench.new)) }
+    ensures picked { IsPickedOnce options.image (T.state bench.old) (T.state bench.new) }
+    ensures cause { IsSettledStop (expected_faults (T.state bench.old) (T.state bench.new)) (T.state bench.new).faults result }
+    ensures turns { result ≡ Err stops.Turns → (T.state bench.new).picked ≡ options.image ∷ (T.state bench.old).picked }
+    ensures used { result ≡ Err stops.Turns → IfSome (T.state bench.old).told (λ holding. HasUsedTurnsOn options (T.state bench.old) (T.state bench.new) holding trace.now) }
+    ensures never_falls { (T.state bench.old).faults ≤ (T.state bench.new).faults }
+    ensures life { IfSome (T.state bench.old).told (λ was. LeavesRun TellsNothing options was trace.now [] (T.state bench.new).told) }
+    ensures followed { IfOk result (λ lines. IfSome (T.state bench.old).told (λ holding.
+        ShowsFollowed (Rose (T.state bench.old).faults (T.state bench.new).faults) options (T.state bench.old).picked holding (T.state bench.new) trace.now place last lines)) }
     ensures refused { (why : _) → result ≡ Err (stops.Region why) → IfSome (T.state bench.old).told (λ holding. IsRunRefused options holding trace.now.names (T.state bench.old) (T.state bench.new) why
         × ((T.state bench.new).picked ≡ (T.state bench.old).picked)) }
     ensures unarmed { (why : _) → result ≡ Err (stops.Region why) → IfSome (T.state bench.old).told (λ holding. (T.state bench.new).arms ≡ (T.state bench.old).arms) }
@@ -92,7 +126,7 @@ pub(crate) fn schedule<T: Bench>(
     let before = bench.faults();
     let wanted = copy_names(alloc, trace.names())?;
     let opened = open(alloc, bench, geometry, &wanted)?;
-    schedule_region(alloc, bench, opened, options, trace, before)
+    schedule_region(alloc, bench, opened, options, trace, before, place, last)
 }
 
 // Follows the schedule of a trace over a region whose log is empty, with a store for each of its names, that are lent by a bench. Before that its devices had failed so often.
@@ -103,7 +137,10 @@ fn schedule_region<T: Bench>(
     options: RunOptions,
     trace: &Trace,
     before: u64,
-) -> Result<Vec<u8>, Stop>
+    place: u64,
+    last: bool,
+) -> Result<LifeLines, Stop>
+    requires place { place < 2 ^ 63 }
     requires images { T.can_lose_power ≡ true }
     requires limits { AreInLimits options }
     requires arms { (T.state bench.old).arms < 2 ^ 63 }
@@ -136,16 +173,18 @@ fn schedule_region<T: Bench>(
         → HasUsedTurns (Rose (saturated ((T.state bench.old).faults
         + (sum_by T.Part.fault_count opened.region.parts.items + sum_by T.Store.fault_count opened.stores.items))) (T.state bench.new).faults)
         options (basis_over opened.region options.pages (files_of now)) trace.now (length opened.region.parts.items) home.stores (T.state bench.old) (T.state bench.new)) }
-    ensures scheduled { IfOk result (λ text. (parts : List Part) (now : List Store)
+    ensures scheduled { IfOk result (λ lines. (parts : List Part) (now : List Store)
         → AreNow (map T.Part.history opened.region.parts.items) parts → AreNow (map T.Store.history opened.stores.items) now
         → IfSome (T.state bench.old).told (λ home. IsAway opened.region.names home
-        → HasScheduledOn (Rose (saturated ((T.state bench.old).faults
+        → ShowsScheduled (Rose (saturated ((T.state bench.old).faults
         + (sum_by T.Part.fault_count opened.region.parts.items + sum_by T.Store.fault_count opened.stores.items))) (T.state bench.new).faults)
-        options (T.state bench.old).picked (basis_over opened.region options.pages (files_of now)) trace.now (length opened.region.parts.items) home.stores (T.state bench.new) text.items)) }
+        options (T.state bench.old).picked (basis_over opened.region options.pages (files_of now)) trace.now (length opened.region.parts.items) home.stores (T.state bench.new) place last lines)) }
 {
     let Opened { region, stores } = opened;
     match mount_over(alloc, region, stores, options, trace) {
-        Ok((mount, pass)) => schedule_mount(alloc, bench, mount, pass, options, trace, before),
+        Ok((mount, pass)) => schedule_mount(
+            alloc, bench, mount, pass, options, trace, before, place, last,
+        ),
         Err(
             Unmounted {
                 parts,
@@ -169,7 +208,10 @@ fn schedule_mount<T: Bench>(
     options: RunOptions,
     trace: &Trace,
     before: u64,
-) -> Result<Vec<u8>, Stop>
+    place: u64,
+    last: bool,
+) -> Result<LifeLines, Stop>
+    requires place { place < 2 ^ 63 }
     requires cache { HasCache options.cache mount }
     requires images { T.can_lose_power ≡ true }
     requires arms { (T.state bench.old).arms < 2 ^ 63 }
@@ -199,10 +241,10 @@ fn schedule_mount<T: Bench>(
         → IfSome (T.state bench.old).told (λ home. IsAway basis.names home
         → HasUsedTurns (Rose (saturated ((T.state bench.old).faults + failed_before pass)) (T.state bench.new).faults)
         options basis trace.now (1 + mount.board.opened.sizes.entries + length pass.spare) home.stores (T.state bench.old) (T.state bench.new)) }
-    ensures scheduled { IfOk result (λ text. (basis : Basis) → BeginsMount basis trace.now mount pass → basis.names ≡ (T.state bench.old).lent
+    ensures scheduled { IfOk result (λ lines. (basis : Basis) → BeginsMount basis trace.now mount pass → basis.names ≡ (T.state bench.old).lent
         → IfSome (T.state bench.old).told (λ home. IsAway basis.names home
-        → HasScheduledOn (Rose (saturated ((T.state bench.old).faults + failed_before pass)) (T.state bench.new).faults)
-        options (T.state bench.old).picked basis trace.now (1 + mount.board.opened.sizes.entries + length pass.spare) home.stores (T.state bench.new) text.items)) }
+        → ShowsScheduled (Rose (saturated ((T.state bench.old).faults + failed_before pass)) (T.state bench.new).faults)
+        options (T.state bench.old).picked basis trace.now (1 + mount.board.opened.sizes.entries + length pass.spare) home.stores (T.state bench.new) place last lines)) }
 {
     images_stand_for_files();
     a_header_has_one_answer();
@@ -234,7 +276,7 @@ fn schedule_mount<T: Bench>(
         return Err(Stop::Device);
     }
     bench.power(options.image)?;
-    show_outcome(alloc, bench, outcome)
+    show_outcome(alloc, bench, outcome, place, last)
 }
 
 // Whether a device has failed before any cut.
@@ -250,14 +292,17 @@ fn show_outcome<T: Bench>(
     alloc: Global,
     bench: &mut T,
     outcome: Result<ScheduledCalls<'_>, ScheduleError>,
-) -> Result<Vec<u8>, Stop>
+    place: u64,
+    last: bool,
+) -> Result<LifeLines, Stop>
+    requires place { place < 2 ^ 63 }
     requires at_home { IsAtHome (T.state bench.old) }
     ensures back { IsGivenBack (T.state bench.old) (T.state bench.new) }
     ensures refused { (why : _) → result ≡ Err (stops.Region why) → IfSome (T.state bench.old).told (λ holding. IsRefusedFor holding.parts why) }
     ensures followed { OnOk result ((calls : AnyCalls) × (outcome.entry ≡ Ok calls)) }
     ensures used { result ≡ Err stops.Turns → outcome.entry ≡ Err schedule_errors.TurnsUsed }
     ensures recovered { result ≡ Err stops.Turns → IfSome (T.state bench.old).told (λ holding. (text : List ℕ) × HasRecovered holding (T.state bench.new).told text) }
-    ensures shown { IfOk result (λ text. IfSome (T.state bench.old).told (λ holding. ShowsOutcome holding outcome.entry (T.state bench.new).told text.items)) }
+    ensures shown { IfOk result (λ lines. IfSome (T.state bench.old).told (λ holding. ShowsOutcome place last holding outcome.entry (T.state bench.new).told lines)) }
     ensures standing { IfSome (T.state bench.old).told (λ was. HasHeader was.parts → TellsOf (StandsAsBefore was) (T.state bench.new).told) }
     ensures cause { IsSettledStop (T.state bench.old).faults (T.state bench.new).faults result }
     ensures never_falls { (T.state bench.old).faults ≤ (T.state bench.new).faults }
@@ -269,7 +314,7 @@ fn show_outcome<T: Bench>(
                 unanswered,
             } = calls;
             let sorted = sort_out(alloc, answered)?;
-            show_sorted(alloc, bench, sorted, &unanswered)
+            show_life(alloc, bench, sorted, &unanswered, place, last)
         }
         Err(ScheduleError::TurnsUsed) => {
             recover(alloc, bench)?;
@@ -278,29 +323,4 @@ fn show_outcome<T: Bench>(
         // A fault has raised the count, where that doesn't stand at its end, and so has ended the command before.
         Err(ScheduleError::NoMemory | ScheduleError::Fault) => Err(Stop::NoMemory),
     }
-}
-
-// Recovers the region of a bench, and shows sorted calls, those that were begun beside them, and the files.
-fn show_sorted<T: Bench>(
-    alloc: Global,
-    bench: &mut T,
-    sorted: SortedCalls<'_>,
-    begun: &[&TracedCall],
-) -> Result<Vec<u8>, Stop>
-    requires at_home { IsAtHome (T.state bench.old) }
-    ensures back { IsGivenBack (T.state bench.old) (T.state bench.new) }
-    ensures shown { IfOk result (λ text. IfSome (T.state bench.old).told (λ holding. ShowsRecovered holding sorted.entry (map (λ call. call.now) begun.now) (T.state bench.new).told text.items)) }
-    ensures refused { (why : _) → result ≡ Err (stops.Region why) → IfSome (T.state bench.old).told (λ holding. IsRefusedFor holding.parts why) }
-    ensures standing { IfSome (T.state bench.old).told (λ was. HasHeader was.parts → TellsOf (StandsAsBefore was) (T.state bench.new).told) }
-    ensures cause { CountHasCause (T.state bench.old).faults (T.state bench.new).faults result }
-    ensures turns { result ≢ Err stops.Turns }
-    ensures never_falls { (T.state bench.old).faults ≤ (T.state bench.new).faults }
-{
-    images_follow_calls();
-    images_stand_for_files();
-    let mut kept = KeptCalls::new(alloc);
-    let mut text = kept.take(alloc, sorted)?;
-    let rest = show_recovered(alloc, bench, &kept, begun)?;
-    text.extend_from_slice(&rest)?;
-    Ok(text)
 }

@@ -69,7 +69,12 @@ pub(crate) fn recovery_text_of(
     Ok(text)
 }
 
-fn push_open(alloc: Global, text: &mut Vec<u8>, fated: &[Fated<'_>]) -> Result<(), NoMemory>
+/// Puts the lines of calls that were left open behind a text.
+pub(crate) fn push_open(
+    alloc: Global,
+    text: &mut Vec<u8>,
+    fated: &[Fated<'_>],
+) -> Result<(), NoMemory>
     ensures { OnOk result (text.new.items ≡ text.old.items ++ open_lines (map fated_call fated.now)) }
 {
     for o in fated {
@@ -81,7 +86,8 @@ fn push_open(alloc: Global, text: &mut Vec<u8>, fated: &[Fated<'_>]) -> Result<(
     Ok(())
 }
 
-fn push_files(
+/// Puts the lines of files behind a text.
+pub(crate) fn push_files(
     alloc: Global,
     text: &mut Vec<u8>,
     names: &[Bytes],
@@ -100,7 +106,8 @@ fn push_files(
     Ok(())
 }
 
-fn push(text: &mut Vec<u8>, line: &Bytes) -> Result<(), NoMemory>
+/// Puts a line behind a text.
+pub(crate) fn push(text: &mut Vec<u8>, line: &Bytes) -> Result<(), NoMemory>
     ensures { OnOk result (text.new.items ≡ text.old.items ++ line.now) }
 {
     text.extend_from_slice(line.as_slice())?;

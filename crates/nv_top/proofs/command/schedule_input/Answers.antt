@@ -4,7 +4,7 @@ use Rattle.std.proofs.lemmas.Result.{IfOk-weaker, on_ok_weaker}
 use Rattle.nv_plain.specs.Faults.{Rose}
 use Rattle.nv_trace.specs.Forms.{has_rounds}
 use Rattle.nv_trace.specs.declared.trace.Form.TheVariants as forms
-use Rattle.nv_top.specs.Headline.{HasFollowed, HasUsedTurnsOn, IsShown}
+use Rattle.nv_top.specs.Headline.{HasUsedTurnsOn, IsShown, ShowsLives}
 use Rattle.nv_top.specs.Reported.{HasReported}
 use Rattle.nv_top.specs.Scheduling.{IsArmedAt, IsArmedAtSome}
 use Rattle.nv_top.specs.Stops.{stop_of_read}
@@ -53,7 +53,7 @@ returns g c =
     made.unarmed
     (schedule_from (Rose old.faults new.faults) options given old.told new.told trace read.form made.runnable read.whole made.life)
     (IfOk-weaker result
-    (λ text. IfSome old.told (λ holding. HasFollowed (Rose old.faults new.faults) options old.picked holding new trace text.items))
+    (λ text. IfSome old.told (λ holding. ShowsLives (Rose old.faults new.faults) options old.picked holding new trace text.items))
     (λ text. IfSome old.told (λ holding. IsShown (Sched options) given old new holding text.items))
-    (λ text ran. of_held forms.Sched given old.told trace (λ holding trace. HasFollowed (Rose old.faults new.faults) options old.picked holding new trace text.items) read.form made.runnable read.whole ran)
+    (λ text ran. of_held forms.Sched given old.told trace (λ holding trace. ShowsLives (Rose old.faults new.faults) options old.picked holding new trace text.items) read.form made.runnable read.whole ran)
     made.followed))

@@ -17,7 +17,7 @@ use Rattle.nv_schedule.specs.Cuts.{CutTells}
 use Rattle.nv_schedule.specs.CoreRuns.{HasRunInCore}
 use Rattle.nv_schedule.specs.declared.scheduled.ScheduledCalls.{ScheduledCalls}
 use Rattle.nv_top.specs.Commands.{HasRecovered}
-use Rattle.nv_top.specs.Scheduling.{HasScheduledOn, HasUsedTurns, ShowsOutcome}
+use Rattle.nv_top.specs.Scheduling.{HasUsedTurns, ShowsOutcome, ShowsScheduled}
 use Rattle.nv_top.specs.Stopping.{IsAway, IsSettledStop}
 use Rattle.nv_top.proofs.SchedulingLemmas.{armed_at_all, armed_at_some, failed_cut, has_scheduled, has_used, of_trace, settled_memory, still_all, still_some}
 use Rattle.nv_top.proofs.PoweredHomes.{part_shown, parts_counted, store_shown}
@@ -50,6 +50,8 @@ returns-clause-scheduled g c =
     let pass = c.args.pass in
     let trace = c.args.trace.now in
     let options = c.args.options in
+    let place = c.args.place in
+    let final = c.args.last in
     let armed = state c.run_schedule-closed.new.bench in
     let outcome = c.run_schedule-closed.result.outcome in
     let came = c.run_schedule-closed.result.closed in
@@ -68,11 +70,11 @@ returns-clause-scheduled g c =
     let saw : SawStop zero.view → failed = λ seen.
     rose_home start.faults (failed_before pass) sums last.faults no_less (subst (λ count. Rose count sums) (failed_same pass zero ran.1.opened ran.1.spare) (ran.3.stopped seen)) in
     IfOk-weaker c.show_outcome.result
-    (λ text. IfSome off.told (λ holding. ShowsOutcome holding outcome last.told text.items))
-    (λ text. (basis : Basis) → BeginsMount basis trace mount pass → basis.names ≡ start.lent
-    → IfSome start.told (λ left. IsAway basis.names left → HasScheduledOn failed options start.picked basis trace many_made left.stores last text.items))
-    (λ text shown basis begins named.
-    if_some start.told (λ left. IsAway basis.names left → HasScheduledOn failed options start.picked basis trace many_made left.stores last text.items)
+    (λ lines. IfSome off.told (λ holding. ShowsOutcome place final holding outcome last.told lines))
+    (λ lines. (basis : Basis) → BeginsMount basis trace mount pass → basis.names ≡ start.lent
+    → IfSome start.told (λ left. IsAway basis.names left → ShowsScheduled failed options start.picked basis trace many_made left.stores last place final lines))
+    (λ lines shown basis begins named.
+    if_some start.told (λ left. IsAway basis.names left → ShowsScheduled failed options start.picked basis trace many_made left.stores last place final lines)
     (λ left told_is away.
     let over : HasClosedOver basis trace mount pass zero _ _ parts held sums came.placed came.tail = record {
       begins = begins;
@@ -97,8 +99,8 @@ returns-clause-scheduled g c =
     (c.schedules_run_in_the_core.ensures mount trace.tokens trace.calls options.batch pass zero start armed c.run_schedule-closed.result.outcome
     (of_trace c.args.mount c.args.trace.now c.args.options.batch c.args.pass ran.0 start armed c.run_schedule-closed.result.outcome c.tokens.result.now c.calls.result.now c.tokens.ensures.tokens c.calls.ensures.calls ran.1))
     c.schedules_begin_in_order.ensures c.schedules_are_told.ensures.told c.schedules_are_told.ensures.legal c.schedules_are_faithful.ensures c.history_of_threads_is_legal.ensures.files c.open_calls_are_the_faults.ensures.kept
-    c.images_stand_for_files.ensures.files start.picked last text.items behind.before behind.after
-    (at_some off.told (λ holding. ShowsOutcome holding outcome last.told text.items) behind.after behind.off_is shown)
+    c.images_stand_for_files.ensures.files start.picked last place final lines behind.before behind.after
+    (at_some off.told (λ holding. ShowsOutcome place final holding outcome last.told lines) behind.after behind.off_is shown)
     (ap left_last c.show_outcome.ensures.back ∙ ap left_last c.in_ok-power.ensures.off
     ∙ ap (option_map (powered options.image)) behind.given_is ∙ ap Some (sym behind.after_is))
     (ap (λ (s : BenchState). s.picked) c.show_outcome.ensures.back ∙ ap (λ (s : BenchState). s.picked) c.in_ok-power.ensures.off

@@ -13,7 +13,7 @@ use Rattle.nv_mount.specs.Telling.{mounted_lines}
 use Rattle.nv_runner.specs.Faithful.{Basis}
 use Rattle.nv_header.proofs.InRow.{region_as}
 use Rattle.nv_top.specs.Runs.{BeginsMount, basis_over}
-use Rattle.nv_top.specs.Scheduling.{HasScheduledOn, HasUsedTurns}
+use Rattle.nv_top.specs.Scheduling.{HasUsedTurns, ShowsScheduled}
 use Rattle.nv_top.specs.Stopping.{IsAway}
 use Rattle.nv_top.proofs.SchedulingLemmas.{armed_none}
 use Rattle.nv_top.proofs.StoppingLemmas.{stop_grows}
@@ -37,19 +37,21 @@ returns-in-Ok-clause-scheduled g c =
     let stores = c.args.opened.stores.items in
     let trace = c.args.trace.now in
     let options = c.args.options in
+    let place = c.args.place in
+    let final = c.args.last in
     let start = g.T.Bench.state c.args.bench.now in
     let last = g.T.Bench.state c.schedule_mount.new.bench in
     let before = sum_by g.T.Part.Lines.fault_count region.parts.items + sum_by g.T.Store.Backing.fault_count stores in
     let mounted = failed_before c.in-Ok.pass in
     let made = 1 + c.in-Ok.mount.board.opened.sizes.entries + length c.in-Ok.pass.spare in
     IfOk-weaker c.schedule_mount.result
-    (λ text. (basis : Basis) → BeginsMount basis trace c.in-Ok.mount c.in-Ok.pass → basis.names ≡ start.lent
-    → IfSome start.told (λ left. IsAway basis.names left → HasScheduledOn (Rose (saturated (start.faults + mounted)) last.faults) options start.picked basis trace made left.stores last text.items))
-    (λ text. (parts : List Part) (now : List Store) → AreNow (map history region.parts.items) parts → AreNow (map held stores) now
-    → IfSome start.told (λ left. IsAway region.names left → HasScheduledOn (Rose (saturated (start.faults + before)) last.faults) options start.picked (basis_over region options.pages (files_of now)) trace (length region.parts.items) left.stores last text.items))
-    (λ text ran parts now parts_are now_are.
+    (λ lines. (basis : Basis) → BeginsMount basis trace c.in-Ok.mount c.in-Ok.pass → basis.names ≡ start.lent
+    → IfSome start.told (λ left. IsAway basis.names left → ShowsScheduled (Rose (saturated (start.faults + mounted)) last.faults) options start.picked basis trace made left.stores last place final lines))
+    (λ lines. (parts : List Part) (now : List Store) → AreNow (map history region.parts.items) parts → AreNow (map held stores) now
+    → IfSome start.told (λ left. IsAway region.names left → ShowsScheduled (Rose (saturated (start.faults + before)) last.faults) options start.picked (basis_over region options.pages (files_of now)) trace (length region.parts.items) left.stores last place final lines))
+    (λ lines ran parts now parts_are now_are.
     let basis = basis_over region options.pages (files_of now) in
-    let Counted : ℕ → ℕ → Type 0 = λ count many. IfSome start.told (λ left. IsAway region.names left → HasScheduledOn (Rose (saturated (start.faults + count)) last.faults) options start.picked basis trace many left.stores last text.items) in
+    let Counted : ℕ → ℕ → Type 0 = λ count many. IfSome start.told (λ left. IsAway region.names left → ShowsScheduled (Rose (saturated (start.faults + count)) last.faults) options start.picked basis trace many left.stores last place final lines) in
     subst (λ many. Counted before many) c.in-Ok.ensures.parts (subst (λ count. Counted count made) c.in-Ok.ensures.counts (ran basis (c.in-Ok.ensures.begins parts now parts_are now_are) (sym c.requires.lent))))
     c.schedule_mount.ensures.scheduled
 

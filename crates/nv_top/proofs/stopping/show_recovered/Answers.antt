@@ -54,7 +54,7 @@ returns-clause-shown g c =
     if_some old.told (Recovered text.items)
     (λ holding told_is sorted of.
     let Told : List _ → Type 0 = λ parts. AllTell (map history parts) in
-    shows old lent new_told holding sorted begun (Text sorted text.items) found region.version region.geometry.page region.geometry.entries region.next region.names c.names.result.now (map history parts_now) (map held backing)
+    shows old lent new_told holding (λ found names files. ShowsOpen sorted begun found names files (Text sorted text.items)) found region.version region.geometry.page region.geometry.entries region.next region.names c.names.result.now (map history parts_now) (map held backing)
     told_is (length-map parts_now history ∙ ap length same_parts ∙ made_many history region.parts.items holding.parts (present (map history region.parts.items) (at_some old.told (λ holding. AllTell (map history region.parts.items)) holding told_is opened.tell))
     (at_some old.told (λ holding. RowTells (map history region.parts.items) (λ now. line_counts now ≡ line_counts holding.parts)) holding told_is opened.lines)) c.requires.at_home.home opened.lent (sym c.names.ensures) (λ now are. text_of now are sorted of)
     (at_some old.told (λ holding. region.version ≡ version_in (head_image holding.parts)) holding told_is opened.version)
