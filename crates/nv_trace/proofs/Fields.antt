@@ -2,6 +2,7 @@
 use Rattle.std.proofs.Common.{◌≡◌, ◌||◌, ℕ, Bool, true, false, map, ◌==◌, ◌<◌, Result, arith, eqb, cond, List, [], ◌∷◌, length, Err, ◌≢◌, refl, ap, ◌∙◌}
 use Rattle.std.specs.List as list
 use Rattle.std.specs.List.{list_any}
+use Rattle.nv_trace.specs.Grammar.{most_parts}
 use Rattle.nv_trace.specs.Said.{said, said_by}
 use Rattle.nv_trace.specs.Traced.{Traced}
 use Rattle.nv_trace.specs.declared.bad_line.Why.TheVariants.{Form}
@@ -35,7 +36,7 @@ pub any_mapped : {A B : Type 0} (test : B → Bool) (f : A → B) (xs : List A) 
 any_mapped test f [] = refl
 any_mapped test f (x ∷ xs) = ap (λ more. test (f x) || more) (any_mapped test f xs)
 
-pub many_fields : (trace : Traced) (fields : List (List ℕ)) → 6 < length fields → said trace fields ≡ Err Form
+pub many_fields : (trace : Traced) (fields : List (List ℕ)) → most_parts < length fields → said trace fields ≡ Err Form
 unfolding said
 many_fields trace fields many =
     either (list_any (λ field. length field == 0) fields) (said_by trace fields)

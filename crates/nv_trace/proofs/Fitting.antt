@@ -7,7 +7,7 @@ use Rattle.nv_plain.specs.Names.{is_name}
 use Rattle.nv_plain.specs.declared.mode.Mode.{Mode}
 use Rattle.nv_trace.specs.Grammar.{and_then, mode_of, most_descriptors, most_files, says}
 use Rattle.nv_trace.specs.Forms.{has_rounds}
-use Rattle.nv_trace.specs.Said.{fill_of, is_keyword, made_by, new_descriptor, new_name, read_of, said, said_by, said_file, said_place, sync_of, thread_of, turn_of, write_of}
+use Rattle.nv_trace.specs.Said.{fill_of, is_keyword, made_by, new_descriptor, new_name, read_of, said, said_by, said_file, said_place, sync_of, thread_of, turn_of, vectored_read_of, vectored_write_of, write_of}
 use Rattle.nv_trace.specs.Traced.{Traced, has_begun}
 use Rattle.nv_trace.specs.declared.bad_line.Why.{Why}
 use Rattle.nv_trace.specs.declared.bad_line.Why.TheVariants.{Form as BadForm, Late, Many, Name as BadName, Repeat}
@@ -43,6 +43,11 @@ module _ (trace : Traced) (fields : List (List ℕ)) where
   call_fits (Ok thread) (Ok call) = tt
   call_fits (Ok thread) (Err why) = tt
   call_fits (Err why) called = tt
+
+  called_fits : (test : Bool) (thread : Result ℕ Why) (called : Result TraceCall Why) (other : Result Statement Why) → IfOk other (FitsAs trace fields)
+      → IfOk (cond test (and_then (λ thread. and_then (λ call. Ok (Call thread call)) called) thread) other) (FitsAs trace fields)
+  called_fits true thread called other fits = call_fits thread called
+  called_fits false thread called other fits = fits
 
   abbrev behind_late : List ℕ → Result (List ℕ) Why
   behind_late name =
@@ -89,11 +94,15 @@ by_fits trace (word ∷ number ∷ name ∷ mode ∷ []) =
     (λ _. opened_fits trace (word ∷ number ∷ name ∷ mode ∷ []) number name mode) (λ _. tt)
 by_fits trace (thread ∷ word ∷ fd ∷ at ∷ last ∷ []) =
     let fields : List (List ℕ) = thread ∷ word ∷ fd ∷ at ∷ last ∷ [] in
-    let read : Result Statement Why = cond (says word (codes "pread")) (made_by trace thread (read_of trace fd at last)) (Err BadForm) in
-    let write : Result Statement Why = made_by trace thread (write_of trace fd at last) in
-    if_cond (is_keyword thread) (Err BadForm) (cond (says word (codes "pwrite")) write read) (FitsAs trace fields) (λ _. tt)
-    (λ _. if_cond (says word (codes "pwrite")) write read (FitsAs trace fields) (λ _. call_fits trace fields (thread_of trace thread) (write_of trace fd at last))
-    (λ _. if_cond (says word (codes "pread")) (made_by trace thread (read_of trace fd at last)) (Err BadForm) (FitsAs trace fields) (λ _. call_fits trace fields (thread_of trace thread) (read_of trace fd at last)) (λ _. tt)))
+    let vectored_read : Result Statement Why = cond (says word (codes "preadv")) (made_by trace thread (vectored_read_of trace fd at last)) (Err BadForm) in
+    let vectored_write : Result Statement Why = cond (says word (codes "pwritev")) (made_by trace thread (vectored_write_of trace fd at last)) vectored_read in
+    let read : Result Statement Why = cond (says word (codes "pread")) (made_by trace thread (read_of trace fd at last)) vectored_write in
+    let write : Result Statement Why = cond (says word (codes "pwrite")) (made_by trace thread (write_of trace fd at last)) read in
+    if_cond (is_keyword thread) (Err BadForm) write (FitsAs trace fields) (λ _. tt)
+    (λ _. called_fits trace fields (says word (codes "pwrite")) (thread_of trace thread) (write_of trace fd at last) read
+    (called_fits trace fields (says word (codes "pread")) (thread_of trace thread) (read_of trace fd at last) vectored_write
+    (called_fits trace fields (says word (codes "pwritev")) (thread_of trace thread) (vectored_write_of trace fd at last) vectored_read
+    (called_fits trace fields (says word (codes "preadv")) (thread_of trace thread) (vectored_read_of trace fd at last) (Err BadForm) tt))))
 by_fits trace (thread ∷ word ∷ fd ∷ at ∷ len ∷ byte ∷ []) =
     let fields : List (List ℕ) = thread ∷ word ∷ fd ∷ at ∷ len ∷ byte ∷ [] in
     if_cond (not (is_keyword thread) && says word (codes "pfill")) (made_by trace thread (fill_of trace fd at len byte)) (Err BadForm) (FitsAs trace fields)

@@ -7,6 +7,7 @@ mod Inputs
 mod NextRounds
 pub mod Numbered
 mod Numbers
+mod PartLists
 mod Parts
 pub mod ReadEnds
 pub mod ReadFirst

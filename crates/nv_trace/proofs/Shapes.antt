@@ -23,7 +23,7 @@ use Rattle.nv_trace.specs.declared.trace.Descriptor.{Descriptor}
 use Rattle.nv_trace.specs.declared.token.Token.{Token}
 use Rattle.nv_trace.specs.declared.trace_call.TracedCall.{TracedCall}
 use Rattle.nv_trace.specs.declared.trace_call.TraceCall.{TraceCall}
-use Rattle.nv_trace.specs.declared.trace_call.TraceCall.TheVariants.{Pread, Pwrite, Fsync}
+use Rattle.nv_trace.specs.declared.trace_call.TraceCall.TheVariants.{Pread, Pwrite, Preadv, Pwritev, Fsync}
 
 pub place_within : (name : List ℕ) (names : List (List ℕ)) → said_place name names ≤ length names
 place_within name names = prefix_len-le-length (λ known. not (pointwise nat_eq known name)) names
@@ -73,6 +73,8 @@ with_name trace name may is =
 within_more : (count more : ℕ) (call : TraceCall) → count ≤ more → IsCallWithin count call → IsCallWithin more call
 within_more count more (Pread fd at len) few within = (omega (arith, within.0), within.1, within.2)
 within_more count more (Pwrite fd at bytes) few within = (omega (arith, within.0), within.1, within.2)
+within_more count more (Preadv fd at lens) few within = (omega (arith, within.0), within.1, within.2, within.3)
+within_more count more (Pwritev fd at parts) few within = (omega (arith, within.0), within.1, within.2, within.3)
 within_more count more (Fsync fd) few within = omega arith
 
 with_descriptor : (trace : Traced) (descriptor : Descriptor) → MayFollow trace (Opened descriptor) → IsWellFormed trace

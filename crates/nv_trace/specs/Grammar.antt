@@ -1,6 +1,6 @@
 -- The grammar of traces: how the fields of a line are spelled.
-use Rattle.std.specs.Prelude.{ℕ, ◌+◌, ◌-◌, ◌*◌, ◌^◌, ◌==◌, ◌&&◌, ◌||◌, nat_eq, nat_le, not, Bool, if◌then◌else◌, List, [], length, slice_index, codes, Option, Some, None, Result, Ok, Err, fold}
-use Rattle.std.specs.List.{list_all}
+use Rattle.std.specs.Prelude.{ℕ, ◌≤◌, ◌+◌, ◌-◌, ◌*◌, ◌^◌, ◌==◌, ◌&&◌, ◌||◌, nat_eq, nat_le, not, Bool, if◌then◌else◌, List, [], ◌∷◌, length, slice_index, codes, Option, Some, None, Result, Ok, Err, fold}
+use Rattle.std.specs.List.{concat, list_all, sum}
 use Rattle.std.specs.Option.{option_and_then, ok_or}
 use Rattle.std.specs.Result.{result_ok}
 use lib.Pointwise.{pointwise}
@@ -9,7 +9,8 @@ use Rattle.nv_plain.specs.Layouts.{mount_layout}
 use Rattle.nv_plain.specs.declared.mode.Mode.{Mode}
 use Rattle.nv_plain.specs.declared.mode.Mode.TheVariants.{R, W, Rw}
 use Rattle.nv_trace.specs.declared.bad_line.Why.{Why}
-use Rattle.nv_trace.specs.declared.bad_line.Why.TheVariants.{Number, Mode as BadMode, Hex}
+use Rattle.nv_trace.specs.Lines.{parts_between}
+use Rattle.nv_trace.specs.declared.bad_line.Why.TheVariants.{Number, Mode as BadMode, Hex, Many}
 
 -- the largest number of a thread
 abbrev pub last_thread : ℕ
@@ -21,6 +22,14 @@ largest_offset = 2 ^ 62 - 1
 
 abbrev pub largest_count : ℕ
 largest_count = 131072
+
+-- the most parts of a vectored call
+abbrev pub most_parts : ℕ
+most_parts = 16
+
+-- a vectored call may have so many parts
+abbrev pub IsPartCount : ℕ → Type 0
+IsPartCount count = (1 ≤ count) × (count ≤ most_parts)
 
 -- the most files and descriptors of a trace
 abbrev pub most_files : ℕ
@@ -68,6 +77,35 @@ hex_of field = option_and_then movable (result_ok (decode_of field))
 -- the bytes that a field spells, `-` for none
 unfoldable pub bytes_of : List ℕ → Result (List ℕ) Why
 bytes_of field = if says field (codes "-") then Ok [] else ok_or (hex_of field) Hex
+
+-- the parts of a list, a comma between each two: so many as a call may have
+unfoldable pub parts_of : List ℕ → Result (List (List ℕ)) Why
+parts_of field = if nat_le (length (parts_between 44 field)) most_parts then Ok (parts_between 44 field) else Err Many
+
+-- what each of some parts spells, in order, or why the first that spells nothing doesn't
+unfoldable pub each_of : {A : Type 0} → (List ℕ → Result A Why) → List (List ℕ) → Result (List A) Why
+each_of read [] = Ok []
+each_of read (part ∷ parts) = and_then (λ first. and_then (λ rest. Ok (first ∷ rest)) (each_of read parts)) (read part)
+
+-- the bytes that a part spells, `-` for none: an empty part spells none
+unfoldable pub part_of : List ℕ → Result (List ℕ) Why
+part_of part = if length part == 0 then Err Hex else bytes_of part
+
+-- some lists of bytes, where a call may move so many together
+abbrev pub all_movable : List (List ℕ) → Result (List (List ℕ)) Why
+all_movable parts = if nat_le (length (concat parts)) largest_count then Ok parts else Err Hex
+
+-- the lists of bytes that a field spells, a comma between each two
+unfoldable pub byte_lists_of : List ℕ → Result (List (List ℕ)) Why
+byte_lists_of field = and_then all_movable (and_then (each_of part_of) (parts_of field))
+
+-- some lengths, where a call may move so many bytes together
+abbrev pub all_countable : List ℕ → Result (List ℕ) Why
+all_countable lens = if nat_le (sum lens) largest_count then Ok lens else Err Number
+
+-- the lengths that a field spells, a comma between each two
+unfoldable pub lens_of : List ℕ → Result (List ℕ) Why
+lens_of field = and_then all_countable (and_then (each_of (number_of largest_count)) (parts_of field))
 
 -- the mode that a field spells
 unfoldable pub mode_of : List ℕ → Result Mode Why

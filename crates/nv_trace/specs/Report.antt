@@ -6,7 +6,7 @@ use Rattle.hex.specs.Hex.{encode_lower}
 use Rattle.nv_plain.specs.declared.call.Reply.{Reply}
 use Rattle.nv_plain.specs.declared.call.Reply.TheVariants.{Bytes, Parts, Count, Done}
 use Rattle.nv_trace.specs.declared.trace_call.TraceCall.{TraceCall}
-use Rattle.nv_trace.specs.declared.trace_call.TraceCall.TheVariants.{Pread, Pwrite, Fsync}
+use Rattle.nv_trace.specs.declared.trace_call.TraceCall.TheVariants.{Pread, Pwrite, Preadv, Pwritev, Fsync}
 use Rattle.nv_trace.specs.declared.report.Refusal.{Refusal}
 use Rattle.nv_trace.specs.declared.report.Refusal.TheVariants.{BadDescriptor, TooFar, TooLong, Stopped, Spent, Again, RegionFault, StoreFault}
 use Rattle.nv_trace.specs.declared.report.Fate.{Fate}
@@ -36,6 +36,8 @@ hex_text (byte ∷ bytes) = encode_lower (byte ∷ bytes)
 abbrev pub call_fields : TraceCall → List (List ℕ)
 call_fields (Pread fd at len) = codes "pread" ∷ decimal fd ∷ decimal at ∷ decimal len ∷ []
 call_fields (Pwrite fd at bytes) = codes "pwrite" ∷ decimal fd ∷ decimal at ∷ decimal (length bytes) ∷ []
+call_fields (Preadv fd at lens) = codes "preadv" ∷ decimal fd ∷ decimal at ∷ listed (map decimal lens) ∷ []
+call_fields (Pwritev fd at parts) = codes "pwritev" ∷ decimal fd ∷ decimal at ∷ listed (map (λ part. decimal (length part)) parts) ∷ []
 call_fields (Fsync fd) = codes "fsync" ∷ decimal fd ∷ []
 
 abbrev pub reply_text : Reply → List ℕ

@@ -6,7 +6,7 @@ use lib.Pointwise.{pointwise}
 use Rattle.nv_plain.specs.Layouts.{mount_layout}
 use Rattle.nv_plain.specs.Names.{is_name}
 use Rattle.nv_trace.specs.Forms.{has_rounds, has_steps}
-use Rattle.nv_trace.specs.Grammar.{and_then, bytes_of, largest_count, largest_offset, last_thread, mode_of, most_descriptors, most_files, number_of, says}
+use Rattle.nv_trace.specs.Grammar.{and_then, byte_lists_of, bytes_of, largest_count, largest_offset, last_thread, lens_of, mode_of, most_descriptors, most_files, number_of, says}
 use Rattle.nv_trace.specs.Tokens.{tokens_of}
 use Rattle.nv_trace.specs.Traced.{Traced, has_begun, has_tokens}
 use Rattle.nv_trace.specs.declared.bad_line.Why.{Why}
@@ -18,7 +18,7 @@ use Rattle.nv_trace.specs.declared.statement.Statement.{Statement}
 use Rattle.nv_trace.specs.declared.statement.Statement.TheVariants.{File, Opened, Call, Round}
 use Rattle.nv_trace.specs.declared.token.Token.{Token}
 use Rattle.nv_trace.specs.declared.trace_call.TraceCall.{TraceCall}
-use Rattle.nv_trace.specs.declared.trace_call.TraceCall.TheVariants.{Pread, Pwrite, Fsync}
+use Rattle.nv_trace.specs.declared.trace_call.TraceCall.TheVariants.{Pread, Pwrite, Preadv, Pwritev, Fsync}
 
 -- the place of a name among some names, or how many there are
 abbrev pub said_place : List ℕ → List (List ℕ) → ℕ
@@ -72,6 +72,16 @@ abbrev pub write_of : Traced → (fd at hex : List ℕ) → Result TraceCall Why
 write_of trace fd at hex =
     and_then (λ place. and_then (λ bytes. Ok (Pwrite place.fd place.at bytes)) (bytes_of hex)) (call_at trace fd at)
 
+-- `preadv FD OFF LEN,LEN,..`
+abbrev pub vectored_read_of : Traced → (fd at lens : List ℕ) → Result TraceCall Why
+vectored_read_of trace fd at lens =
+    and_then (λ place. and_then (λ lens. Ok (Preadv place.fd place.at lens)) (lens_of lens)) (call_at trace fd at)
+
+-- `pwritev FD OFF HEX,HEX,..`
+abbrev pub vectored_write_of : Traced → (fd at parts : List ℕ) → Result TraceCall Why
+vectored_write_of trace fd at parts =
+    and_then (λ place. and_then (λ parts. Ok (Pwritev place.fd place.at parts)) (byte_lists_of parts)) (call_at trace fd at)
+
 -- `pfill FD OFF LEN BYTE`: a write of so many bytes that are alike
 abbrev pub fill_of : Traced → (fd at len byte : List ℕ) → Result TraceCall Why
 fill_of trace fd at len byte =
@@ -108,6 +118,8 @@ said_by trace (thread ∷ word ∷ fd ∷ at ∷ last ∷ []) =
     if is_keyword thread then Err Form
     else if says word (codes "pwrite") then made_by trace thread (write_of trace fd at last)
     else if says word (codes "pread") then made_by trace thread (read_of trace fd at last)
+    else if says word (codes "pwritev") then made_by trace thread (vectored_write_of trace fd at last)
+    else if says word (codes "preadv") then made_by trace thread (vectored_read_of trace fd at last)
     else Err Form
 said_by trace (thread ∷ word ∷ fd ∷ at ∷ len ∷ byte ∷ []) =
     if not (is_keyword thread) && says word (codes "pfill") then made_by trace thread (fill_of trace fd at len byte) else Err Form

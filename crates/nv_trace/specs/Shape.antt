@@ -1,10 +1,10 @@
 -- What each trace that was read keeps to.
 use Rattle.std.specs.Prelude.{◌≡◌, ◌≢◌, ℕ, ◌<◌, ◌≤◌, [], length, true, false, All}
-use Rattle.std.specs.List.{slice_index_or}
+use Rattle.std.specs.List.{concat, slice_index_or, sum}
 use Rattle.std.specs.List.Sorted.{IsNonDecreasingBy, IsStrictlyIncreasing}
 use Rattle.nv_plain.specs.Layouts.{mount_layout}
 use Rattle.nv_plain.specs.Names.{is_name}
-use Rattle.nv_trace.specs.Grammar.{largest_offset, largest_count, last_thread, most_files, most_descriptors}
+use Rattle.nv_trace.specs.Grammar.{IsPartCount, largest_offset, largest_count, last_thread, most_files, most_descriptors}
 use Rattle.nv_trace.specs.Forms.{has_rounds, has_steps}
 use Rattle.nv_trace.specs.Said.{said_place}
 use Rattle.nv_trace.specs.Tokens.{last_cut}
@@ -15,12 +15,15 @@ use Rattle.nv_trace.specs.declared.token.Token.{Token}
 use Rattle.nv_trace.specs.declared.token.Token.TheVariants.{Advance, Cut}
 use Rattle.nv_trace.specs.declared.token.Turn.TheVariants.{Thread, Cleaner}
 use Rattle.nv_trace.specs.declared.trace_call.TraceCall.{TraceCall}
-use Rattle.nv_trace.specs.declared.trace_call.TraceCall.TheVariants.{Pread, Pwrite, Fsync}
+use Rattle.nv_trace.specs.declared.trace_call.TraceCall.TheVariants.{Pread, Pwrite, Preadv, Pwritev, Fsync}
 
 -- a call's descriptor is one of so many, and its numbers lie in the grammar's ranges
 abbrev pub IsCallWithin : ℕ → TraceCall → Type 0
 IsCallWithin descriptors (Pread fd at len) = (fd < descriptors) × (at ≤ largest_offset) × (len ≤ largest_count)
 IsCallWithin descriptors (Pwrite fd at bytes) = (fd < descriptors) × (at ≤ largest_offset) × (length bytes ≤ largest_count)
+IsCallWithin descriptors (Preadv fd at lens) = (fd < descriptors) × (at ≤ largest_offset) × IsPartCount (length lens) × (sum lens ≤ largest_count)
+IsCallWithin descriptors (Pwritev fd at parts) =
+    (fd < descriptors) × (at ≤ largest_offset) × IsPartCount (length parts) × (length (concat parts) ≤ largest_count)
 IsCallWithin descriptors (Fsync fd) = fd < descriptors
 
 -- a token's thread is one that a call may have, and the number of a device call is one at which it may be cut

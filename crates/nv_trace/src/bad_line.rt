@@ -21,9 +21,9 @@ pub enum Why {
     Name,
     /// A mode is none of `r`, `w` and `rw`.
     Mode,
-    /// Bytes are misspelt, or more than 131,072.
+    /// Bytes are misspelt, or more than 131,072, those of all parts together.
     Hex,
-    /// There are as many files or descriptors as there may be.
+    /// There are as many files or descriptors as there may be, or more parts than a call may have.
     Many,
     /// A file is declared twice.
     Repeat,

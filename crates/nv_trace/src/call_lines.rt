@@ -2,12 +2,12 @@
 ghost use Rattle.std.specs.Prelude.{◌≡◌, ◌<◌, ◌≤◌, [], ◌∷◌, false, length, IfOk, Ok, OnOk};
 ghost use Rattle.nv_trace.specs.Grammar as grammar;
 ghost use Rattle.nv_trace.specs.Said as said;
-ghost use Rattle.nv_trace.specs.Said.{IsRead, made_by, read_of, said_by, write_of};
+ghost use Rattle.nv_trace.specs.Said.{IsRead, made_by, read_of, said_by, vectored_read_of, vectored_write_of, write_of};
 ghost use Rattle.nv_trace.specs.Shape.{MayFollow};
 ghost use Rattle.nv_trace.specs.Traced.{has_tokens};
 
 use crate::bad_line::{Unsaid, Why};
-use crate::spelling::{LARGEST_COUNT, bytes_of, number, says};
+use crate::spelling::{LARGEST_COUNT, byte_lists_of, bytes_of, lens_of, number, says};
 use crate::statement::Statement;
 use crate::trace::Trace;
 use crate::trace_call::TraceCall;
@@ -47,7 +47,7 @@ pub(crate) fn sync(trace: &Trace, thread: &[u8], word: &[u8], fd: &[u8]) -> Resu
     })
 }
 
-/// `T pwrite FD OFF HEX` or `T pread FD OFF LEN`
+/// `T pwrite FD OFF HEX`, `T pread FD OFF LEN`, `T pwritev FD OFF HEX,HEX,..` or `T preadv FD OFF LEN,LEN,..`
 #[tactic(auto, unfolding(crate::specs::Said::said_by))]
 pub(crate) fn read_or_write(
     alloc: Global,
@@ -67,6 +67,10 @@ pub(crate) fn read_or_write(
         write(alloc, trace, thread, fd, at, last)
     } else if says(word, "pread") {
         Ok(read(trace, thread, fd, at, last)?)
+    } else if says(word, "pwritev") {
+        write_parts(alloc, trace, thread, fd, at, last)
+    } else if says(word, "preadv") {
+        read_parts(alloc, trace, thread, fd, at, last)
     } else {
         Err(Unsaid::Bad(Why::Form))
     }
@@ -147,6 +151,48 @@ fn write(
     Ok(Statement::Call {
         thread,
         call: TraceCall::Pwrite { fd, at, bytes },
+    })
+}
+
+/// A vectored write of a thread, by the bytes of its parts.
+fn write_parts(
+    alloc: Global,
+    trace: &Trace,
+    thread: &[u8],
+    fd: &[u8],
+    at: &[u8],
+    parts: &[u8],
+) -> Result<Statement, Unsaid>
+    ensures read { IsRead result (made_by trace.now thread.now (vectored_write_of trace.now fd.now at.now parts.now)) }
+    ensures follows { IfOk result (MayFollow trace.now) }
+{
+    let thread = thread_of(trace, thread)?;
+    let CallPlace { fd, at } = call_at(trace, fd, at)?;
+    let parts = byte_lists_of(alloc, parts)?;
+    Ok(Statement::Call {
+        thread,
+        call: TraceCall::Pwritev { fd, at, parts },
+    })
+}
+
+/// A vectored read of a thread, by the lengths of its parts.
+fn read_parts(
+    alloc: Global,
+    trace: &Trace,
+    thread: &[u8],
+    fd: &[u8],
+    at: &[u8],
+    lens: &[u8],
+) -> Result<Statement, Unsaid>
+    ensures read { IsRead result (made_by trace.now thread.now (vectored_read_of trace.now fd.now at.now lens.now)) }
+    ensures follows { IfOk result (MayFollow trace.now) }
+{
+    let thread = thread_of(trace, thread)?;
+    let CallPlace { fd, at } = call_at(trace, fd, at)?;
+    let lens = lens_of(alloc, lens)?;
+    Ok(Statement::Call {
+        thread,
+        call: TraceCall::Preadv { fd, at, lens },
     })
 }
 

@@ -7,6 +7,7 @@ mod laws;
 mod line;
 mod mem_sink;
 mod mem_source;
+mod part_list;
 mod pending_line;
 mod plan;
 mod read_error;
@@ -30,6 +31,7 @@ pub use laws::{
 pub use line::read_line;
 pub use mem_sink::MemSink;
 pub use mem_source::MemSource;
+pub use part_list::{LenList, PartList};
 pub use read_error::{LineError, ReadError};
 pub use reader::{LineReader, read_trace};
 pub use reader_source::ReaderSource;

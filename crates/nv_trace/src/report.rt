@@ -1,5 +1,6 @@
 //! The lines of a report.
-ghost use Rattle.std.specs.Prelude.{◌≡◌, IfOk, map, string_bytes};
+ghost use Rattle.std.specs.Prelude.{◌≡◌, IfOk, length, map, string_bytes};
+ghost use Rattle.std.specs.Fmt.{decimal};
 ghost use Rattle.nv_trace.specs.Report.{history_text, refused_text, open_text, recovered_text, file_text, end_text, call_fields, spaced, reply_text, refusal_text, fate_text, hex_text, listed};
 
 use crate::TraceCall;
@@ -127,8 +128,41 @@ fn call_text(alloc: Global, call: &TraceCall) -> Result<String, AllocError>
         TraceCall::Pwrite { fd, at, bytes } => {
             format!(in alloc; "pwrite {fd} {at} {}", bytes.len())
         }
+        TraceCall::Preadv { fd, at, lens } => {
+            let lens = lens_text(alloc, lens.as_slice())?;
+            format!(in alloc; "preadv {fd} {at} {lens}")
+        }
+        TraceCall::Pwritev { fd, at, parts } => {
+            let lens = part_lens_text(alloc, parts.as_slice())?;
+            format!(in alloc; "pwritev {fd} {at} {lens}")
+        }
         TraceCall::Fsync { fd } => format!(in alloc; "fsync {fd}"),
     }
+}
+
+fn lens_text(alloc: Global, lens: &[u64]) -> Result<String, AllocError>
+    ensures { IfOk result (λ text. string_bytes text ≡ listed (map decimal lens.now)) }
+{
+    let Some((first, rest)) = lens.split_first() else {
+        return Ok(String::new(alloc));
+    };
+    let mut text = first.to_string(alloc)?;
+    for len in rest {
+        let more = len.to_string(alloc)?;
+        text.push(',')?;
+        text.push_str(&more)?;
+    }
+    Ok(text)
+}
+
+fn part_lens_text(alloc: Global, parts: &[Bytes]) -> Result<String, AllocError>
+    ensures { IfOk result (λ text. string_bytes text ≡ listed (map (λ part. decimal (length part)) parts.now)) }
+{
+    let mut lens = Vec::new(alloc);
+    for part in parts {
+        lens.push(part.len() as u64)?;
+    }
+    lens_text(alloc, &lens)
 }
 
 fn reply_text(alloc: Global, reply: &Reply) -> Result<String, AllocError>

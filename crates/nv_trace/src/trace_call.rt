@@ -1,6 +1,7 @@
 //! The calls of a trace.
 ghost use Rattle.std.specs.Prelude.{◌≡◌, IfOk};
 
+use crate::part_list::{LenList, PartList, copied};
 use nv_plain::{Bytes, NoMemory};
 use std::alloc::Global;
 
@@ -9,6 +10,8 @@ use std::alloc::Global;
 pub enum TraceCall {
     Pread { fd: u64, at: u64, len: u64 },
     Pwrite { fd: u64, at: u64, bytes: Bytes },
+    Preadv { fd: u64, at: u64, lens: LenList },
+    Pwritev { fd: u64, at: u64, parts: PartList },
     Fsync { fd: u64 },
 }
 
@@ -36,7 +39,17 @@ impl TraceCall {
             TraceCall::Pwrite { fd, at, bytes } => Ok(TraceCall::Pwrite {
                 fd: *fd,
                 at: *at,
-                bytes: Bytes::from_vec(Vec::from_slice(alloc, bytes.as_slice())?),
+                bytes: copied(alloc, bytes)?,
+            }),
+            TraceCall::Preadv { fd, at, lens } => Ok(TraceCall::Preadv {
+                fd: *fd,
+                at: *at,
+                lens: lens.copy(alloc)?,
+            }),
+            TraceCall::Pwritev { fd, at, parts } => Ok(TraceCall::Pwritev {
+                fd: *fd,
+                at: *at,
+                parts: parts.copy(alloc)?,
             }),
             TraceCall::Fsync { fd } => Ok(TraceCall::Fsync { fd: *fd }),
         }

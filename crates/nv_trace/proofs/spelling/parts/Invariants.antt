@@ -1,5 +1,9 @@
-use Rattle.std.proofs.Common.{◌≡◌}
+use Rattle.std.proofs.Common.{◌≡◌, ◌≤◌, length}
+use Rattle.nv_trace.specs.Grammar.{most_parts}
 use Rattle.nv_trace.proofs.spelling.parts.Given as goal
 
 abbrev pub invariant-loop-part : goal.invariant-loop-part
-invariant-loop-part l = l.parts.items ≡ l.yielded
+invariant-loop-part l = record {
+  parts : l.parts.items ≡ l.yielded;
+  few : length l.parts.items ≤ most_parts;
+}
