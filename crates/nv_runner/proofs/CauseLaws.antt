@@ -1,7 +1,7 @@
 -- Causes: what a report shows of why the calls of a run were refused.
-use Rattle.std.proofs.Common.{◌≡◌, ℕ, ◌+◌, ◌*◌, ◌^◌, ◌<◌, ◌≤◌, List, [], ◌∷◌, ◌++◌, cond, length, map, true, false, inl, inr, refl, sym, ap, subst, ◌∙◌, arith}
+use Rattle.std.proofs.Common.{if◌then◌else◌, ◌≡◌, ℕ, ◌+◌, ◌*◌, ◌^◌, ◌<◌, ◌≤◌, List, [], ◌∷◌, ◌++◌, cond, length, map, true, false, inl, inr, refl, sym, ap, subst, ◌∙◌, arith}
 use Rattle.std.specs.Prelude.{Bool, nat_lt, min, Option, Some, None, option_map, is_some, MatchOption, ⊤, IsPermutation}
-use Rattle.std.specs.List.{slice_get}
+use Rattle.std.specs.List.{concat, slice_get, sum}
 use Rattle.std.proofs.lemmas.List.{length-map}
 use Rattle.std.proofs.lemmas.Option.{none-some, slice_get-get_or, slice_get-map}
 use Rattle.nv_plain.specs.Layouts.{mount_layout}
@@ -15,7 +15,7 @@ use Rattle.nv_table.specs.state.States.{PassState}
 use Rattle.nv_mount.specs.declared.fds.Fd.{Fd}
 use Rattle.nv_mirror.specs.declared.answers.Refusal as mirror
 use Rattle.nv_mirror.specs.declared.answers.Refusal.TheVariants as why
-use Rattle.nv_calls.specs.calls.EarlyRefusals.{early_fd_refusal, early_range_refusal}
+use Rattle.nv_calls.specs.calls.EarlyRefusals.{early_fd_refusal, early_range_refusal, early_refusal}
 use Rattle.nv_calls.specs.fsync.SyncRuns.{file_of_fd}
 use Rattle.nv_calls.specs.histories.Heeds.{HasSeenStop}
 use Rattle.nv_trace.specs.Shape.{IsCallWithin}
@@ -24,7 +24,7 @@ use Rattle.nv_trace.specs.declared.report.Refusal.{Refusal}
 use Rattle.nv_trace.specs.declared.report.Refusal.TheVariants.{BadDescriptor, TooFar, TooLong}
 use Rattle.nv_trace.specs.declared.trace.Descriptor.{Descriptor}
 use Rattle.nv_trace.specs.declared.trace_call.TraceCall.{TraceCall}
-use Rattle.nv_trace.specs.declared.trace_call.TraceCall.TheVariants.{Pread, Pwrite, Fsync}
+use Rattle.nv_trace.specs.declared.trace_call.TraceCall.TheVariants.{Pread, Pwrite, Preadv, Pwritev, Fsync}
 use Rattle.nv_trace.specs.declared.trace_call.TracedCall.{TracedCall}
 use Rattle.nv_runner.specs.Entries.{entries_of_calls, entries_taken}
 use Rattle.nv_runner.specs.declared.plan.Plan.{Plan}
@@ -80,15 +80,19 @@ module _ (basis : Basis) (trace : Traced) (opened : Opened) (fds : List Fd) (is 
   range_alike : (at len : ℕ) → shown_bar (early_range_refusal opened.sizes at len) ≡ barred_by basis.sizes (min mount_layout.group_limit basis.sizes.entries) at len
   range_alike at len = range_bar basis.sizes opened.sizes at len is.page is.entries is.pages
 
+  -- what bars a call that moves so many bytes
+  moved_bar : (may : Mode → Bool) (fd at len : ℕ) → fd < length trace.descriptors
+      → shown_bar (early_refusal may opened.sizes fds fd at len) ≡ (if may (descriptor_at descriptors fd).mode then barred_by basis.sizes (min mount_layout.group_limit basis.sizes.entries) at len else Some BadDescriptor)
+  moved_bar may fd at len within =
+      ap (λ (o : Option Fd). shown_bar (early_fd_refusal may opened.sizes o at len)) (fd_there fd within)
+      ∙ allow_cond (may (descriptor_at descriptors fd).mode) (early_range_refusal opened.sizes at len) (barred_by basis.sizes (min mount_layout.group_limit basis.sizes.entries) at len) (range_alike at len)
+
   -- what bars a call bars it in the report
   pub bar_is : (call : TraceCall) → IsCallWithin (length trace.descriptors) call → shown_bar (early_of_call opened.sizes fds call) ≡ barred basis.sizes descriptors call
-  bar_is (Pread fd at len) within =
-      ap (λ (o : Option Fd). shown_bar (early_fd_refusal can_read opened.sizes o at len)) (fd_there fd within.0)
-      ∙ allow_cond (can_read (descriptor_at descriptors fd).mode) (early_range_refusal opened.sizes at len) (barred_by basis.sizes (min mount_layout.group_limit basis.sizes.entries) at len) (range_alike at len)
-  bar_is (Pwrite fd at bytes) within =
-      ap (λ (o : Option Fd). shown_bar (early_fd_refusal can_write opened.sizes o at (length bytes))) (fd_there fd within.0)
-      ∙ allow_cond (can_write (descriptor_at descriptors fd).mode) (early_range_refusal opened.sizes at (length bytes)) (barred_by basis.sizes (min mount_layout.group_limit basis.sizes.entries) at (length bytes))
-      (range_alike at (length bytes))
+  bar_is (Pread fd at len) within = moved_bar can_read fd at len within.0
+  bar_is (Pwrite fd at bytes) within = moved_bar can_write fd at (length bytes) within.0
+  bar_is (Preadv fd at lens) within = moved_bar can_read fd at (sum lens) within.0
+  bar_is (Pwritev fd at parts) within = moved_bar can_write fd at (length (concat parts)) within.0
   bar_is (Fsync fd) within = ap (λ (o : Option Fd). shown_bar (unless_file (option_map (λ (f : Fd). f.file) o))) (fd_there fd within)
 
   -- entries are counted alike
@@ -158,6 +162,8 @@ module _ (P : mirror.Refusal → Type 0) (bad : P why.BadFd) (far : P why.TooFar
   pub early_such : (sizes : Sizes) (fds : List Fd) (call : TraceCall) → HasSuch (early_of_call sizes fds call)
   early_such sizes fds (Pread fd at len) = fd_such can_read sizes (slice_get fds fd) at len
   early_such sizes fds (Pwrite fd at bytes) = fd_such can_write sizes (slice_get fds fd) at (length bytes)
+  early_such sizes fds (Preadv fd at lens) = fd_such can_read sizes (slice_get fds fd) at (sum lens)
+  early_such sizes fds (Pwritev fd at parts) = fd_such can_write sizes (slice_get fds fd) at (length (concat parts))
   early_such sizes fds (Fsync fd) = file_such (file_of_fd fds fd)
 
 -- where there is a refusal it is one that is shown

@@ -2,6 +2,8 @@ pub mod CallLaws
 pub mod histories
 pub mod ListLaws
 pub mod OpenLaws
+pub mod WrittenLaws
+pub mod ReadvLaws
 pub mod SortedLaws
 pub mod LineLaws
 pub mod draws

@@ -10,7 +10,9 @@ use Rattle.nv_plain.specs.Files.{Files}
 use Rattle.nv_plain.specs.Histories.{after}
 use Rattle.nv_plain.specs.Images.{Image}
 use Rattle.nv_plain.specs.Recovered.{recovered}
+use Rattle.nv_plain.specs.Calls.{files_after}
 use Rattle.nv_plain.specs.declared.call.FileCall.{FileCall}
+use Rattle.nv_plain.specs.declared.call.FileCall.TheVariants.{Read, Write, Readv, Writev, Sync}
 use Rattle.nv_plain.specs.Made.{after_calls}
 use Rattle.nv_pmem.specs.Rows.{InEachRowImage, RowTells}
 use Rattle.nv_pmem.specs.Steps.{PartHistory}
@@ -18,7 +20,7 @@ use Rattle.nv_pmem.proofs.RowLaws.{row_tells_more}
 use Rattle.nv_store.specs.Steps.{StoreHistory}
 use Rattle.nv_recover.specs.Standing.{AreStoreImages}
 use Rattle.nv_core.specs.crash.CrashImages.{OpensRegion}
-use Rattle.nv_core.specs.state.Passes.{IsOneOf}
+use Rattle.nv_core.specs.state.Passes.{IsOneOf, plain_call}
 use Rattle.nv_core.specs.state.Values.{Value}
 use Rattle.nv_table.specs.state.Opened.{Opened, mount_of}
 use Rattle.nv_table.specs.state.States.{PassState}
@@ -99,10 +101,22 @@ falls_nowhere key (x ∷ xs) rising (suc i) (suc j) d before within = falls_nowh
 
 -- ---- calls that were left open
 
+-- a call leaves the files that the plain one leaves which it is made as
+pub leaves_alike : (call : FileCall) (files : Files) → files_after (plain_call call) files ≡ files_after call files
+leaves_alike (Read file at len) files = refl
+leaves_alike (Write file at bytes) files = refl
+leaves_alike (Readv file at lens) files = refl
+leaves_alike (Writev file at parts) files = refl
+leaves_alike (Sync file) files = refl
+
+after_made : {X : Type 0} (call_of : X → FileCall) (xs : List X) (files : Files) → after_calls (map (λ x. plain_call (call_of x)) xs) files ≡ after_calls (map call_of xs) files
+after_made call_of [] files = refl
+after_made call_of (x ∷ xs) files = after_made call_of xs (files_after (plain_call (call_of x)) files) ∙ ap (after_calls (map call_of xs)) (leaves_alike (call_of x) files)
+
 -- those of some that are kept, with their lines
 pub record Kept (on_file : TraceCall → FileCall) (writes : List FileCall) (left : List OpenedCall) : Type 0 where
   pub calls : List TracedCall
-  pub are : map (λ (call : TracedCall). on_file call.call) calls ≡ writes
+  pub are : map (λ (call : TracedCall). plain_call (on_file call.call)) calls ≡ writes
   pub among : (call : TracedCall) → IsOneOf calls call → IsOneOf (map (λ (o : OpenedCall). o.call) left) call
   pub few : (n : ℕ) → added (λ (call : TracedCall). if_same n call.line) calls ≤ added (λ (o : OpenedCall). if_same n o.call.line) left
 
@@ -111,13 +125,13 @@ module _ (fds : List Fd) (on_file : TraceCall → FileCall) (on_files : CallsOnF
   more_left writes o left kept = record { calls = kept.calls; are = kept.are; among = λ call one. inr (kept.among call one); few = λ n. (let less = kept.few n in omega (arith, less)) }
 
   one_kept : (o : OpenedCall) (left : List OpenedCall) (file : ℕ) (is : Bool) → file_of_fd fds (fd_of o.call.call) ≡ Some file → Kept on_file (kept_open first groups (flat_map (open_of fds) left)) left
-      → Kept on_file (map (λ (write : OpenWrite). write.call) (if is then record { call = call_on o.call.call file; first = o.number } ∷ filter (is_kept_open first groups) (flat_map (open_of fds) left) else filter (is_kept_open first groups) (flat_map (open_of fds) left))) (o ∷ left)
+      → Kept on_file (map (λ (write : OpenWrite). write.call) (if is then record { call = plain_call (call_on o.call.call file); first = o.number } ∷ filter (is_kept_open first groups) (flat_map (open_of fds) left) else filter (is_kept_open first groups) (flat_map (open_of fds) left))) (o ∷ left)
   one_kept o left file false of rest = more_left (kept_open first groups (flat_map (open_of fds) left)) o left rest
   one_kept o left file true of rest = record {
     calls = o.call ∷ rest.calls;
     are =
-        ap (λ (call : FileCall). call ∷ map (λ (call : TracedCall). on_file call.call) rest.calls) (on_files o.call.call file of)
-        ∙ ap (λ (calls : List FileCall). call_on o.call.call file ∷ calls) rest.are;
+        ap (λ (call : FileCall). plain_call call ∷ map (λ (call : TracedCall). plain_call (on_file call.call)) rest.calls) (on_files o.call.call file of)
+        ∙ ap (λ (calls : List FileCall). plain_call (call_on o.call.call file) ∷ calls) rest.are;
     among = λ call one. elim one [ inl same ↦ inl same | inr later ↦ inr (rest.among call later) ];
     few = λ n. (let less = rest.few n in omega (arith, less));
   }
@@ -125,7 +139,7 @@ module _ (fds : List Fd) (on_file : TraceCall → FileCall) (on_files : CallsOnF
   some_kept : (o : OpenedCall) (left : List OpenedCall) (file : Option ℕ) → file_of_fd fds (fd_of o.call.call) ≡ file → Kept on_file (kept_open first groups (flat_map (open_of fds) left)) left
       → Kept on_file (kept_open first groups (opened_on file o.call.call o.number ++ flat_map (open_of fds) left)) (o ∷ left)
   some_kept o left None of rest = more_left (kept_open first groups (flat_map (open_of fds) left)) o left rest
-  some_kept o left (Some file) of rest = one_kept o left file (is_kept_open first groups (record { call = call_on o.call.call file; first = o.number })) of rest
+  some_kept o left (Some file) of rest = one_kept o left file (is_kept_open first groups (record { call = plain_call (call_on o.call.call file); first = o.number })) of rest
 
   pub kept_of : (left : List OpenedCall) → Kept on_file (kept_open first groups (flat_map (open_of fds) left)) left
   kept_of [] = record { calls = []; are = refl; among = λ call one. one; few = λ n. omega arith }
@@ -232,7 +246,8 @@ left_by basis trace fds plan start ended outcome part_values store_values parts 
       own_lines = own_lines made history kept.calls out.own sorted kept.few;
       files =
           left_open_are_kept fds left (faults_then ended.view) (files_then ended.view basis.files) image bytes moved (whole.faults out.run_out.idle.owned out.run_out.idle.taken)
-          ∙ ap (λ (writes : List FileCall). after_calls writes (files_then ended.view basis.files)) (sym kept.are) ∙ ap (λ (files : Files). after_calls (map (λ (call : TracedCall). on_file call.call) kept.calls) files) files;
+          ∙ ap (λ (writes : List FileCall). after_calls writes (files_then ended.view basis.files)) (sym kept.are)
+          ∙ after_made (λ (call : TracedCall). on_file call.call) kept.calls (files_then ended.view basis.files) ∙ ap (λ (files : Files). after_calls (map (λ (call : TracedCall). on_file call.call) kept.calls) files) files;
     } in
     record {
       are = are;

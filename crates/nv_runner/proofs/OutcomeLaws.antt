@@ -1,11 +1,11 @@
 -- Outcomes: what became of the calls of a trace, from the state of pass 0 after the rounds, and after the log was cleaned.
 use Rattle.std.proofs.Common.{◌≡◌, ℕ, ◌+◌, ◌^◌, ◌≤◌, true, false, List, [], ◌++◌, length, inl, inr, refl, sym, ap, subst, ◌∙◌, arith, append-nil, length-append}
 use Rattle.std.specs.Prelude.{All, IsPermutation, Option, Some, None, Result, Ok, Err, IfOk, OnOk, is_none, is_some, if◌then◌else◌}
-use Rattle.std.specs.List.{flat_map}
+use Rattle.std.specs.List.{concat, flat_map}
 use Rattle.std.proofs.lemmas.Bool.{cases_eq, ltb-true, true≢false}
 use Rattle.std.proofs.lemmas.List.Sorted.{IsPermutation-sym}
 use Rattle.nv_plain.specs.declared.call.Reply.{Reply}
-use Rattle.nv_core.specs.state.Passes.{IsOneOf, Pass, is_write}
+use Rattle.nv_core.specs.state.Passes.{IsOneOf, Pass, is_write, plain_call}
 use Rattle.nv_core.specs.state.Words.{Sizes, HEAD, STOP}
 use Rattle.nv_core.specs.steps.Events.{Event}
 use Rattle.nv_core.specs.steps.Frames.{OwnEventsTell}
@@ -33,7 +33,7 @@ use Rattle.nv_calls.specs.fsync.SyncRuns.{file_of_fd}
 use Rattle.nv_calls.specs.histories.Faults.{open_in, open_writes}
 use Rattle.nv_calls.specs.histories.Heeds.{HasSeenStop}
 use Rattle.nv_trace.specs.declared.trace_call.TraceCall.{TraceCall}
-use Rattle.nv_trace.specs.declared.trace_call.TraceCall.TheVariants.{Pread, Pwrite, Fsync}
+use Rattle.nv_trace.specs.declared.trace_call.TraceCall.TheVariants.{Pread, Pwrite, Preadv, Pwritev, Fsync}
 use Rattle.nv_trace.specs.declared.trace_call.TracedCall.{TracedCall}
 use Rattle.nv_runner.specs.Entries.{entries_of_calls}
 use Rattle.nv_runner.specs.declared.answer.Answer.TheVariants.{Placed, Open}
@@ -87,18 +87,24 @@ stop_was_seen sound tell view mount is_run zero_is knows all set =
 early_none : (sizes : Sizes) (fds : List Fd) (call : TraceCall) (file : ℕ) → file_of_fd fds (fd_of call) ≡ Some file → IsUnbarred sizes fds call → early_of_call sizes fds call ≡ None
 early_none sizes fds (Pread fd at len) file file_is unbarred = unbarred
 early_none sizes fds (Pwrite fd at bytes) file file_is unbarred = unbarred
+early_none sizes fds (Preadv fd at lens) file file_is unbarred = unbarred
+early_none sizes fds (Pwritev fd at parts) file file_is unbarred = unbarred
 early_none sizes fds (Fsync fd) file file_is unbarred = ap unless_file file_is
 
 -- a write that a fault ended is one of some bytes
-of_some_bytes : (call : TraceCall) (file : ℕ) → is_write (call_on call file) ≡ true → IsWrite call
+of_some_bytes : (call : TraceCall) (file : ℕ) → is_write (plain_call (call_on call file)) ≡ true → IsWrite call
 of_some_bytes (Pread fd at len) file write = absurd (true≢false (sym write))
 of_some_bytes (Pwrite fd at bytes) file write = ltb-true 0 (length bytes) write
+of_some_bytes (Preadv fd at lens) file write = absurd (true≢false (sym write))
+of_some_bytes (Pwritev fd at parts) file write = ltb-true 0 (length (concat parts)) write
 of_some_bytes (Fsync fd) file write = absurd (true≢false (sym write))
 
 -- and nothing bars it
 bars_nothing : (sizes : Sizes) (fds : List Fd) (call : TraceCall) → IsUnbarredWrite sizes fds call → early_of_call sizes fds call ≡ None
 bars_nothing sizes fds (Pread fd at len) unbarred = absurd unbarred
 bars_nothing sizes fds (Pwrite fd at bytes) unbarred = unbarred
+bars_nothing sizes fds (Preadv fd at lens) unbarred = absurd unbarred
+bars_nothing sizes fds (Pwritev fd at parts) unbarred = unbarred
 bars_nothing sizes fds (Fsync fd) unbarred = absurd unbarred
 
 -- ---- pass 0 after its log was cleaned, or where it was not

@@ -1,45 +1,38 @@
 -- Shown lives: by the one history, and by why each call of a round that is over isn't shown.
 use Rattle.std.proofs.Common.{◌≡◌, ℕ, ◌+◌, ◌^◌, ◌<◌, ◌≤◌, ◌==◌, ◌&&◌, ◌||◌, not, nat_lt, Bool, true, false, List, [], ◌∷◌, ◌++◌, length, map, inl, inr, refl, sym, ap, subst, ◌∙◌, arith}
 use Rattle.std.specs.Prelude.{◌⊎◌, All, IsPermutation, Option, Some, None, is_some, Result}
-use Rattle.std.specs.List.Sorted.{IsStrictlyIncreasing}
 use Rattle.std.proofs.lemmas.Bool.{lt-ltb, true≢false}
 use Rattle.std.proofs.lemmas.List.{length-append}
 use Rattle.std.proofs.lemmas.List.Sorted.{length_permutation}
 use Rattle.std.proofs.lemmas.Slice.Zip.{AllZip-long}
-use Rattle.nv_pmem.specs.Steps.{PartHistory}
-use Rattle.nv_store.specs.Steps.{StoreHistory}
-use Rattle.nv_core.specs.crash.CrashImages.{OpensRegion}
 use Rattle.nv_core.specs.state.Passes.{IsOneOf}
-use Rattle.nv_core.specs.state.Values.{Value}
 use Rattle.nv_core.specs.state.Words.{Sizes}
-use Rattle.nv_table.specs.state.Opened.{Opened, mount_of}
+use Rattle.nv_table.specs.state.Opened.{Opened}
 use Rattle.nv_table.specs.state.States.{PassState}
-use Rattle.nv_table.specs.state.Views.{first_view}
 use Rattle.nv_mount.specs.RisenCounts.{SawStop}
 use Rattle.nv_mount.specs.WholeRuns.{history_then}
 use Rattle.nv_mount.specs.declared.fds.Fd.{Fd}
 use Rattle.nv_mirror.specs.declared.answers.Refusal as mirror
 use Rattle.nv_trace.specs.Shape.{IsCallWithin, IsWellFormed}
-use Rattle.nv_trace.specs.Traced.{Traced, lines_in}
-use Rattle.nv_trace.specs.declared.report.Refusal.{Refusal}
+use Rattle.nv_trace.specs.Traced.{Traced}
 use Rattle.nv_trace.specs.declared.trace_call.TracedCall.{TracedCall}
 use Rattle.nv_runner.specs.declared.answer.Answer.{Answer}
 use Rattle.nv_runner.specs.declared.answer.Answer.TheVariants.{Placed, Refused, Open}
 use Rattle.nv_runner.specs.declared.plan.Plan.{Plan}
 use Rattle.nv_runner.specs.declared.run_error.RunError.{RunError}
 use Rattle.nv_runner.specs.declared.sorted.SortedCalls.{SortedCalls}
-use Rattle.nv_runner.specs.EndedRuns.{HasOutcome, IsClosedBy, batch_of}
+use Rattle.nv_runner.specs.EndedRuns.{HasOutcome, batch_of}
 use Rattle.nv_runner.specs.Entries.{entries_of_calls, entries_taken}
 use Rattle.nv_runner.specs.Faithful.{Basis, is_later, not_later}
 use Rattle.nv_runner.specs.FaithfulRuns.{IsMountOf, shown_refusal}
 use Rattle.nv_runner.specs.Histories.{AreAtPlaces, PlacedCall, StandsAs, placed_calls, placed_in_answer}
-use Rattle.nv_runner.specs.KeptRounds.{AreFirstPlaced, AreOfLastRound, AreRoundsOver, IsOfEarlierRound}
-use Rattle.nv_runner.specs.Lists.{MadeCall, calls_made}
+use Rattle.nv_runner.specs.KeptRounds.{AreRoundsOver, IsOfEarlierRound}
+use Rattle.nv_runner.specs.Lists.{MadeCall}
 use Rattle.nv_runner.specs.RunRefusals.{calls_that_drew}
 use Rattle.nv_runner.specs.Runs.{entries_if}
 use Rattle.nv_runner.specs.ShownLives.{RunsLeaveShownLives}
 use Rattle.nv_runner.specs.Sorted.{placed_made}
-use Rattle.nv_runner.specs.ToldRounds.{TellsRounds, WasRefusedBehind}
+use Rattle.nv_runner.specs.ToldRounds.{WasRefusedBehind}
 use Rattle.nv_runner.proofs.CauseLaws.{StoodSo, entries_alike, is_allowed_so, is_shown}
 use Rattle.nv_runner.proofs.LifeLaws.{left_by}
 use Rattle.nv_runner.proofs.draws.DrawnSums.{drew_all, drew_before}

@@ -1,9 +1,10 @@
 -- Calls: what the answer of one call tells.
 use Rattle.std.specs.Prelude.{◌≡◌, ◌≢◌, ℕ, Bool, true, false, ◌&&◌, is_some, List, [], ◌∷◌, ◌++◌, length, Option, Some, None, Err}
+use Rattle.std.specs.List.{concat, sum}
 use Rattle.nv_plain.specs.Modes.{can_read, can_write}
 use Rattle.nv_plain.specs.declared.call.FileCall.{FileCall}
-use Rattle.nv_plain.specs.declared.call.FileCall.TheVariants.{Read, Write, Sync}
-use Rattle.nv_core.specs.state.Passes.{is_write}
+use Rattle.nv_plain.specs.declared.call.FileCall.TheVariants.{Read, Write, Readv, Writev, Sync}
+use Rattle.nv_core.specs.state.Passes.{is_write, plain_call}
 use Rattle.nv_core.specs.state.Words.{Sizes}
 use Rattle.nv_table.specs.invariant.Idle.{IsLater}
 use Rattle.nv_table.specs.state.States.{PassState}
@@ -18,7 +19,7 @@ use Rattle.nv_calls.specs.histories.Faults.{OpenWrite, open_writes}
 use Rattle.nv_calls.specs.histories.Heeds.{HasSeenStop, tells_stop}
 use Rattle.nv_calls.specs.writes.Writes.{is_made_again}
 use Rattle.nv_trace.specs.declared.trace_call.TraceCall.{TraceCall}
-use Rattle.nv_trace.specs.declared.trace_call.TraceCall.TheVariants.{Pread, Pwrite, Fsync}
+use Rattle.nv_trace.specs.declared.trace_call.TraceCall.TheVariants.{Pread, Pwrite, Preadv, Pwritev, Fsync}
 use Rattle.nv_runner.specs.declared.answer.Answer.{Answer}
 use Rattle.nv_runner.specs.declared.answer.Answer.TheVariants.{Placed, Refused, Open}
 use Rattle.nv_runner.specs.Runs.{GoesOn, entries_drawn}
@@ -28,12 +29,16 @@ use Rattle.nv_runner.specs.Tries.{IsMadeFor}
 abbrev pub fd_of : TraceCall → ℕ
 fd_of (Pread fd at len) = fd
 fd_of (Pwrite fd at bytes) = fd
+fd_of (Preadv fd at lens) = fd
+fd_of (Pwritev fd at parts) = fd
 fd_of (Fsync fd) = fd
 
 -- the call of a file
 abbrev pub call_on : TraceCall → (file : ℕ) → FileCall
 call_on (Pread fd at len) file = Read file at len
 call_on (Pwrite fd at bytes) file = Write file at bytes
+call_on (Preadv fd at lens) file = Readv file at lens
+call_on (Pwritev fd at parts) file = Writev file at parts
 call_on (Fsync fd) file = Sync file
 
 -- the log had no room for a write's entries
@@ -41,11 +46,21 @@ abbrev pub wants_room : Refusal → Bool
 wants_room (Again head tail) = true
 wants_room refusal = false
 
+-- a read is made again where a lock was found held
+abbrev pub IsLastingRead : Refusal → Type 0
+IsLastingRead refusal = (cell : ℕ) → refusal ≢ Busy cell
+
+-- A write is made again for that too, where another write drew its numbers, and where the log had no room and a cleaner's batch may be run. One that a device fault ended is open.
+abbrev pub IsLastingWrite : (worker : Option ℕ) → Refusal → Type 0
+IsLastingWrite worker refusal = (is_made_again refusal ≡ false) × (wants_room refusal && is_some worker ≡ false) × (is_fault (Some refusal) ≡ false)
+
 -- Trying again doesn't mend it: it is not that a lock was found held, or that another write drew its numbers; nor that the log had no room, where a cleaner's batch may be run. A write that a
 -- device fault ended is not refused, but open.
 abbrev pub IsLasting : TraceCall → (worker : Option ℕ) → Refusal → Type 0
-IsLasting (Pread fd at len) worker refusal = (cell : ℕ) → refusal ≢ Busy cell
-IsLasting (Pwrite fd at bytes) worker refusal = (is_made_again refusal ≡ false) × (wants_room refusal && is_some worker ≡ false) × (is_fault (Some refusal) ≡ false)
+IsLasting (Pread fd at len) worker refusal = IsLastingRead refusal
+IsLasting (Pwrite fd at bytes) worker refusal = IsLastingWrite worker refusal
+IsLasting (Preadv fd at lens) worker refusal = IsLastingRead refusal
+IsLasting (Pwritev fd at parts) worker refusal = IsLastingWrite worker refusal
 IsLasting (Fsync fd) worker refusal = Unit {0}
 
 -- A call has no place, and was refused so.
@@ -56,6 +71,7 @@ pub record IsRefused (worker : Option ℕ) (call : TraceCall) (start now : PassS
 -- a write that nothing that it asks for bars
 abbrev pub IsUnbarredWrite : Sizes → List Fd → TraceCall → Type 0
 IsUnbarredWrite sizes fds (Pwrite fd at bytes) = early_refusal can_write sizes fds fd at (length bytes) ≡ None
+IsUnbarredWrite sizes fds (Pwritev fd at parts) = early_refusal can_write sizes fds fd at (length (concat parts)) ≡ None
 IsUnbarredWrite sizes fds call = ⊥
 
 -- A call has no place, and is a write of some bytes, of its descriptor's file, which a device fault ended: its pass knows that STOP is set.
@@ -65,12 +81,14 @@ pub record IsEndedByFault (fds : List Fd) (call : TraceCall) (start now : PassSt
   pub unbarred : IsUnbarredWrite start.view.opened.sizes fds call
   pub file : ℕ
   pub file_is : file_of_fd fds (fd_of call) ≡ Some file
-  pub write : is_write (call_on call file) ≡ true
+  pub write : is_write (plain_call (call_on call file)) ≡ true
 
 -- nothing that it asks for bars a call, but that a sync has its descriptor's file
 abbrev pub IsUnbarred : Sizes → List Fd → TraceCall → Type 0
 IsUnbarred sizes fds (Pread fd at len) = early_refusal can_read sizes fds fd at len ≡ None
 IsUnbarred sizes fds (Pwrite fd at bytes) = early_refusal can_write sizes fds fd at (length bytes) ≡ None
+IsUnbarred sizes fds (Preadv fd at lens) = early_refusal can_read sizes fds fd at (sum lens) ≡ None
+IsUnbarred sizes fds (Pwritev fd at parts) = early_refusal can_write sizes fds fd at (length (concat parts)) ≡ None
 IsUnbarred sizes fds (Fsync fd) = Unit {0}
 
 -- a call that has its place was not barred
@@ -90,10 +108,10 @@ says_stop (Placed place reply) = false
 says_stop (Refused refusal) = tells_stop (Err refusal)
 says_stop (Open number) = true
 
--- ---- the write that an answer leaves open, of its descriptor's file
+-- ---- the write that an answer leaves open, of its descriptor's file: the plain one that it is made as
 
 abbrev pub opened_on : (file : Option ℕ) → TraceCall → (number : ℕ) → List OpenWrite
-opened_on (Some file) call number = record { call = call_on call file; first = number } ∷ []
+opened_on (Some file) call number = record { call = plain_call (call_on call file); first = number } ∷ []
 opened_on None call number = []
 
 abbrev pub opened_by : List Fd → TraceCall → Answer → List OpenWrite

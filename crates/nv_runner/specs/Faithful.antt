@@ -1,9 +1,9 @@
 -- Faithful reports: what a run of a trace begins with, and when a report of it is right.
 use Rattle.std.specs.Prelude.{◌≡◌, ℕ, ◌+◌, ◌*◌, ◌^◌, ◌<◌, ◌≤◌, ◌==◌, ◌&&◌, ◌||◌, not, nat_lt, min, if◌then◌else◌, Bool, true, false, List, [], ◌++◌, length, map, filter, fold, All, Option, Some, None, MatchOption, slice_index_or, IsPermutation}
-use Rattle.std.specs.List.{zip}
+use Rattle.std.specs.List.{concat, sum, zip}
 use Rattle.std.specs.List.Sorted.{IsStrictlyIncreasing}
 use Rattle.nv_plain.specs.declared.call.FileCall.{FileCall}
-use Rattle.nv_plain.specs.declared.call.FileCall.TheVariants.{Read, Write, Sync}
+use Rattle.nv_plain.specs.declared.call.FileCall.TheVariants.{Read, Write, Readv, Writev, Sync}
 use Rattle.nv_plain.specs.Calls.{files_after}
 use Rattle.nv_plain.specs.Files.{Files}
 use Rattle.nv_plain.specs.Histories.{Answered, IsLegal, after}
@@ -12,7 +12,7 @@ use Rattle.nv_plain.specs.declared.mode.Mode.TheVariants.{R}
 use Rattle.nv_plain.specs.Layouts.{mount_layout}
 use Rattle.nv_plain.specs.Pieces.{pages_touched}
 use Rattle.nv_trace.specs.declared.trace_call.TraceCall.{TraceCall}
-use Rattle.nv_trace.specs.declared.trace_call.TraceCall.TheVariants.{Pread, Pwrite, Fsync}
+use Rattle.nv_trace.specs.declared.trace_call.TraceCall.TheVariants.{Pread, Pwrite, Preadv, Pwritev, Fsync}
 use Rattle.nv_trace.specs.declared.trace_call.TracedCall.{TracedCall}
 use Rattle.nv_trace.specs.declared.report.Fate.{Fate}
 use Rattle.nv_trace.specs.declared.report.Fate.TheVariants.{Kept, Lost, Unanswered}
@@ -57,6 +57,8 @@ descriptor_at descriptors fd = slice_index_or descriptors fd (record { file = 0;
 abbrev pub file_call : List Descriptor → TraceCall → FileCall
 file_call descriptors (Pread fd at len) = Read (descriptor_at descriptors fd).file at len
 file_call descriptors (Pwrite fd at bytes) = Write (descriptor_at descriptors fd).file at bytes
+file_call descriptors (Preadv fd at lens) = Readv (descriptor_at descriptors fd).file at lens
+file_call descriptors (Pwritev fd at parts) = Writev (descriptor_at descriptors fd).file at parts
 file_call descriptors (Fsync fd) = Sync (descriptor_at descriptors fd).file
 
 -- the history of placed calls
@@ -92,12 +94,16 @@ barred_by sizes most at len =
 abbrev pub barred_there : RunSizes → TraceCall → Option Refusal
 barred_there sizes (Pread fd at len) = barred_by sizes (min mount_layout.group_limit sizes.entries) at len
 barred_there sizes (Pwrite fd at bytes) = barred_by sizes (min mount_layout.group_limit sizes.entries) at (length bytes)
+barred_there sizes (Preadv fd at lens) = barred_by sizes (min mount_layout.group_limit sizes.entries) at (sum lens)
+barred_there sizes (Pwritev fd at parts) = barred_by sizes (min mount_layout.group_limit sizes.entries) at (length (concat parts))
 barred_there sizes (Fsync fd) = None
 
 -- a call's descriptor was opened in a mode that allows the call
 abbrev pub is_allowed : List Descriptor → TraceCall → Bool
 is_allowed descriptors (Pread fd at len) = can_read (descriptor_at descriptors fd).mode
 is_allowed descriptors (Pwrite fd at bytes) = can_write (descriptor_at descriptors fd).mode
+is_allowed descriptors (Preadv fd at lens) = can_read (descriptor_at descriptors fd).mode
+is_allowed descriptors (Pwritev fd at parts) = can_write (descriptor_at descriptors fd).mode
 is_allowed descriptors (Fsync fd) = true
 
 -- why a call can't be made, whatever the log holds
@@ -132,12 +138,16 @@ pub record HadNoNumber (basis : Basis) (drew : List TracedCall) (call : TracedCa
 abbrev pub IsReadCall : TraceCall → Type 0
 IsReadCall (Pread fd at len) = Unit {0}
 IsReadCall (Pwrite fd at bytes) = ⊥
+IsReadCall (Preadv fd at lens) = Unit {0}
+IsReadCall (Pwritev fd at parts) = ⊥
 IsReadCall (Fsync fd) = ⊥
 
 -- a write of some bytes
 abbrev pub IsWrite : TraceCall → Type 0
 IsWrite (Pread fd at len) = ⊥
 IsWrite (Pwrite fd at bytes) = 0 < length bytes
+IsWrite (Preadv fd at lens) = ⊥
+IsWrite (Pwritev fd at parts) = 0 < length (concat parts)
 IsWrite (Fsync fd) = ⊥
 
 -- Why a call was refused that its arguments don't bar: no number was left, or no room in the log; or, where devices failed, it was made after that, or was the read that met it.

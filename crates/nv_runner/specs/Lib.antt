@@ -31,3 +31,4 @@ pub mod KeptRounds
 pub mod Streams
 pub mod StreamRounds
 pub mod ShownLives
+pub mod Written

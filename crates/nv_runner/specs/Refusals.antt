@@ -1,5 +1,6 @@
 -- Refusals: why a call of a trace is refused: what bars it before its first step, or what its pass has seen of the run.
 use Rattle.std.specs.Prelude.{◌≡◌, ◌⊎◌, ℕ, ◌+◌, ◌<◌, ◌≤◌, ◌^◌, List, length, Option, Some, None, MatchOption}
+use Rattle.std.specs.List.{concat, sum}
 use Rattle.nv_plain.specs.Modes.{can_read, can_write}
 use Rattle.nv_core.specs.state.Passes.{IsOneOf}
 use Rattle.nv_core.specs.state.Words.{Sizes, Word, ORDER, HEAD, TAIL}
@@ -16,7 +17,7 @@ use Rattle.nv_calls.specs.calls.EarlyRefusals.{early_refusal}
 use Rattle.nv_calls.specs.fsync.SyncRuns.{file_of_fd}
 use Rattle.nv_calls.specs.histories.Heeds.{HasSeenStop}
 use Rattle.nv_trace.specs.declared.trace_call.TraceCall.{TraceCall}
-use Rattle.nv_trace.specs.declared.trace_call.TraceCall.TheVariants.{Pread, Pwrite, Fsync}
+use Rattle.nv_trace.specs.declared.trace_call.TraceCall.TheVariants.{Pread, Pwrite, Preadv, Pwritev, Fsync}
 use Rattle.nv_runner.specs.declared.answer.Answer.TheVariants.{Refused}
 use Rattle.nv_runner.specs.Entries.{entries_taken}
 use Rattle.nv_runner.specs.Calls.{IsAnswered}
@@ -33,6 +34,8 @@ unless_file None = Some BadFd
 abbrev pub early_of_call : Sizes → List Fd → TraceCall → Option Refusal
 early_of_call sizes fds (Pread fd at len) = early_refusal can_read sizes fds fd at len
 early_of_call sizes fds (Pwrite fd at bytes) = early_refusal can_write sizes fds fd at (length bytes)
+early_of_call sizes fds (Preadv fd at lens) = early_refusal can_read sizes fds fd at (sum lens)
+early_of_call sizes fds (Pwritev fd at parts) = early_refusal can_write sizes fds fd at (length (concat parts))
 early_of_call sizes fds (Fsync fd) = unless_file (file_of_fd fds fd)
 
 -- ---- what its pass has seen

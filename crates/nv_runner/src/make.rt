@@ -12,17 +12,20 @@ ghost use Rattle.nv_runner.specs.Calls.{IsAdmitted, IsAnswered, OpensAs, Tells, 
 ghost use Rattle.nv_runner.specs.OpenWrites.{without_place as answer_without_place};
 ghost use Rattle.nv_runner.specs.Runs.{GoesOn, entries_drawn};
 ghost use Rattle.nv_runner.specs.Tries.{HasRunBatch, IsMadeFor};
+ghost use Rattle.nv_runner.specs.Written.{call_in};
 
 use crate::Answer;
 use crate::laws::tries_go_on;
-use nv_calls::{Refusal, early_read_refusal, faults_open_writes, pread, pwrite, try_fsync};
+use crate::parts::{fill_rooms, gathered, reply_rooms, scattered};
+use crate::written::Written;
+use nv_calls::{Refusal, early_read_refusal, faults_open_writes, pread, preadv, try_fsync};
 use nv_clean::try_clean;
 use nv_mount::Mount;
-use nv_plain::{Bytes, NoMemory, Reply};
+use nv_plain::{Bytes, NoMemory, Parts, Reply};
 use nv_pmem::Lines;
 use nv_store::Backing;
 use nv_table::{Pass, Workspace};
-use nv_trace::TraceCall;
+use nv_trace::{LenList, TraceCall};
 use std::alloc::Global;
 use std::sync::Wait;
 use std::thread::yield_now;
@@ -129,6 +132,47 @@ fn without_place<L: Lines + Drop, B: Backing + Drop>(pass: &Pass<L, B>, refusal:
     }
 }
 
+// A vectored read. Room for what its parts get is taken before it is begun.
+fn make_readv<R: Wait, L: Lines + Drop, B: Backing + Drop>(
+    rt: &R,
+    alloc: Global,
+    mount: &Mount<L, B>,
+    pass: &mut Pass<L, B>,
+    fd: u64,
+    at: u64,
+    lens: &LenList,
+) -> Result<Answer, NoMemory>
+    requires board { IsOf mount.now.board pass.old }
+    requires idle { IsIdle pass.old }
+    ensures board { IsOf mount.now.board pass.new }
+    ensures idle { IsIdle pass.new }
+    ensures later { IsLater pass.old pass.new }
+    ensures made { (worker : Option ℕ) → IfOk result (λ answer. IsMadeFor mount.now.fds worker (calls.Preadv fd at lens.now) pass.old pass.new answer) }
+    ensures told { (worker : Option ℕ) → IfOk result (λ answer. Tells mount.now.fds worker (calls.Preadv fd at lens.now) pass.old pass.new answer) }
+    ensures stays { HasSeenStop pass.old → HasSeenStop pass.new }
+    ensures stop { IfOk result (λ answer. says_stop answer ≡ true → HasSeenStop pass.new) }
+    ensures opens { IfOk result (λ answer. OpensAs mount.now.fds (calls.Preadv fd at lens.now) pass.old pass.new answer) }
+    ensures on { OnOk result (GoesOn None 0 pass.old pass.new) }
+    ensures admitted { IfOk result (λ answer. IsAdmitted pass.new.view.opened.sizes mount.now.fds (calls.Preadv fd at lens.now) answer) }
+    ensures memory { OnErr result (pass.new ≡ pass.old) }
+{
+    faults_open_writes();
+    tries_go_on();
+    pass.sees_a_run();
+    let mut scatter = scattered(alloc, lens)?;
+    let mut rooms = reply_rooms(alloc, lens)?;
+    match preadv(rt, mount, pass, fd, at, &mut scatter) {
+        Ok(done) => {
+            fill_rooms(alloc, &scatter, &mut rooms);
+            Ok(Answer::Placed {
+                place: done.place,
+                reply: Reply::Parts(Parts::from_vec(rooms)),
+            })
+        }
+        Err(refusal) => Ok(Answer::Refused(refusal)),
+    }
+}
+
 // A write. Where the log has no room for it and a cleaner's batch may be run, one is, and it is made again.
 fn make_write<R: Wait, L: Lines + Drop, B: Backing + Drop>(
     rt: &R,
@@ -137,7 +181,7 @@ fn make_write<R: Wait, L: Lines + Drop, B: Backing + Drop>(
     workspace: &mut Workspace<L, B>,
     fd: u64,
     at: u64,
-    bytes: &[u8],
+    written: Written<'_>,
     worker: Option<u64>,
 ) -> Answer
     requires board { IsOf mount.now.board pass.old }
@@ -149,19 +193,19 @@ fn make_write<R: Wait, L: Lines + Drop, B: Backing + Drop>(
     ensures later { IsLater pass.old pass.new }
     ensures workspace { IsWorkspace mount.now.board.opened.sizes workspace.new }
     ensures bare { workspace.new.parts.items ≡ [] }
-    ensures made { IsMadeFor mount.now.fds worker (calls.Pwrite fd at bytes.now) pass.old pass.new result }
-    ensures told { Tells mount.now.fds worker (calls.Pwrite fd at bytes.now) pass.old pass.new result }
+    ensures made { IsMadeFor mount.now.fds worker (call_in written.entry fd at) pass.old pass.new result }
+    ensures told { Tells mount.now.fds worker (call_in written.entry fd at) pass.old pass.new result }
     ensures stays { HasSeenStop pass.old → HasSeenStop pass.new }
     ensures stop { says_stop result ≡ true → HasSeenStop pass.new }
-    ensures opens { OpensAs mount.now.fds (calls.Pwrite fd at bytes.now) pass.old pass.new result }
-    ensures on { GoesOn worker (entries_drawn pass.new.view.opened.sizes (calls.Pwrite fd at bytes.now) result) pass.old pass.new }
-    ensures admitted { IsAdmitted pass.new.view.opened.sizes mount.now.fds (calls.Pwrite fd at bytes.now) result }
+    ensures opens { OpensAs mount.now.fds (call_in written.entry fd at) pass.old pass.new result }
+    ensures on { GoesOn worker (entries_drawn pass.new.view.opened.sizes (call_in written.entry fd at) result) pass.old pass.new }
+    ensures admitted { IsAdmitted pass.new.view.opened.sizes mount.now.fds (call_in written.entry fd at) result }
 {
     faults_open_writes();
     tries_go_on();
     for _ in rt.forever() {
         pass.sees_a_run();
-        match pwrite(rt, mount, pass, workspace, fd, at, bytes) {
+        match written.write(rt, mount, pass, workspace, fd, at) {
             Ok(done) => {
                 return Answer::Placed {
                     place: done.place,
@@ -212,7 +256,8 @@ fn make_sync<L: Lines + Drop, B: Backing + Drop>(
 /// Makes one call, again as long as a lock is found held or another write draws its numbers, and, where `worker` tells the most entries of a batch, runs a batch of the cleaner
 /// behind each try for which the log has no room. It may wait for ever, so it returns only where the others give their locks back, and the log gets room. The answer is the
 /// call's place in the history, with the reply that plain files give after the calls before it; or why it has none, which is none of these; and a write that a device fault ended is open. A read's bytes
-/// lie in the last of `rooms`, which is taken out of them, and in memory of `alloc` where it is too short or there is none: where that is wanting nothing was done. No other call takes memory.
+/// lie in the last of `rooms`, which is taken out of them, and in memory of `alloc` where it is too short or there is none; a vectored call takes memory for its parts before it is begun: where that is wanting nothing was
+/// done. No other call takes memory.
 pub fn make_call<R: Wait, L: Lines + Drop, B: Backing + Drop>(
     rt: &R,
     alloc: Global,
@@ -246,9 +291,15 @@ pub fn make_call<R: Wait, L: Lines + Drop, B: Backing + Drop>(
             workspace,
             *fd,
             *at,
-            bytes.as_slice(),
+            Written::Bytes(bytes.as_slice()),
             worker,
         )),
+        TraceCall::Preadv { fd, at, lens } => { make_readv(rt, alloc, mount, pass, *fd, *at, lens) }
+        TraceCall::Pwritev { fd, at, parts } => {
+            let parts = gathered(alloc, parts)?;
+            let written = Written::Parts(&parts);
+            Ok(make_write(rt, mount, pass, workspace, *fd, *at, written, worker))
+        }
         TraceCall::Fsync { fd } => Ok(make_sync(mount, pass, *fd)),
     }
 }

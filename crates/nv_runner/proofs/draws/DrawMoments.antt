@@ -1,8 +1,10 @@
 -- Draw moments: the first part of a run behind which a call drew its numbers.
-use Rattle.std.proofs.Common.{◌≡◌, ℕ, ◌+◌, ◌<◌, ◌≤◌, ◌==◌, true, List, [], ◌∷◌, ◌++◌, length, inl, inr, refl, sym, ap, subst, ◌∙◌, arith, append-nil, append_assoc, length-append}
+use Rattle.std.proofs.Common.{◌≡◌, ℕ, ◌+◌, ◌<◌, ◌≤◌, ◌==◌, nat_lt, true, List, [], ◌∷◌, ◌++◌, length, inl, inr, refl, sym, ap, subst, ◌∙◌, arith, append-nil, append_assoc, length-append}
 use Rattle.std.specs.Prelude.{Option}
 use Rattle.std.proofs.lemmas.Bool.{cases_lt, eqb-true, ltb-true, true≢false}
 use Rattle.nv_plain.specs.Histories.{Answered}
+use Rattle.std.specs.List.{concat}
+use Rattle.nv_plain.specs.Pieces.{pages_touched}
 use Rattle.nv_plain.specs.declared.call.FileCall.{FileCall}
 use Rattle.nv_core.specs.state.Passes.{Pass, is_write, plain_call}
 use Rattle.nv_core.specs.state.Words.{Sizes, HEAD}
@@ -20,7 +22,7 @@ use Rattle.nv_table.specs.state.Views.{pass_of}
 use Rattle.nv_mount.specs.declared.fds.Fd.{Fd}
 use Rattle.nv_calls.specs.histories.Faults.{OpenWrite, open_in, open_writes}
 use Rattle.nv_trace.specs.declared.trace_call.TraceCall.{TraceCall}
-use Rattle.nv_trace.specs.declared.trace_call.TraceCall.TheVariants.{Pread, Pwrite, Fsync}
+use Rattle.nv_trace.specs.declared.trace_call.TraceCall.TheVariants.{Pread, Pwrite, Preadv, Pwritev, Fsync}
 use Rattle.nv_runner.specs.Entries.{entries_taken}
 use Rattle.nv_runner.specs.declared.answer.Answer.{Answer}
 use Rattle.nv_runner.specs.declared.answer.Answer.TheVariants.{Placed, Refused, Open}
@@ -34,29 +36,31 @@ use Rattle.nv_runner.proofs.ShiftRuns.{DrawnLaws, drawn, drawn_less}
 
 -- ---- the entries of a call
 
-call_takes : (sizes : Sizes) (call : TraceCall) (file : ℕ) → entries_of sizes (call_on call file) ≡ entries_taken sizes.page call
+call_takes : (sizes : Sizes) (call : TraceCall) (file : ℕ) → entries_of sizes (plain_call (call_on call file)) ≡ entries_taken sizes.page call
 call_takes sizes (Pread fd at len) file = refl
 call_takes sizes (Pwrite fd at bytes) file = refl
+call_takes sizes (Preadv fd at lens) file = refl
+call_takes sizes (Pwritev fd at parts) file = refl
 call_takes sizes (Fsync fd) file = refl
 
 -- a write of some bytes takes one
-takes_some : (sizes : Sizes) (call : TraceCall) (file : ℕ) → is_write (call_on call file) ≡ true → 1 ≤ entries_taken sizes.page call
-takes_some sizes (Pread fd at len) file write = absurd (true≢false (sym write))
-takes_some sizes (Pwrite fd at bytes) file write =
-    if_both (λ n. 1 ≤ n) (length bytes == 0) 0 _ (λ is. absurd (let some = ltb-true 0 (length bytes) write in let none = eqb-zero (length bytes) is in omega (arith, some, none))) (λ _. omega arith)
+some_taken : (sizes : Sizes) (at len : ℕ) → nat_lt 0 len ≡ true → 1 ≤ pages_touched at len sizes.page
+some_taken sizes at len some =
+    if_both (λ n. 1 ≤ n) (len == 0) 0 _ (λ is. absurd (let more = ltb-true 0 len some in let none = eqb-zero len is in omega (arith, more, none))) (λ _. omega arith)
   where
     eqb-zero : (n : ℕ) → (n == 0) ≡ true → n ≡ 0
     eqb-zero n is = eqb-true n 0 is
+
+takes_some : (sizes : Sizes) (call : TraceCall) (file : ℕ) → is_write (plain_call (call_on call file)) ≡ true → 1 ≤ entries_taken sizes.page call
+takes_some sizes (Pread fd at len) file write = absurd (true≢false (sym write))
+takes_some sizes (Pwrite fd at bytes) file write = some_taken sizes at (length bytes) write
+takes_some sizes (Preadv fd at lens) file write = absurd (true≢false (sym write))
+takes_some sizes (Pwritev fd at parts) file write = some_taken sizes at (length (concat parts)) write
 takes_some sizes (Fsync fd) file write = absurd (true≢false (sym write))
 
-plain_on : (call : TraceCall) (file : ℕ) → plain_call (call_on call file) ≡ call_on call file
-plain_on (Pread fd at len) file = refl
-plain_on (Pwrite fd at bytes) file = refl
-plain_on (Fsync fd) file = refl
-
-placed_more : (sizes : Sizes) (calls : List Answered) (one : Answered) → plain_call one.call ≡ one.call → placed_entries sizes (calls ++ one ∷ []) ≡ placed_entries sizes calls + entries_of sizes one.call
-placed_more sizes [] one plain = let same = ap (entries_of sizes) plain in omega (arith, same)
-placed_more sizes (first ∷ rest) one plain = let again = placed_more sizes rest one plain in omega (arith, again)
+placed_more : (sizes : Sizes) (calls : List Answered) (one : Answered) → placed_entries sizes (calls ++ one ∷ []) ≡ placed_entries sizes calls + entries_of sizes (plain_call one.call)
+placed_more sizes [] one = omega arith
+placed_more sizes (first ∷ rest) one = let again = placed_more sizes rest one in omega (arith, again)
 
 -- ---- what a call adds to what its pass has ended
 
@@ -79,7 +83,7 @@ adds fds worker call start now (Placed place reply) is =
     let opens : open_in new.faulted ≡ open_in old.faulted = is.opens in
     let opened = ap (λ l. length l) opens in
     let entries = ap (opened_entries sizes) opens in
-    let placed : placed_entries sizes new.mine ≡ placed_entries sizes old.mine + entries_of sizes one.call = ap (placed_entries sizes) mine ∙ placed_more sizes old.mine one (plain_on call is.told.0) in
+    let placed : placed_entries sizes new.mine ≡ placed_entries sizes old.mine + entries_of sizes (plain_call one.call) = ap (placed_entries sizes) mine ∙ placed_more sizes old.mine one in
     let takes = call_takes sizes call is.told.0 in
     record { entries = omega (arith, placed, entries, takes); more = λ _. omega (arith, long, joined, opened); opened = λ number e. absurd (cc) }
 adds fds worker call start now (Refused refusal) is =
@@ -94,7 +98,7 @@ adds fds worker call start now (Open number) is =
     let mine : new.mine ≡ old.mine = is.told.kept.mine in
     let placed = ap (placed_entries sizes) mine in
     let placed_too = ap (λ l. length l) mine in
-    let one : OpenWrite = record { call = call_on call is.told.file; first = number } in
+    let one : OpenWrite = record { call = plain_call (call_on call is.told.file); first = number } in
     let opens : open_in new.faulted ≡ one ∷ open_in old.faulted = is.opens ∙ ap (λ file. opened_on file call number ++ open_writes start) is.told.file_is in
     let opened = ap (λ l. length l) opens in
     let entries : opened_entries sizes (open_in new.faulted) ≡ entries_of sizes one.call + opened_entries sizes (open_in old.faulted) = ap (opened_entries sizes) opens in

@@ -9,13 +9,13 @@ use Rattle.nv_plain.specs.Calls.{files_after, reply_of}
 use Rattle.nv_plain.specs.Files.{Files}
 use Rattle.nv_plain.specs.Histories.{Answered, IsLegal, after}
 use Rattle.nv_plain.specs.declared.call.FileCall.{FileCall}
-use Rattle.nv_plain.specs.declared.call.FileCall.TheVariants.{Read, Write, Sync}
+use Rattle.nv_plain.specs.declared.call.FileCall.TheVariants.{Read, Write, Readv, Writev, Sync}
 use Rattle.nv_plain.specs.declared.mode.Mode.TheVariants.{R}
 use Rattle.nv_mount.specs.declared.fds.Fd.{Fd}
 use Rattle.nv_calls.specs.fsync.SyncRuns.{file_of_fd}
 use Rattle.nv_trace.specs.declared.trace.Descriptor.{Descriptor}
 use Rattle.nv_trace.specs.declared.trace_call.TraceCall.{TraceCall}
-use Rattle.nv_trace.specs.declared.trace_call.TraceCall.TheVariants.{Pread, Pwrite, Fsync}
+use Rattle.nv_trace.specs.declared.trace_call.TraceCall.TheVariants.{Pread, Pwrite, Preadv, Pwritev, Fsync}
 use Rattle.nv_runner.specs.Faithful.{descriptor_at}
 use Rattle.nv_runner.specs.Told.{DescriptorsSayFiles}
 use Rattle.nv_runner.specs.Histories.{CallsOnFiles, PlacedCall, StandsAs, ThreadsAreLegal, history_of_threads}
@@ -70,4 +70,6 @@ file_there fds descriptors fd file same is =
 pub descriptors_say_files : DescriptorsSayFiles
 descriptors_say_files fds descriptors same (Pread fd at len) file is = ap (λ f. Read f at len) (file_there fds descriptors fd file same is)
 descriptors_say_files fds descriptors same (Pwrite fd at bytes) file is = ap (λ f. Write f at bytes) (file_there fds descriptors fd file same is)
+descriptors_say_files fds descriptors same (Preadv fd at lens) file is = ap (λ f. Readv f at lens) (file_there fds descriptors fd file same is)
+descriptors_say_files fds descriptors same (Pwritev fd at parts) file is = ap (λ f. Writev f at parts) (file_there fds descriptors fd file same is)
 descriptors_say_files fds descriptors same (Fsync fd) file is = ap (λ f. Sync f) (file_there fds descriptors fd file same is)

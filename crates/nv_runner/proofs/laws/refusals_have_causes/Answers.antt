@@ -7,4 +7,4 @@ returns c =
     let core = c.runs_are_sound.ensures in
     let heeds = c.ended_calls_heed_stop.ensures in
     λ fds worker call start now refusal.
-    refusals_have_causes record { keep = core.events; sound = core.runs; on = c.histories_go_on.ensures } c.passes_are_left_alone.ensures.own heeds.reads heeds.syncs fds worker call start now refusal
+    refusals_have_causes record { keep = core.events; sound = core.runs; on = c.histories_go_on.ensures } c.passes_are_left_alone.ensures.own heeds.syncs fds worker call start now refusal

@@ -6,9 +6,8 @@ use Rattle.std.specs.Option.{option_to_list}
 use Rattle.std.proofs.lemmas.List.{length-map, map-append}
 use Rattle.std.proofs.lemmas.List.Concat.{flat_map-append}
 use Rattle.std.proofs.lemmas.List.Sorted.{IsPermutation-trans}
-use Rattle.nv_runner.specs.declared.answer.AnsweredCall as declared
 use Rattle.nv_runner.specs.declared.call_list.CallList.{CallList}
-use Rattle.nv_runner.specs.Lists.{MadeCall, made_call, made_calls}
+use Rattle.nv_runner.specs.Lists.{made_call, made_calls}
 use Rattle.nv_runner.specs.Owners.{list_made}
 use Rattle.nv_runner.proofs.RoundLists.{moved_behind}
 use Rattle.nv_runner.proofs.rounds.put_down.Goals as goal

@@ -1,5 +1,5 @@
 -- Its part is done by its calls, or, as the cleaner, which has none, by batches.
-use Rattle.std.proofs.Common.{◌≡◌, true, List, [], sym, ap, subst, ◌∙◌}
+use Rattle.std.proofs.Common.{◌≡◌, true, [], sym, ap, subst, ◌∙◌}
 use Rattle.std.specs.Prelude.{OnOk, Result, Ok, Err, is_ok, not}
 use Rattle.nv_runner.specs.Owners.{if_owner}
 use Rattle.nv_runner.specs.Workers.{HasDonePart, WorkerState}
