@@ -164,8 +164,8 @@ impl Scatter {
         advance_in::<A, L, B>(board, pass, read, page, &mut self.room);
     }
 
-    // The parts get so many bytes.
-    pub(crate) fn fill(&mut self, got: u64)
+    /// The parts get so many bytes of their room, from its front on. Takes no memory.
+    pub fn fill(&mut self, got: u64)
         requires { got ≤ length self.old.list }
         ensures got { HaveGot got self.old self.new }
         ensures list { self.new.list ≡ self.old.list }

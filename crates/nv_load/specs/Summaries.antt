@@ -1,13 +1,13 @@
 -- Summaries: what is counted of a run of generated calls, and what the load alone says of it.
 use Rattle.std.specs.Prelude.{◌≡◌, ℕ, ◌+◌, ◌*◌, nat_eq, if◌then◌else◌, true, List, [], ◌∷◌, length, sum_by, fold, codes}
-use Rattle.std.specs.List.{concat}
+use Rattle.std.specs.List.{concat, sum}
 use lib.Pointwise.{pointwise}
 use Rattle.nv_plain.specs.Faults.{saturated}
 use Rattle.nv_plain.specs.Files.{overwritten}
 use Rattle.nv_plain.specs.declared.call.Reply.{Reply}
 use Rattle.nv_plain.specs.declared.call.Reply.TheVariants.{Bytes, Parts, Count, Done}
 use Rattle.nv_trace.specs.declared.trace_call.TraceCall.{TraceCall}
-use Rattle.nv_trace.specs.declared.trace_call.TraceCall.TheVariants.{Pread, Pwrite, Fsync}
+use Rattle.nv_trace.specs.declared.trace_call.TraceCall.TheVariants.{Pread, Pwrite, Preadv, Pwritev, Fsync}
 use Rattle.nv_trace.specs.declared.trace_call.TracedCall.{TracedCall}
 use Rattle.nv_runner.specs.Faithful.{Basis, IsFaithful}
 use Rattle.nv_runner.specs.Histories.{PlacedCall}
@@ -22,6 +22,8 @@ use Rattle.nv_load.specs.declared.summary.Summary.{Summary}
 abbrev pub bytes_written : TraceCall → ℕ
 bytes_written (Pread fd at len) = 0
 bytes_written (Pwrite fd at bytes) = length bytes
+bytes_written (Preadv fd at lens) = 0
+bytes_written (Pwritev fd at parts) = length (concat parts)
 bytes_written (Fsync fd) = 0
 
 -- how many bytes a reply gives
@@ -60,12 +62,16 @@ summary_shown report = summary_of report.history (bytes_of (codes "g") report.fi
 abbrev pub bytes_asked : TraceCall → ℕ
 bytes_asked (Pread fd at len) = len
 bytes_asked (Pwrite fd at bytes) = 0
+bytes_asked (Preadv fd at lens) = sum lens
+bytes_asked (Pwritev fd at parts) = 0
 bytes_asked (Fsync fd) = 0
 
 -- the bytes of the file after a call
 abbrev pub after_call : TraceCall → List ℕ → List ℕ
 after_call (Pread fd at len) bytes = bytes
 after_call (Pwrite fd at written) bytes = overwritten bytes at written
+after_call (Preadv fd at lens) bytes = bytes
+after_call (Pwritev fd at parts) bytes = overwritten bytes at (concat parts)
 after_call (Fsync fd) bytes = bytes
 
 -- and after some calls, the first of them first

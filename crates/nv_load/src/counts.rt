@@ -54,13 +54,14 @@ impl Counts {
     }
 }
 
-// How many bytes a call writes.
+// How many bytes a call writes, up to 2^64 - 1.
 fn bytes_written(call: &TraceCall) -> u64
-    ensures { result ≡ bytes_written call.now }
+    ensures { result ≡ saturated (bytes_written call.now) }
 {
     match call {
         TraceCall::Pwrite { bytes, .. } => bytes.len() as u64,
-        TraceCall::Pread { .. } | TraceCall::Fsync { .. } => 0,
+        TraceCall::Pwritev { parts, .. } => bytes_in(parts.as_slice()),
+        TraceCall::Pread { .. } | TraceCall::Preadv { .. } | TraceCall::Fsync { .. } => 0,
     }
 }
 

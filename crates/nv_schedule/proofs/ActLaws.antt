@@ -5,7 +5,7 @@ use Rattle.std.proofs.lemmas.Bool.{true≢false}
 use Rattle.nv_plain.specs.declared.call.FileCall.{FileCall}
 use Rattle.nv_plain.specs.declared.call.Reply.{Reply}
 use Rattle.nv_core.specs.state.Cleaner.{TakeCleaner}
-use Rattle.nv_core.specs.state.Passes.{Control, Pass}
+use Rattle.nv_core.specs.state.Passes.{Control, Pass, plain_call}
 use Rattle.nv_core.specs.state.Words.{Sizes}
 use Rattle.nv_core.specs.steps.Events.{Event}
 use Rattle.nv_core.specs.steps.Opening.{IsMount}
@@ -17,7 +17,7 @@ use Rattle.nv_table.specs.state.States.{PassState}
 use Rattle.nv_table.specs.state.Views.{pass_of}
 use Rattle.nv_mount.specs.declared.fds.Fd.{Fd}
 use Rattle.nv_mirror.specs.Answers.{IsPlacedAs, refusal_in_answer}
-use Rattle.nv_mirror.specs.OwnSteps.{AreOwn, is_own}
+use Rattle.nv_mirror.specs.OwnSteps.{AreOwnAs, is_own}
 use Rattle.nv_mirror.specs.PassSteps.{HasMade, HasTaken, PassStep, is_fault, refusal_in}
 use Rattle.nv_mirror.specs.declared.answers.Done.{Done}
 use Rattle.nv_mirror.specs.declared.answers.Refusal.{Refusal}
@@ -30,9 +30,10 @@ use Rattle.nv_clean.specs.OwnSteps as batches
 use Rattle.nv_clean.specs.declared.batch.CleanControl.{CleanControl}
 use Rattle.nv_clean.specs.declared.batch.CleanControl.TheVariants as cleans
 use Rattle.nv_trace.specs.declared.trace_call.TraceCall.{TraceCall}
-use Rattle.nv_trace.specs.declared.trace_call.TraceCall.TheVariants.{Pread, Pwrite, Fsync}
+use Rattle.nv_trace.specs.declared.trace_call.TraceCall.TheVariants.{Pread, Pwrite, Preadv, Pwritev, Fsync}
 use Rattle.nv_trace.specs.declared.trace_call.TracedCall.{TracedCall}
-use Rattle.nv_runner.specs.Calls.{IsAnswered, call_on, fd_of, opened_on}
+use Rattle.nv_runner.specs.Calls.{IsAnswered, IsLasting, call_on, fd_of, opened_on}
+use Rattle.nv_schedule.proofs.AskedLaws.{asked_write, asked_writev}
 use Rattle.nv_runner.specs.OpenWrites.{without_place}
 use Rattle.nv_runner.specs.Refusals.{early_of_call}
 use Rattle.nv_runner.specs.declared.answer.Answer.{Answer}
@@ -94,15 +95,15 @@ some_same one other same = cc
 none_some : (call : FileCall) → ◌≡◌ {A = Option FileCall} None (Some call) → ⊥
 none_some call same = absurd (cc)
 
-last_own : (sizes : Sizes) (call : FileCall) (steps : List PassStep) (start old now : PassState) (step : PassStep) → AreOwn sizes call steps → HasMade steps start now → HasTaken step old now → IsStepOf call step
-last_own sizes call [] start old now step own_steps made taken = absurd own_steps
-last_own sizes call (one ∷ []) start old now step own_steps made taken =
+last_own : (sizes : Sizes) (asked call : FileCall) (steps : List PassStep) (start old now : PassState) (step : PassStep) → AreOwnAs sizes asked call steps → HasMade steps start now → HasTaken step old now → IsStepOf asked step
+last_own sizes asked call [] start old now step own_steps made taken = absurd own_steps
+last_own sizes asked call (one ∷ []) start old now step own_steps made taken =
     let same = same_step step one old made.0 now (sym (taken_number one made.0 now made.2) ∙ taken_number step old now taken) taken made.2 in
     record {
-      begins = λ begun is. some_same begun call (sym is ∙ same.opens ∙ own_steps.0);
+      begins = λ begun is. some_same begun asked (sym is ∙ same.opens ∙ own_steps.0);
       no_batch = ap is_by_cleaner same.op ∙ own_op call None one.op own_steps.1;
     }
-last_own sizes call (one ∷ (other ∷ earlier)) start old now step own_steps made taken =
+last_own sizes asked call (one ∷ (other ∷ earlier)) start old now step own_steps made taken =
     let same = same_step step one old made.0 now (sym (taken_number one made.0 now made.2) ∙ taken_number step old now taken) taken made.2 in
     record {
       begins = λ begun is. absurd (none_some begun (sym own_steps.0 ∙ sym same.opens ∙ is));
@@ -123,7 +124,7 @@ base_of fds call later None last now laws mount at = record { base = now; idle =
 base_of fds call later (Some hand) last now laws mount at =
     let way = of_trying fds call.call hand at.0 now at.2 in
     let there : IsAtCall fds (call ∷ later) (Some hand) at.0 now = (at.0, none_tried fds call.call at.0, at.2) in
-    let grown = at_call_grown laws.reads_heed laws.writes_heed fds (call ∷ later) (Some hand) at.0 now (subst (λ (o : Opened). IsMount (mount_of o)) way.mount mount) there in
+    let grown = at_call_grown laws fds (call ∷ later) (Some hand) at.0 now (subst (λ (o : Opened). IsMount (mount_of o)) way.mount mount) there in
     record {
       base = at.0;
       idle = way.idle;
@@ -147,7 +148,7 @@ record HasStepped (fds : List Fd) (call : TraceCall) (now : PassState) : Type 0 
   idle_then : IsIdle begun
   steps : List PassStep
   made : HasMade steps begun now
-  own_steps : AreOwn now.view.opened.sizes (call_on call file) steps
+  own_steps : AreOwnAs now.view.opened.sizes (call_on call file) (plain_call (call_on call file)) steps
 
 abbrev of_ended : (fds : List Fd) (call : TraceCall) (begun now : PassState) (refusal : Option Refusal) → IsIdle begun → HasEndedBy fds call begun now refusal → HasStepped fds call now
 of_ended fds call begun now refusal idle ended =
@@ -157,7 +158,7 @@ abbrev of_mid : (fds : List Fd) (call : TraceCall) (begun now : PassState) → I
 of_mid fds call begun now on = record { unbarred = on.unbarred; file = on.file; file_is = on.file_is; begun = begun; idle_then = on.mid.idle; steps = on.mid.steps; made = on.mid.made; own_steps = on.mid.own }
 
 steps_are : (fds : List Fd) (call : TraceCall) (now : PassState) (s : HasStepped fds call now) → steps_in now.view.number now.view.run ≡ s.steps
-steps_are fds call now s = ap (λ (m : StepsMade). m.steps) (made_are now.view.opened.sizes (call_on call s.file) s.steps s.begun now s.made s.own_steps s.idle_then.control)
+steps_are fds call now s = ap (λ (m : StepsMade). m.steps) (made_are now.view.opened.sizes (call_on call s.file) (plain_call (call_on call s.file)) s.steps s.begun now s.made s.own_steps s.idle_then.control)
 
 -- ---- the answer of a call that is over
 
@@ -166,21 +167,31 @@ early_refused (Pread fd at len) refusal drawn closed = refl
 early_refused (Pwrite fd at bytes) RegionFault drawn closed = absurd (cc)
 early_refused (Pwrite fd at bytes) StoreFault drawn closed = absurd (cc)
 early_refused (Pwrite fd at bytes) refusal drawn closed = refl
+early_refused (Preadv fd at lens) refusal drawn closed = refl
+early_refused (Pwritev fd at parts) RegionFault drawn closed = absurd (cc)
+early_refused (Pwritev fd at parts) StoreFault drawn closed = absurd (cc)
+early_refused (Pwritev fd at parts) refusal drawn closed = refl
 early_refused (Fsync fd) refusal drawn closed = refl
 
 bad_closed : (call : TraceCall) → leaves_open call BadFd ≡ false
 bad_closed (Pread fd at len) = refl
 bad_closed (Pwrite fd at bytes) = refl
+bad_closed (Preadv fd at lens) = refl
+bad_closed (Pwritev fd at parts) = refl
 bad_closed (Fsync fd) = refl
 
 far_closed : (call : TraceCall) → leaves_open call TooFar ≡ false
 far_closed (Pread fd at len) = refl
 far_closed (Pwrite fd at bytes) = refl
+far_closed (Preadv fd at lens) = refl
+far_closed (Pwritev fd at parts) = refl
 far_closed (Fsync fd) = refl
 
 long_closed : (call : TraceCall) → leaves_open call TooLong ≡ false
 long_closed (Pread fd at len) = refl
 long_closed (Pwrite fd at bytes) = refl
+long_closed (Preadv fd at lens) = refl
+long_closed (Pwritev fd at parts) = refl
 long_closed (Fsync fd) = refl
 
 -- one that is barred is never open
@@ -224,25 +235,41 @@ module _ (opened : Opened) (fds : List Fd) (call : TraceCall) (file : ℕ) (file
     refused_as : (refusal : Refusal) (drawn : Option ℕ) → answer ≡ refused_answer call refusal drawn → IsRefusedAs (leaves_open call refusal) opened (call_on call file) refusal answer actor
     refused_as refusal drawn is = by call refusal refl refl
       where
-        lasts : (fd at : ℕ) (bytes : List ℕ) (fault : Refusal) → call ≡ Pwrite fd at bytes → is_fault (Some fault) ≡ true → answer ≡ Refused fault → ⊥
-        lasts fd at bytes fault call_is faulty refused =
-            let mine = subst (λ (c : TraceCall). IsAnswered fds None c base now (Refused fault)) call_is (subst (λ (a : Answer). IsAnswered fds None call base now a) refused told) in
-            true≢false (sym faulty ∙ mine.told.lasting.2)
+        -- of any write
+        lasts : (fault : Refusal) → ((refusal : Refusal) → IsLasting call None refusal → is_fault (Some refusal) ≡ false) → is_fault (Some fault) ≡ true → answer ≡ Refused fault → ⊥
+        lasts fault lasting faulty refused =
+            let mine = subst (λ (a : Answer). IsAnswered fds None call base now a) refused told in
+            true≢false (sym faulty ∙ lasting fault mine.told.lasting)
 
-        open_so : (fd at : ℕ) (bytes : List ℕ) (fault : Refusal) (drawn : Option ℕ) → call ≡ Pwrite fd at bytes → is_fault (Some fault) ≡ true → ((number : ℕ) → without_place fault (Some number) ≡ Open number) → without_place fault None ≡ Refused fault
-            → answer ≡ without_place fault drawn → IsRefusedAs true opened (call_on call file) fault answer actor
-        open_so fd at bytes fault (Some number) call_is faulty some none answer_is = (number, answer_is ∙ some number, opens_last number (answer_is ∙ some number))
-        open_so fd at bytes fault None call_is faulty some none answer_is = absurd (lasts fd at bytes fault call_is faulty (answer_is ∙ none))
+        open_so : (fault : Refusal) (drawn : Option ℕ) → ((refusal : Refusal) → IsLasting call None refusal → is_fault (Some refusal) ≡ false) → is_fault (Some fault) ≡ true → ((number : ℕ) → without_place fault (Some number) ≡ Open number)
+            → without_place fault None ≡ Refused fault → answer ≡ without_place fault drawn → IsRefusedAs true opened (call_on call file) fault answer actor
+        open_so fault (Some number) lasting faulty some none answer_is = (number, answer_is ∙ some number, opens_last number (answer_is ∙ some number))
+        open_so fault None lasting faulty some none answer_is = absurd (lasts fault lasting faulty (answer_is ∙ none))
+
+        of_write : ((refusal : Refusal) → IsLasting call None refusal → is_fault (Some refusal) ≡ false) → refused_answer call refusal drawn ≡ without_place refusal drawn → (r : Refusal) → refusal ≡ r → is_fault (Some r) ≡ true
+            → ((number : ℕ) → without_place r (Some number) ≡ Open number) → without_place r None ≡ Refused r → IsRefusedAs true opened (call_on call file) refusal answer actor
+        of_write lasting so r refusal_is faulty some none =
+            subst (λ (r : Refusal). IsRefusedAs true opened (call_on call file) r answer actor) (sym refusal_is) (open_so r drawn lasting faulty some none (is ∙ so ∙ ap (λ (r : Refusal). without_place r drawn) refusal_is))
+
+        bytes_last : (fd at : ℕ) (bytes : List ℕ) → call ≡ Pwrite fd at bytes → (refusal : Refusal) → IsLasting call None refusal → is_fault (Some refusal) ≡ false
+        bytes_last fd at bytes call_is refusal lasting = (asked_write fd at bytes).lasts refusal (subst (λ (c : TraceCall). IsLasting c None refusal) call_is lasting)
+
+        parts_last : (fd at : ℕ) (parts : List (List ℕ)) → call ≡ Pwritev fd at parts → (refusal : Refusal) → IsLasting call None refusal → is_fault (Some refusal) ≡ false
+        parts_last fd at parts call_is refusal lasting = (asked_writev fd at parts).lasts refusal (subst (λ (c : TraceCall). IsLasting c None refusal) call_is lasting)
 
         by : (c : TraceCall) (r : Refusal) → call ≡ c → refusal ≡ r → IsRefusedAs (leaves_open c r) opened (call_on call file) refusal answer actor
         by (Pwrite fd at bytes) RegionFault call_is refusal_is =
-            subst (λ (r : Refusal). IsRefusedAs true opened (call_on call file) r answer actor) (sym refusal_is)
-            (open_so fd at bytes RegionFault drawn call_is refl (λ number. refl) refl (is ∙ ap (λ (c : TraceCall). refused_answer c refusal drawn) call_is ∙ ap (λ (r : Refusal). without_place r drawn) refusal_is))
+            of_write (bytes_last fd at bytes call_is) (ap (λ (c : TraceCall). refused_answer c refusal drawn) call_is) RegionFault refusal_is refl (λ number. refl) refl
         by (Pwrite fd at bytes) StoreFault call_is refusal_is =
-            subst (λ (r : Refusal). IsRefusedAs true opened (call_on call file) r answer actor) (sym refusal_is)
-            (open_so fd at bytes StoreFault drawn call_is refl (λ number. refl) refl (is ∙ ap (λ (c : TraceCall). refused_answer c refusal drawn) call_is ∙ ap (λ (r : Refusal). without_place r drawn) refusal_is))
+            of_write (bytes_last fd at bytes call_is) (ap (λ (c : TraceCall). refused_answer c refusal drawn) call_is) StoreFault refusal_is refl (λ number. refl) refl
+        by (Pwritev fd at parts) RegionFault call_is refusal_is =
+            of_write (parts_last fd at parts call_is) (ap (λ (c : TraceCall). refused_answer c refusal drawn) call_is) RegionFault refusal_is refl (λ number. refl) refl
+        by (Pwritev fd at parts) StoreFault call_is refusal_is =
+            of_write (parts_last fd at parts call_is) (ap (λ (c : TraceCall). refused_answer c refusal drawn) call_is) StoreFault refusal_is refl (λ number. refl) refl
         by (Pwrite fd at bytes) r call_is refusal_is = is ∙ early_refused call refusal drawn (ap (λ (c : TraceCall). leaves_open c refusal) call_is ∙ ap (leaves_open (Pwrite fd at bytes)) refusal_is)
+        by (Pwritev fd at parts) r call_is refusal_is = is ∙ early_refused call refusal drawn (ap (λ (c : TraceCall). leaves_open c refusal) call_is ∙ ap (leaves_open (Pwritev fd at parts)) refusal_is)
         by (Pread fd at len) r call_is refusal_is = is ∙ early_refused call refusal drawn (ap (λ (c : TraceCall). leaves_open c refusal) call_is)
+        by (Preadv fd at lens) r call_is refusal_is = is ∙ early_refused call refusal drawn (ap (λ (c : TraceCall). leaves_open c refusal) call_is)
         by (Fsync fd) r call_is refusal_is = is ∙ early_refused call refusal drawn (ap (λ (c : TraceCall). leaves_open c refusal) call_is)
 
     answers : (list : List ℕ) (result : Result Done Refusal) (drawn : Option ℕ) → answer ≡ answer_of call list result drawn → IsAnswerTo opened call (call_on call file) (refusal_in_answer result) answer actor
@@ -336,15 +363,15 @@ module _ (laws : CallLaws) (opened : Opened) (fds : List Fd) (is_mount : IsMount
       at_now : pass_at opened to ≡ pass_of now.view
       at_now = ap (λ o. (state_of o now.view.run).passes now.view.number) (sym same_then)
 
-      stepped : (events : List Event) → events ≡ events_of pass.view.number step → (s : HasStepped fds call.call now) (refusal : Option Refusal) → refusal_in now.view.opened.sizes (call_on call.call s.file) s.steps ≡ refusal
+      stepped : (events : List Event) → events ≡ events_of pass.view.number step → (s : HasStepped fds call.call now) (refusal : Option Refusal) → refusal_in now.view.opened.sizes (plain_call (call_on call.call s.file)) s.steps ≡ refusal
           → answered ≡ (is_idle (pass_of now.view).control && not (is_anew call.call refusal))
           → CallsGo answered call (calls_of_thread_state old) (calls_of_thread_state new) (λ answer. IsAnswerTo opened call.call (call_on call.call s.file) refusal answer to)
           → IsSteppedCall opened fds answered call events (calls_of_thread_state old) (calls_of_thread_state new) from to
       stepped events is s refusal refused how goes =
-          let one = last_own now.view.opened.sizes (call_on call.call s.file) s.steps s.begun pass now step s.own_steps s.made taken in
+          let one = last_own now.view.opened.sizes (call_on call.call s.file) (plain_call (call_on call.call s.file)) s.steps s.begun pass now step s.own_steps s.made taken in
           let why : refusal_now opened (call_on call.call s.file) to ≡ refusal =
-          ap (λ (o : Opened). refusal_in o.sizes (call_on call.call s.file) (steps_in now.view.number now.view.run)) (sym same_then)
-          ∙ ap (refusal_in now.view.opened.sizes (call_on call.call s.file)) (steps_are fds call.call now s) ∙ refused in
+          ap (λ (o : Opened). refusal_in o.sizes (plain_call (call_on call.call s.file)) (steps_in now.view.number now.view.run)) (sym same_then)
+          ∙ ap (refusal_in now.view.opened.sizes (plain_call (call_on call.call s.file))) (steps_are fds call.call now s) ∙ refused in
           record {
             step = step;
             events_are = is;
@@ -406,7 +433,7 @@ module _ (laws : CallLaws) (opened : Opened) (fds : List Fd) (is_mount : IsMount
           → IsSteppedCall opened fds answered call events (calls_of_thread_state old) (calls_of_thread_state new) from to
       mid_step events is not_yet begun on =
           let s = of_mid fds call.call begun now on in
-          let refusal = refusal_in now.view.opened.sizes (call_on call.call on.file) on.mid.steps in
+          let refusal = refusal_in now.view.opened.sizes (plain_call (call_on call.call on.file)) on.mid.steps in
           stepped events is s refusal refl
           (not_yet ∙ ap (λ (b : Bool). b && not (is_anew call.call refusal)) (sym on.mid.busy))
           (subst (λ a. CallsGo a call (calls_of_thread_state old) (calls_of_thread_state new) (λ answer. IsAnswerTo opened call.call (call_on call.call on.file) refusal answer to)) (sym not_yet)

@@ -9,7 +9,7 @@ use Rattle.nv_mirror.specs.declared.answers.Refusal.TheVariants.{BadFd, TooFar, 
 use Rattle.nv_calls.specs.declared.progress.Progress.{Progress}
 use Rattle.nv_calls.specs.declared.progress.Progress.TheVariants.{More, Ended}
 use Rattle.nv_trace.specs.declared.trace_call.TraceCall.{TraceCall}
-use Rattle.nv_trace.specs.declared.trace_call.TraceCall.TheVariants.{Pread, Pwrite, Fsync}
+use Rattle.nv_trace.specs.declared.trace_call.TraceCall.TheVariants.{Pread, Pwrite, Preadv, Pwritev, Fsync}
 use Rattle.nv_runner.specs.Refusals.{early_of_call}
 use Rattle.nv_runner.proofs.CauseLaws.{early_such}
 use Rattle.nv_schedule.specs.Barred.{IsRefusedEarly}
@@ -18,16 +18,22 @@ use Rattle.nv_schedule.specs.Tries.{begins_anew, begins_anew_by}
 bad : (call : TraceCall) → begins_anew_by call BadFd ≡ false
 bad (Pread fd at len) = refl
 bad (Pwrite fd at bytes) = refl
+bad (Preadv fd at lens) = refl
+bad (Pwritev fd at parts) = refl
 bad (Fsync fd) = refl
 
 far : (call : TraceCall) → begins_anew_by call TooFar ≡ false
 far (Pread fd at len) = refl
 far (Pwrite fd at bytes) = refl
+far (Preadv fd at lens) = refl
+far (Pwritev fd at parts) = refl
 far (Fsync fd) = refl
 
 long : (call : TraceCall) → begins_anew_by call TooLong ≡ false
 long (Pread fd at len) = refl
 long (Pwrite fd at bytes) = refl
+long (Preadv fd at lens) = refl
+long (Pwritev fd at parts) = refl
 long (Fsync fd) = refl
 
 pub for_good : (sizes : Sizes) (fds : List Fd) (call : TraceCall) (refusal : Refusal) → early_of_call sizes fds call ≡ Some refusal → begins_anew_by call refusal ≡ false

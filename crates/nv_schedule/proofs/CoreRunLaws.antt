@@ -21,6 +21,10 @@ use Rattle.nv_mirror.specs.PassSteps.{either_of}
 use Rattle.nv_mirror.specs.declared.answers.Done.{Done}
 use Rattle.nv_calls.specs.declared.writing.WriteControl.{WriteControl}
 use Rattle.nv_calls.specs.declared.writing.WriteControl.TheVariants as write_controls
+use Rattle.nv_calls.specs.calls.Asks.{asks_read, asks_readv, asks_write, asks_writev}
+use Rattle.nv_plain.specs.declared.call.FileCall.{FileCall}
+use Rattle.std.specs.List.{concat}
+use Rattle.nv_calls.specs.declared.writing.WriteMachine.{WriteMachine}
 use Rattle.nv_calls.specs.fsync.SyncRuns.{file_of_fd}
 use Rattle.nv_calls.specs.histories.Faults.{open_in, open_writes}
 use Rattle.nv_calls.specs.writes.WriteMachines as writes
@@ -51,7 +55,7 @@ use Rattle.nv_schedule.specs.Turns.{CallerState, HasCome}
 use Rattle.nv_schedule.specs.declared.caller.Work.{Work}
 use Rattle.nv_schedule.specs.declared.caller.Work.TheVariants.{Calls, Batches}
 use Rattle.nv_schedule.specs.declared.hand.Hand.{Hand}
-use Rattle.nv_schedule.specs.declared.hand.Hand.TheVariants.{Reading, Syncing, Writing}
+use Rattle.nv_schedule.specs.declared.hand.Hand.TheVariants.{Reading, ReadingParts, Syncing, Writing, WritingParts}
 use Rattle.nv_schedule.specs.declared.schedule_error.ScheduleError.{ScheduleError}
 use Rattle.nv_schedule.specs.declared.schedule_error.ScheduleError.TheVariants.{Fault, NoMemory, TurnsUsed}
 use Rattle.nv_schedule.specs.declared.scheduled.ScheduledCalls.{ScheduledCalls}
@@ -133,14 +137,18 @@ module _ (laws : CallLaws) (opened : Opened) (fds : List Fd) (call : TracedCall)
       )
 
   -- a write that has drawn is of a file
+  write_file : (asks : (file : ℕ) → FileCall) (m : WriteMachine) (bytes : List ℕ) (control : WriteControl) → has_drawn control ≡ true → writes.StandsAt asks fds m bytes begun now control
+      → (file : ℕ) × (file_of_fd fds m.fd ≡ Some file)
+  write_file asks m bytes write_controls.Begin is s = absurd (cc)
+  write_file asks m bytes (write_controls.Running running) is s = (s.2.file, s.2.file_is)
+
   drawn_file : (h : Hand) → IsTrying fds call.call h begun now → has_drawn_at_hand h ≡ true → (file : ℕ) × (file_of_fd fds (fd_of call.call) ≡ Some file)
   drawn_file (Reading r) t is = absurd (cc)
+  drawn_file (ReadingParts r) t is = absurd (cc)
   drawn_file (Syncing m) t is = absurd (cc)
-  drawn_file (Writing m) t is = subst (λ (c : TraceCall). (file : ℕ) × (file_of_fd fds (fd_of c) ≡ Some file)) (sym t.1) (at_write m.control is t.2.stands)
-    where
-      at_write : (control : WriteControl) → has_drawn control ≡ true → writes.StandsAt fds m t.0 begun now control → (file : ℕ) × (file_of_fd fds m.fd ≡ Some file)
-      at_write write_controls.Begin is s = absurd (cc)
-      at_write (write_controls.Running running) is s = (s.2.file, s.2.file_is)
+  drawn_file (Writing m) t is = subst (λ (c : TraceCall). (file : ℕ) × (file_of_fd fds (fd_of c) ≡ Some file)) (sym t.1) (write_file (asks_write m.at t.0) m t.0 m.control is t.2.stands)
+  drawn_file (WritingParts w) t is =
+      subst (λ (c : TraceCall). (file : ℕ) × (file_of_fd fds (fd_of c) ≡ Some file)) (sym t.0) (write_file (asks_writev w.machine.at w.parts) w.machine (concat w.parts) w.machine.control is t.1.stands)
 
   opened_so : (number : ℕ) → has_drawn_at_hand hand ≡ true → told_at_hand hand (drawn_by now.view) ≡ Some (Open number) → IsToldAs opened fds call (Open number) actor
   opened_so number drew is =

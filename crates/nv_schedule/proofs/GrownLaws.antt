@@ -1,5 +1,5 @@
 -- Grown: how the run that a thread's pass has seen goes on by its present call, wherever that stands.
-use Rattle.std.proofs.Common.{◌≡◌, ◌==◌, ℕ, Bool, true, false, if◌then◌else◌, List, [], ◌∷◌, ◌++◌, refl, sym, ap, subst, ◌∙◌, append-nil}
+use Rattle.std.proofs.Common.{◌≡◌, ◌==◌, ℕ, Bool, true, false, if◌then◌else◌, List, [], ◌∷◌, ◌++◌, length, refl, sym, ap, subst, ◌∙◌, append-nil}
 use Rattle.std.specs.Prelude.{Option, Some, None, Err, Result}
 use Rattle.std.specs.Borrow.{Bor}
 use Rattle.std.proofs.lemmas.List.{append_assoc}
@@ -40,17 +40,20 @@ use Rattle.nv_calls.specs.declared.syncing.SyncControl.TheVariants as sync_contr
 use Rattle.nv_calls.specs.declared.writing.WriteControl.{WriteControl}
 use Rattle.nv_calls.specs.declared.writing.WriteControl.TheVariants as write_controls
 use Rattle.nv_calls.specs.fsync.SyncMachines as syncs
-use Rattle.nv_calls.specs.histories.Heeds.{HasSeenStop, ReadsHeedStop}
-use Rattle.nv_calls.specs.histories.Tries.{Try, WereBusy}
+use Rattle.nv_calls.specs.histories.Heeds.{HasSeenStop}
+use Rattle.nv_calls.specs.histories.Tries.{Try, WereBusyAs}
 use Rattle.nv_calls.specs.reads.ReadMachines as reads
-use Rattle.nv_calls.specs.writes.WriteLaws.{WritesHeedStop}
+use Rattle.nv_calls.specs.calls.Asks.{asks_read, asks_readv, asks_write, asks_writev}
+use Rattle.nv_calls.specs.declared.reading.ReadMachine.{ReadMachine}
+use Rattle.nv_calls.specs.declared.writing.WriteMachine.{WriteMachine}
+use Rattle.std.specs.List.{concat, sum}
 use Rattle.nv_calls.specs.writes.WriteMachines as writes
-use Rattle.nv_calls.specs.writes.Writes.{WereMadeAgain}
+use Rattle.nv_calls.specs.writes.Writes.{WereMadeAgainAs}
 use Rattle.nv_clean.specs.Cleaning.{CleanState}
 use Rattle.nv_clean.specs.declared.batch.CleanRefusal.{CleanRefusal}
 use Rattle.nv_clean.specs.declared.clean.Cleaned.{Cleaned}
 use Rattle.nv_trace.specs.declared.trace_call.TraceCall.{TraceCall}
-use Rattle.nv_trace.specs.declared.trace_call.TraceCall.TheVariants.{Pread, Pwrite, Fsync}
+use Rattle.nv_trace.specs.declared.trace_call.TraceCall.TheVariants.{Pread, Pwrite, Preadv, Pwritev, Fsync}
 use Rattle.nv_trace.specs.declared.trace_call.TracedCall.{TracedCall}
 use Rattle.nv_runner.specs.Lists.{AreMade, MadeCall}
 use Rattle.nv_runner.proofs.RunLaws.{step_went}
@@ -63,8 +66,8 @@ use Rattle.nv_schedule.specs.Turns.{HasCome}
 use Rattle.nv_schedule.specs.declared.caller.Work.{Work}
 use Rattle.nv_schedule.specs.declared.caller.Work.TheVariants.{Calls, Batches}
 use Rattle.nv_schedule.specs.declared.hand.Hand.{Hand}
-use Rattle.nv_schedule.specs.declared.hand.Hand.TheVariants.{Reading, Writing, Syncing}
-use Rattle.nv_schedule.proofs.AnswerLaws.{CallLaws, all_answered}
+use Rattle.nv_schedule.specs.declared.hand.Hand.TheVariants.{Reading, Writing, ReadingParts, WritingParts, Syncing}
+use Rattle.nv_schedule.proofs.AnswerLaws.{CallLaws, all_answered, read_heeds, write_heeds}
 use Rattle.nv_table.specs.passes.Seats.{PassingTells}
 
 -- the same pass has seen a run go on, and knows that STOP is set where it knew before
@@ -139,27 +142,29 @@ made_grown (step ∷ earlier) start now made = grown_on start made.0 now (made_g
 
 -- ---- tries
 
-module _ (reads_heed : ReadsHeedStop) (writes_heed : WritesHeedStop) (fds : List Fd) where
+module _ (laws : CallLaws) (fds : List Fd) where
   mounted : (old new : PassState) → HasGrown old new → IsMount (mount_of old.view.opened) → IsMount (mount_of new.view.opened)
   mounted old new grown mount = subst (λ (o : Opened). IsMount (mount_of o)) (sym grown.opened) mount
 
-  busy_grown : (fd at len : ℕ) (tries : List Try) (start now : PassState) → IsMount (mount_of start.view.opened) → WereBusy fds fd at len tries start now → HasGrown start now
-  busy_grown fd at len [] start now mount same = grown_self start now same
-  busy_grown fd at len (last ∷ earlier) start now mount busy =
-      let before = busy_grown fd at len earlier start busy.0 mount busy.1 in
-      let heeds = reads_heed fds fd at last.list busy.0 now (Err (Busy last.cell)) (mounted start busy.0 before mount) busy.3 in
+  busy_grown : (asks : (len file : ℕ) → FileCall) (fd at len : ℕ) (tries : List Try) (start now : PassState) → IsMount (mount_of start.view.opened) → WereBusyAs asks fds fd at len tries start now → HasGrown start now
+  busy_grown asks fd at len [] start now mount same = grown_self start now same
+  busy_grown asks fd at len (last ∷ earlier) start now mount busy =
+      let before = busy_grown asks fd at len earlier start busy.0 mount busy.1 in
+      let heeds = read_heeds laws asks fds fd at last.list busy.0 now (Err (Busy last.cell)) (mounted start busy.0 before mount) busy.3 in
       grown_on start busy.0 now before (made_grown heeds.steps busy.0 now heeds.made)
 
-  again_grown : (fd at : ℕ) (bytes : List ℕ) (tries : List Refusal) (start now : PassState) → IsMount (mount_of start.view.opened) → WereMadeAgain fds fd at bytes tries start now → HasGrown start now
-  again_grown fd at bytes [] start now mount same = grown_self start now same
-  again_grown fd at bytes (last ∷ earlier) start now mount again =
-      let before = again_grown fd at bytes earlier start again.0 mount again.1 in
-      let heeds = writes_heed fds fd at bytes again.0 now (Err last) (mounted start again.0 before mount) again.3 in
+  again_grown : (asks : (file : ℕ) → FileCall) (fd at len : ℕ) (tries : List Refusal) (start now : PassState) → IsMount (mount_of start.view.opened) → WereMadeAgainAs asks fds fd at len tries start now → HasGrown start now
+  again_grown asks fd at len [] start now mount same = grown_self start now same
+  again_grown asks fd at len (last ∷ earlier) start now mount again =
+      let before = again_grown asks fd at len earlier start again.0 mount again.1 in
+      let heeds = write_heeds laws asks fds fd at len again.0 now (Err last) (mounted start again.0 before mount) again.3 in
       grown_on start again.0 now before (made_grown heeds.steps again.0 now heeds.made)
 
   tried_grown : (call : TraceCall) (start now : PassState) → IsMount (mount_of start.view.opened) → WereTried fds call start now → HasGrown start now
-  tried_grown (Pread fd at len) start now mount tried = busy_grown fd at len tried.0 start now mount tried.1
-  tried_grown (Pwrite fd at bytes) start now mount tried = again_grown fd at bytes tried.0 start now mount tried.1
+  tried_grown (Pread fd at len) start now mount tried = busy_grown (asks_read at) fd at len tried.0 start now mount tried.1
+  tried_grown (Pwrite fd at bytes) start now mount tried = again_grown (asks_write at bytes) fd at (length bytes) tried.0 start now mount tried.1
+  tried_grown (Preadv fd at lens) start now mount tried = busy_grown (asks_readv at lens) fd at (sum lens) tried.0 start now mount tried.1
+  tried_grown (Pwritev fd at parts) start now mount tried = again_grown (asks_writev at parts) fd at (length (concat parts)) tried.0 start now mount tried.1
   tried_grown (Fsync fd) start now mount same = grown_self start now same
 
   -- ---- a call that is tried
@@ -193,17 +198,19 @@ module _ (reads_heed : ReadsHeedStop) (writes_heed : WritesHeedStop) (fds : List
   lent_grown call lent begun now (running_writes.Release w) open_ way = write_grown call begun now (with_list lent (running_writes.Release w)) open_ way
   lent_grown call lent begun now (running_writes.Over result) open_ way = absurd open_
 
+  at_read : (asks : (len file : ℕ) → FileCall) (m : ReadMachine) (list : List ℕ) (begun now : PassState) (control : ReadControl) → reads.StandsAt asks fds m list begun now control → HasGrown begun now
+  at_read asks m list begun now read_controls.Begin s = grown_self begun now s.1
+  at_read asks m list begun now (read_controls.Running running) s = read_grown _ _ _ begun now running s.0 s.1.way.stands
+
+  at_write : (asks : (file : ℕ) → FileCall) (m : WriteMachine) (bytes : List ℕ) (begun now : PassState) (control : WriteControl) → writes.StandsAt asks fds m bytes begun now control → HasGrown begun now
+  at_write asks m bytes begun now write_controls.Begin s = grown_self begun now s.1
+  at_write asks m bytes begun now (write_controls.Running running) s = lent_grown _ s.1 begun now running s.0 s.2.way
+
   trying_grown : (call : TraceCall) (hand : Hand) (begun now : PassState) → IsTrying fds call hand begun now → HasGrown begun now
-  trying_grown call (Reading r) begun now t = at_read r.machine.control t.1.stands
-    where
-      at_read : (control : ReadControl) → reads.StandsAt fds r.machine r.list.items begun now control → HasGrown begun now
-      at_read read_controls.Begin s = grown_self begun now s.1
-      at_read (read_controls.Running running) s = read_grown _ _ _ begun now running s.0 s.1.way.stands
-  trying_grown call (Writing m) begun now t = at_write m.control t.2.stands
-    where
-      at_write : (control : WriteControl) → writes.StandsAt fds m t.0 begun now control → HasGrown begun now
-      at_write write_controls.Begin s = grown_self begun now s.1
-      at_write (write_controls.Running running) s = lent_grown _ s.1 begun now running s.0 s.2.way
+  trying_grown call (Reading r) begun now t = at_read (asks_read r.machine.at) r.machine r.list.items begun now r.machine.control t.1.stands
+  trying_grown call (Writing m) begun now t = at_write (asks_write m.at t.0) m t.0 begun now m.control t.2.stands
+  trying_grown call (ReadingParts r) begun now t = at_read (asks_readv r.machine.at r.parts.lens) r.machine r.parts.list begun now r.machine.control t.2.stands
+  trying_grown call (WritingParts w) begun now t = at_write (asks_writev w.machine.at w.parts) w.machine (concat w.parts) begun now w.machine.control t.1.stands
   trying_grown call (Syncing m) begun now t = at_sync m.control t.1
     where
       at_sync : (control : SyncControl) → syncs.StandsAt fds m.fd begun now control → HasGrown begun now
@@ -235,7 +242,7 @@ pub caller_grown : CallLaws → (fds : List Fd) (work : Work) (start now : PassS
 caller_grown laws fds (Calls thread) start now mount idle come =
     let all = all_answered laws fds thread.made start come.last mount idle come.made in
     grown_on start come.last now (answered_grown fds thread.made start come.last all.each)
-    (at_call_grown laws.reads_heed laws.writes_heed fds thread.left thread.hand come.last now (subst (λ (o : Opened). IsMount (mount_of o)) (sym all.opened) mount) come.at)
+    (at_call_grown laws fds thread.left thread.hand come.last now (subst (λ (o : Opened). IsMount (mount_of o)) (sym all.opened) mount) come.at)
 caller_grown laws fds (Batches cleaner) start now mount idle come =
     grown_on start come.last now (batches_grown cleaner.most come.results start come.last come.batches) (batch_grown cleaner.most cleaner.machine come.last now come.at)
 

@@ -1,5 +1,6 @@
 mod ActLaws
 mod AnswerLaws
+mod AskedLaws
 mod BarredLaws
 mod BatchLaws
 mod BegunLaws
@@ -13,6 +14,7 @@ mod DeedLaws
 mod EndLaws
 mod FaithfulLaws
 mod FaultLaws
+mod FirstKindLaws
 mod FlightLaws
 mod FollowLaws
 mod FreshLaws

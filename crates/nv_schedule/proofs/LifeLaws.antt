@@ -1,17 +1,19 @@
 -- Lives: by the one history, the calls that are listed as open, and what a closed mount tells of its images.
-use Rattle.std.proofs.Common.{◌≡◌, List, map, refl, sym, ap, subst, ◌∙◌}
+use Rattle.std.proofs.Common.{◌≡◌, List, [], ◌∷◌, map, refl, sym, ap, subst, ◌∙◌}
 use Rattle.std.proofs.lemmas.List.Sorted.{IsPermutation-refl, IsPermutation-sym}
 use Rattle.nv_plain.specs.Files.{Files}
 use Rattle.nv_plain.specs.Histories.{after}
 use Rattle.nv_plain.specs.Images.{Image}
 use Rattle.nv_plain.specs.Recovered.{recovered}
 use Rattle.nv_plain.specs.declared.call.FileCall.{FileCall}
+use Rattle.nv_plain.specs.Calls.{files_after}
+use Rattle.nv_trace.specs.declared.trace_call.TraceCall.{TraceCall}
 use Rattle.nv_plain.specs.Made.{after_calls}
 use Rattle.nv_pmem.specs.Rows.{InEachRowImage, RowTells}
 use Rattle.nv_pmem.proofs.RowLaws.{row_tells_more}
 use Rattle.nv_recover.specs.Standing.{AreStoreImages}
 use Rattle.nv_core.specs.crash.CrashImages.{OpensRegion}
-use Rattle.nv_core.specs.state.Passes.{IsOneOf}
+use Rattle.nv_core.specs.state.Passes.{IsOneOf, plain_call}
 use Rattle.nv_table.specs.state.Opened.{Opened, mount_of}
 use Rattle.nv_mount.specs.ClosedAtRest.{files_then}
 use Rattle.nv_mount.specs.WholeRuns.{history_then}
@@ -27,11 +29,17 @@ use Rattle.nv_runner.proofs.FaithfulLaws.{calls_on_files}
 use Rattle.nv_runner.proofs.histories.HistoryMembers.{one_left, one_mapped, one_moved, one_of_joined, one_of_mapped}
 use Rattle.nv_runner.proofs.histories.HistoryThreads.{threads_are_legal}
 use Rattle.nv_runner.proofs.KeptRunLaws.{left_open_are_kept}
-use Rattle.nv_runner.proofs.LifeLaws.{falls_nowhere, kept_of, opened_among, own_lines, placed_among, sorted_by}
+use Rattle.nv_runner.proofs.LifeLaws.{falls_nowhere, kept_of, leaves_alike, opened_among, own_lines, placed_among, sorted_by}
 use Rattle.nv_schedule.specs.Listed.{all_listed, all_unanswered}
 use Rattle.nv_schedule.specs.Lives.{SchedulesLeaveLives}
 use Rattle.nv_schedule.proofs.BegunLaws.{begun_within, called_begin}
 use Rattle.nv_schedule.proofs.CallerShares.{called_history, own_front}
+
+-- calls leave the files that the plain ones leave which they are made as
+after_made : (on_file : TraceCall → FileCall) (calls : List TracedCall) (files : Files) → after_calls (map (λ (call : TracedCall). plain_call (on_file call.call)) calls) files ≡ after_calls (map (λ (call : TracedCall). on_file call.call) calls) files
+after_made on_file [] files = refl
+after_made on_file (call ∷ calls) files =
+    after_made on_file calls (files_after (plain_call (on_file call.call)) files) ∙ ap (after_calls (map (λ (call : TracedCall). on_file call.call) calls)) (leaves_alike (on_file call.call) files)
 
 pub schedules_leave_lives : SchedulesLeaveLives
 schedules_leave_lives basis trace mount batch start ended bench armed outcome part_values store_values parts stores faults count tail lines one_round is region scheduled closed =
@@ -74,7 +82,8 @@ schedules_leave_lives basis trace mount batch start ended bench armed outcome pa
       own_lines = own_lines made history kept.calls own sorted.1 kept.few;
       files =
           left_open_are_kept mount.fds left (flights_then ended.view) (files_then ended.view basis.files) image bytes moved whole.flights
-          ∙ ap (λ (writes : List FileCall). after_calls writes (files_then ended.view basis.files)) (sym kept.are) ∙ ap (λ (files : Files). after_calls (map (λ (call : TracedCall). on_file call.call) kept.calls) files) files;
+          ∙ ap (λ (writes : List FileCall). after_calls writes (files_then ended.view basis.files)) (sym kept.are)
+          ∙ after_made on_file kept.calls (files_then ended.view basis.files) ∙ ap (λ (files : Files). after_calls (map (λ (call : TracedCall). on_file call.call) kept.calls) files) files;
     } in
     record {
       history = history;

@@ -2,7 +2,7 @@
 use Rattle.std.proofs.Common.{◌≡◌, ℕ, nat_lt, Bool, true, false, List, [], ◌∷◌, ◌++◌, length, refl, sym, ap, subst, ◌∙◌}
 use Rattle.std.specs.Borrow.{Bor}
 use Rattle.std.specs.Prelude.{Option, Some, None}
-use Rattle.std.specs.List.{flat_map}
+use Rattle.std.specs.List.{concat, flat_map}
 use Rattle.std.proofs.lemmas.Bool.{lt-ltb}
 use Rattle.nv_plain.specs.declared.call.FileCall.{FileCall}
 use Rattle.nv_plain.specs.declared.call.FileCall.TheVariants.{Read, Write}
@@ -48,6 +48,9 @@ use Rattle.nv_ring.specs.declared.numbers.DrawControl.TheVariants as draws
 use Rattle.nv_ring.specs.declared.numbers.DrawMachine.{DrawMachine}
 use Rattle.nv_ring.specs.declared.write.RunningWrite.{RunningWrite}
 use Rattle.nv_ring.specs.declared.write.RunningWrite.TheVariants as running_writes
+use Rattle.nv_calls.specs.calls.Asks.{asks_read, asks_readv, asks_write, asks_writev}
+use Rattle.nv_calls.specs.declared.reading.ReadMachine.{ReadMachine}
+use Rattle.nv_calls.specs.declared.writing.WriteMachine.{WriteMachine}
 use Rattle.nv_calls.specs.calls.CallAnswers.{done_at}
 use Rattle.nv_calls.specs.declared.reading.ReadControl.{ReadControl}
 use Rattle.nv_calls.specs.declared.reading.ReadControl.TheVariants as read_controls
@@ -60,16 +63,16 @@ use Rattle.nv_calls.specs.fsync.SyncRuns.{file_of_fd}
 use Rattle.nv_calls.specs.histories.Faults.{OpenWrite, open_writes}
 use Rattle.nv_calls.specs.reads.ReadMachines as reads
 use Rattle.nv_calls.specs.writes.WriteMachines as writes
-use Rattle.nv_trace.specs.declared.trace_call.TraceCall.TheVariants.{Pwrite}
+use Rattle.nv_trace.specs.declared.trace_call.TraceCall.TheVariants.{Pwrite, Pwritev}
 use Rattle.nv_trace.specs.declared.trace_call.TracedCall.{TracedCall}
 use Rattle.nv_runner.specs.declared.answer.Answer.{Answer}
 use Rattle.nv_runner.specs.Calls.{fd_of, opened_on}
 use Rattle.nv_runner.specs.OpenRuns.{open_of}
 use Rattle.nv_runner.specs.Sorted.{opened_calls}
 use Rattle.nv_schedule.specs.declared.hand.Hand.{Hand}
-use Rattle.nv_schedule.specs.declared.hand.Hand.TheVariants.{Reading, Writing, Syncing}
+use Rattle.nv_schedule.specs.declared.hand.Hand.TheVariants.{Reading, Writing, ReadingParts, WritingParts, Syncing}
 use Rattle.nv_schedule.specs.Hands.{IsTrying}
-use Rattle.nv_schedule.specs.Listed.{ends_by_fault, has_drawn, listed_as, open_answer, placed_answer, told_at_hand}
+use Rattle.nv_schedule.specs.Listed.{ends_by_fault, has_drawn, listed_as, open_answer, placed_answer, reply_at_hand, told_at_hand}
 use Rattle.nv_schedule.proofs.FlightLaws.{FliesSo, IsClear, at_hand_call, clear_call, idle_flights, open_flights, shows_control, shows_drawing, shows_reading, unwritten_call}
 
 -- the open writes among a call as it is listed, if it is
@@ -182,24 +185,35 @@ module _ (sound : RunsAreSound) (tell : OwnEventsTell) where
 
   -- ---- any call
 
+  module _ (fds : List Fd) (call : TracedCall) (begun now : PassState) (mount : IsMount (mount_of begun.view.opened)) where
+    at_read : (asks : (len file : ℕ) → FileCall) (m : ReadMachine) (list : List ℕ) (control : ReadControl) → reads.StandsAt asks fds m list begun now control → open_flights now ≡ open_writes begun
+    at_read asks m list read_controls.Begin s = ap open_flights s.1 ∙ idle_flights begun s.0
+    at_read asks m list (read_controls.Running running) s = of_read s.1.file m.at m.len list _ begun now running mount s.0 s.1.way.stands
+
+    read_opens : (asks : (len file : ℕ) → FileCall) (m : ReadMachine) (list : List ℕ) (reply : ℕ → Reply) → reads.StandsAt asks fds m list begun now m.control
+        → open_flights now ≡ opened_as fds call (either_of (placed_answer (reads.placed_by m) reply) None) ++ open_writes begun
+    read_opens asks m list reply s = at_read asks m list m.control s ∙ ap (λ l. l ++ open_writes begun) (sym (placed_opens fds call (reads.placed_by m) reply))
+
+    -- whichever call it is that is made as this write
+    at_write : (asks : (file : ℕ) → FileCall) (m : WriteMachine) (bytes : List ℕ) (control : WriteControl)
+        → ((file number : ℕ) → file_of_fd fds m.fd ≡ Some file → open_of fds (record { call = call; number = number }) ≡ record { call = Write file m.at bytes; first = number } ∷ [])
+        → writes.StandsAt asks fds m bytes begun now control
+        → open_flights now ≡ opened_as fds call (either_of (placed_answer (done_at m.len (writes.place_at control)) replies.Count) (open_answer (has_drawn control) (drawn_by now.view))) ++ open_writes begun
+    at_write asks m bytes write_controls.Begin one s = ap open_flights s.1 ∙ idle_flights begun s.0
+    at_write asks m bytes (write_controls.Running running) one s =
+        listed_opens fds call (Write s.2.file m.at bytes) (done_at m.len (write_place running)) (has_drawn (write_controls.Running running)) replies.Count begun now (λ number. one s.2.file number s.2.file_is)
+        (of_put_in s.2.file m.at m.len bytes begun now mount s.1 running s.0 s.2.way)
+
   pub hand_opens : (fds : List Fd) (call : TracedCall) (hand : Hand) (begun now : PassState) → IsMount (mount_of begun.view.opened) → IsTrying fds call.call hand begun now
       → open_flights now ≡ opened_as fds call (told_at_hand hand (drawn_by now.view)) ++ open_writes begun
-  hand_opens fds call (Reading r) begun now mount t =
-      at_read r.machine.control t.1.stands ∙ ap (λ l. l ++ open_writes begun) (sym (placed_opens fds call (reads.placed_by r.machine) _))
-    where
-      at_read : (control : ReadControl) → reads.StandsAt fds r.machine r.list.items begun now control → open_flights now ≡ open_writes begun
-      at_read read_controls.Begin s = ap open_flights s.1 ∙ idle_flights begun s.0
-      at_read (read_controls.Running running) s = of_read s.1.file r.machine.at r.machine.len r.list.items _ begun now running mount s.0 s.1.way.stands
+  hand_opens fds call (Reading r) begun now mount t = read_opens fds call begun now mount (asks_read r.machine.at) r.machine r.list.items (reply_at_hand (Reading r)) t.1.stands
   hand_opens fds call (Writing m) begun now mount t =
-      at_write m.control t.2.stands
-    where
-      at_write : (control : WriteControl) → writes.StandsAt fds m t.0 begun now control
-          → open_flights now ≡ opened_as fds call (either_of (placed_answer (done_at m.len (writes.place_at control)) replies.Count) (open_answer (has_drawn control) (drawn_by now.view))) ++ open_writes begun
-      at_write write_controls.Begin s = ap open_flights s.1 ∙ idle_flights begun s.0
-      at_write (write_controls.Running running) s =
-          listed_opens fds call (Write s.2.file m.at t.0) (done_at m.len (write_place running)) (has_drawn (write_controls.Running running)) replies.Count begun now
-          (λ number. ap (λ c. opened_on (file_of_fd fds (fd_of c)) c number) t.1 ∙ ap (λ file. opened_on file (Pwrite m.fd m.at t.0) number) s.2.file_is)
-          (of_put_in s.2.file m.at m.len t.0 begun now mount s.1 running s.0 s.2.way)
+      at_write fds call begun now mount (asks_write m.at t.0) m t.0 m.control
+      (λ file number file_is. ap (λ c. opened_on (file_of_fd fds (fd_of c)) c number) t.1 ∙ ap (λ file. opened_on file (Pwrite m.fd m.at t.0) number) file_is) t.2.stands
+  hand_opens fds call (ReadingParts r) begun now mount t = read_opens fds call begun now mount (asks_readv r.machine.at r.parts.lens) r.machine r.parts.list (reply_at_hand (ReadingParts r)) t.2.stands
+  hand_opens fds call (WritingParts w) begun now mount t =
+      at_write fds call begun now mount (asks_writev w.machine.at w.parts) w.machine (concat w.parts) w.machine.control
+      (λ file number file_is. ap (λ c. opened_on (file_of_fd fds (fd_of c)) c number) t.0 ∙ ap (λ file. opened_on file (Pwritev w.machine.fd w.machine.at w.parts) number) file_is) t.1.stands
   hand_opens fds call (Syncing m) begun now mount t =
       at_sync m.control t.1 ∙ ap (λ l. l ++ open_writes begun) (sym (placed_opens fds call (syncs.placed_by m) _))
     where

@@ -2,6 +2,8 @@
 use Rattle.std.proofs.Common.{◌≡◌, ℕ, ◌*◌, ◌<◌, ◌&&◌, Bool, true, false, if◌then◌else◌, List, [], ◌∷◌, length, inl, inr, refl, sym, ap, ap₂, subst, ◌∙◌, arith}
 use Rattle.std.specs.Prelude.{Option, Some, None, option_map}
 use Rattle.std.proofs.lemmas.Bool.{lt-ltb, ne_eqb}
+use Rattle.nv_calls.specs.calls.Asks.{asks_read, asks_readv, asks_write, asks_writev}
+use Rattle.std.specs.List.{concat}
 use Rattle.nv_plain.specs.declared.call.FileCall.{FileCall}
 use Rattle.nv_plain.specs.declared.call.FileCall.TheVariants.{Read, Write}
 use Rattle.nv_plain.specs.declared.call.Reply.TheVariants.{Bytes}
@@ -88,7 +90,7 @@ use Rattle.nv_schedule.specs.Turns.{HasCome, next_of_work}
 use Rattle.nv_schedule.specs.declared.caller.Work.{Work}
 use Rattle.nv_schedule.specs.declared.caller.Work.TheVariants.{Calls, Batches}
 use Rattle.nv_schedule.specs.declared.hand.Hand.{Hand}
-use Rattle.nv_schedule.specs.declared.hand.Hand.TheVariants.{Reading as ReadingHand, Writing, Syncing}
+use Rattle.nv_schedule.specs.declared.hand.Hand.TheVariants.{Reading as ReadingHand, Writing, ReadingParts, WritingParts, Syncing}
 
 -- what was taken last is given back
 give_kind : (owned : List Word) → kinds.Give ≡ kind_or kinds.Give (give_last owned)
@@ -275,16 +277,16 @@ module _ (first : Kind) (start now : PassState) where
 now_idle : (begun now : PassState) → (pass_of begun.view).control ≡ core.Idle → now ≡ begun → (pass_of now.view).control ≡ core.Idle
 now_idle begun now idle same = subst (λ (p : PassState). (pass_of p.view).control ≡ core.Idle) (sym same) idle
 
-read_at : (fds : List Fd) (m : ReadMachine) (list : List ℕ) (begun now : PassState) (control : ReadControl) → read_machines.StandsAt fds m list begun now control
+read_at : (asks : (len file : ℕ) → FileCall) (fds : List Fd) (m : ReadMachine) (list : List ℕ) (begun now : PassState) (control : ReadControl) → read_machines.StandsAt asks fds m list begun now control
     → read_machines.kind_at now.view.opened.sizes m.len control ≡ core_kind now.view.opened.sizes (values_of now.view) (pass_of now.view) (first_kind m.len)
-read_at fds m list begun now reading.Begin at = idle_next (first_kind m.len) begun now (now_idle begun now at.0.control at.1)
-read_at fds m list begun now (reading.Running r) at =
+read_at asks fds m list begun now reading.Begin at = idle_next (first_kind m.len) begun now (now_idle begun now at.0.control at.1)
+read_at asks fds m list begun now (reading.Running r) at =
     read_next (first_kind m.len) begun now (Read at.1.file m.at m.len) (first_zero m.len) (first_some m.len) r list _ at.0 at.1.way.stands
 
-write_at : (fds : List Fd) (m : WriteMachine) (list : List ℕ) (begun now : PassState) → length list ≡ m.len → (control : WriteControl) → write_machines.StandsAt fds m list begun now control
+write_at : (asks : (file : ℕ) → FileCall) (fds : List Fd) (m : WriteMachine) (list : List ℕ) (begun now : PassState) → length list ≡ m.len → (control : WriteControl) → write_machines.StandsAt asks fds m list begun now control
     → write_machines.kind_at m.len control ≡ core_kind now.view.opened.sizes (values_of now.view) (pass_of now.view) (first_kind (length list))
-write_at fds m list begun now same writing.Begin at = sym (ap first_kind same) ∙ idle_next (first_kind (length list)) begun now (now_idle begun now at.0.control at.1)
-write_at fds m list begun now same (writing.Running w) at =
+write_at asks fds m list begun now same writing.Begin at = sym (ap first_kind same) ∙ idle_next (first_kind (length list)) begun now (now_idle begun now at.0.control at.1)
+write_at asks fds m list begun now same (writing.Running w) at =
     sym (list_same at.1 w).kind
     ∙ write_next (first_kind (length list)) begun now (Write at.2.file m.at list) (first_zero (length list)) (first_some (length list)) (with_list at.1 w) (list_open at.1 w at.0) at.2.way
 
@@ -297,10 +299,17 @@ hand_next : (fds : List Fd) (call : TraceCall) (hand : Hand) (begun now : PassSt
     → kind_at_hand now.view.opened.sizes hand ≡ core_kind now.view.opened.sizes (values_of now.view) (pass_of now.view) (kind_at_first call)
 hand_next fds call (ReadingHand r) begun now trying =
     subst (λ c. read_machines.next_kind_of now.view.opened.sizes r.machine ≡ core_kind now.view.opened.sizes (values_of now.view) (pass_of now.view) (kind_at_first c)) (sym trying.0)
-    (read_at fds r.machine r.list.items begun now r.machine.control trying.1.stands)
+    (read_at (asks_read r.machine.at) fds r.machine r.list.items begun now r.machine.control trying.1.stands)
 hand_next fds call (Writing machine) begun now trying =
     subst (λ c. write_machines.next_kind_of machine ≡ core_kind now.view.opened.sizes (values_of now.view) (pass_of now.view) (kind_at_first c)) (sym trying.1)
-    (write_at fds machine trying.0 begun now trying.2.room machine.control trying.2.stands)
+    (write_at (asks_write machine.at trying.0) fds machine trying.0 begun now trying.2.room machine.control trying.2.stands)
+hand_next fds call (ReadingParts r) begun now trying =
+    subst (λ c. read_machines.next_kind_of now.view.opened.sizes r.machine ≡ core_kind now.view.opened.sizes (values_of now.view) (pass_of now.view) (kind_at_first c)) (sym trying.0)
+    (subst (λ n. read_machines.next_kind_of now.view.opened.sizes r.machine ≡ core_kind now.view.opened.sizes (values_of now.view) (pass_of now.view) (first_kind n)) (sym trying.1)
+    (read_at (asks_readv r.machine.at r.parts.lens) fds r.machine r.parts.list begun now r.machine.control trying.2.stands))
+hand_next fds call (WritingParts w) begun now trying =
+    subst (λ c. write_machines.next_kind_of w.machine ≡ core_kind now.view.opened.sizes (values_of now.view) (pass_of now.view) (kind_at_first c)) (sym trying.0)
+    (write_at (asks_writev w.machine.at w.parts) fds w.machine (concat w.parts) begun now trying.1.room w.machine.control trying.1.stands)
 hand_next fds call (Syncing machine) begun now trying =
     subst (λ c. sync_machines.next_kind_of machine ≡ core_kind now.view.opened.sizes (values_of now.view) (pass_of now.view) (kind_at_first c)) (sym trying.0)
     (sync_at fds machine.fd begun now machine.control trying.1)

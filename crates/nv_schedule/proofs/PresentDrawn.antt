@@ -62,10 +62,10 @@ use Rattle.nv_calls.specs.declared.writing.WriteControl.{WriteControl}
 use Rattle.nv_calls.specs.declared.writing.WriteControl.TheVariants as write_controls
 use Rattle.nv_calls.specs.declared.writing.WriteControl.TheVariants.{Running}
 use Rattle.nv_calls.specs.fsync.SyncMachines as syncs
-use Rattle.nv_calls.specs.histories.Tries.{Try, WereBusy}
+use Rattle.nv_calls.specs.histories.Tries.{Try, WereBusyAs}
 use Rattle.nv_calls.specs.reads.ReadMachines as reads
 use Rattle.nv_calls.specs.writes.WriteMachines as writes
-use Rattle.nv_calls.specs.writes.Writes.{WereMadeAgain, is_made_again}
+use Rattle.nv_calls.specs.writes.Writes.{WereMadeAgainAs, is_made_again}
 use Rattle.nv_core.specs.state.Cleaner.{Batch}
 use Rattle.nv_core.specs.steps.CleanerSteps.{rising_files, syncing}
 use Rattle.nv_clean.specs.Cleaning.{CleanState, control_at}
@@ -74,15 +74,21 @@ use Rattle.nv_clean.specs.declared.batch.CleanControl.TheVariants as cleans
 use Rattle.nv_clean.specs.declared.batch.CleanRefusal.{CleanRefusal}
 use Rattle.nv_clean.specs.declared.clean.Cleaned.{Cleaned}
 use Rattle.nv_trace.specs.declared.trace_call.TraceCall.{TraceCall}
-use Rattle.nv_trace.specs.declared.trace_call.TraceCall.TheVariants.{Pread, Pwrite, Fsync}
+use Rattle.nv_trace.specs.declared.trace_call.TraceCall.TheVariants.{Pread, Pwrite, Preadv, Pwritev, Fsync}
 use Rattle.nv_trace.specs.declared.trace_call.TracedCall.{TracedCall}
 use Rattle.nv_schedule.specs.Callers.{AreBatches, BatchState, CleanerHasCome, IsAtBatch, IsAtCall, ThreadHasCome, ThreadState}
 use Rattle.nv_schedule.specs.Hands.{IsTrying}
 use Rattle.nv_schedule.specs.Listed.{has_drawn, listed_as, listed_of, listed_present, open_answer, placed_answer, reply_at_hand, told_at_hand, told_present}
 use Rattle.nv_schedule.specs.Tries.{WereTried}
 use Rattle.nv_schedule.specs.declared.hand.Hand.{Hand}
-use Rattle.nv_schedule.specs.declared.hand.Hand.TheVariants.{Reading, Writing, Syncing}
-use Rattle.nv_schedule.proofs.AnswerLaws.{CallLaws, all_answered, tried_since}
+use Rattle.nv_schedule.specs.declared.hand.Hand.TheVariants.{Reading, Writing, ReadingParts, WritingParts, Syncing}
+use Rattle.nv_schedule.proofs.AnswerLaws.{CallLaws, all_answered, read_heeds, tried_since, write_heeds}
+use Rattle.nv_schedule.proofs.AskedLaws.{IsAskedRead, IsAskedWrite, asked_read, asked_readv, asked_write, asked_writev}
+use Rattle.nv_calls.specs.calls.Asks.{IsMadeAsRead, asks_read, asks_readv, asks_write, asks_writev}
+use Rattle.nv_calls.specs.declared.reading.ReadMachine.{ReadMachine}
+use Rattle.nv_calls.specs.declared.writing.WriteMachine.{WriteMachine}
+use Rattle.std.specs.List.{concat, sum}
+use Rattle.nv_plain.specs.declared.call.Reply.TheVariants.{Count}
 use Rattle.nv_runner.specs.Entries.{entries_taken}
 use Rattle.nv_runner.specs.declared.answer.Answer.{Answer}
 use Rattle.nv_runner.specs.Runs.{entries_if}
@@ -431,24 +437,30 @@ module _ (laws : WordLaws) (tell : OwnEventsTell) (begun now : PassState) (mount
   nothing_few : now ≡ begun → drawn_of begun.view.opened.sizes (pass_of now.view) ≤ drawn_of begun.view.opened.sizes (pass_of begun.view)
   nothing_few same = let is = ap (λ (p : PassState). drawn_of begun.view.opened.sizes (pass_of p.view)) same in omega (arith, is)
 
+  at_read : (asks : (len file : ℕ) → FileCall) (fds : List Fd) (m : ReadMachine) (list : List ℕ) (control : ReadControl) → reads.StandsAt asks fds m list begun now control
+      → drawn_of begun.view.opened.sizes (pass_of now.view) ≤ drawn_of begun.view.opened.sizes (pass_of begun.view)
+  at_read asks fds m list read_controls.Begin s = nothing_few s.1
+  at_read asks fds m list (read_controls.Running running) s = read_few (Read s.1.file m.at m.len) _ _ running refl s.0 s.1.way.stands
+
+  at_write : (asks : (file : ℕ) → FileCall) (fds : List Fd) (m : WriteMachine) (bytes : List ℕ) (control : WriteControl) → writes.StandsAt asks fds m bytes begun now control
+      → drawn_of begun.view.opened.sizes (pass_of now.view) ≤ drawn_of begun.view.opened.sizes (pass_of begun.view)
+      + told_by (either_of (placed_answer (done_at m.len (writes.place_at control)) Count) (open_answer (has_drawn control) (drawn_by now.view))) (entries_taken begun.view.opened.sizes.page (Pwrite m.fd m.at bytes))
+  at_write asks fds m bytes write_controls.Begin s = let few = nothing_few s.1 in omega (arith, few)
+  at_write asks fds m bytes (write_controls.Running w) s =
+      let few = write_few (Write s.2.file m.at bytes) s.1 w s.0 s.2.way in
+      let same = told_same (write_place w) m.len Count (has_drawn (Running w)) (drawn_by now.view) (entries_taken begun.view.opened.sizes.page (Pwrite m.fd m.at bytes)) in
+      omega (arith, few, same)
+
   pub present_few : (fds : List Fd) (call : TraceCall) (hand : Hand) → IsTrying fds call hand begun now
       → drawn_of begun.view.opened.sizes (pass_of now.view) ≤ drawn_of begun.view.opened.sizes (pass_of begun.view) + told_by (told_at_hand hand (drawn_by now.view)) (entries_taken begun.view.opened.sizes.page call)
-  present_few fds call (Reading r) t = let few = at_read r.machine.control t.1.stands in omega (arith, few)
-    where
-      at_read : (control : ReadControl) → reads.StandsAt fds r.machine r.list.items begun now control → drawn_of begun.view.opened.sizes (pass_of now.view) ≤ drawn_of begun.view.opened.sizes (pass_of begun.view)
-      at_read read_controls.Begin s = nothing_few s.1
-      at_read (read_controls.Running running) s = read_few (Read s.1.file r.machine.at r.machine.len) _ _ running refl s.0 s.1.way.stands
+  present_few fds call (Reading r) t = let few = at_read (asks_read r.machine.at) fds r.machine r.list.items r.machine.control t.1.stands in omega (arith, few)
   present_few fds call (Writing m) t =
       subst (λ (c : TraceCall). drawn_of begun.view.opened.sizes (pass_of now.view) ≤ drawn_of begun.view.opened.sizes (pass_of begun.view) + told_by (told_at_hand (Writing m) (drawn_by now.view)) (entries_taken begun.view.opened.sizes.page c)) (sym t.1)
-      (at_write m.control t.2.stands)
-    where
-      at_write : (control : WriteControl) → writes.StandsAt fds m t.0 begun now control → drawn_of begun.view.opened.sizes (pass_of now.view) ≤ drawn_of begun.view.opened.sizes (pass_of begun.view)
-          + told_by (either_of (placed_answer (done_at m.len (writes.place_at control)) (reply_at_hand (Writing m))) (open_answer (has_drawn control) (drawn_by now.view))) (entries_taken begun.view.opened.sizes.page (Pwrite m.fd m.at t.0))
-      at_write write_controls.Begin s = let few = nothing_few s.1 in omega (arith, few)
-      at_write (write_controls.Running w) s =
-          let few = write_few (Write s.2.file m.at t.0) s.1 w s.0 s.2.way in
-          let same = told_same (write_place w) m.len (reply_at_hand (Writing m)) (has_drawn (Running w)) (drawn_by now.view) (entries_taken begun.view.opened.sizes.page (Pwrite m.fd m.at t.0)) in
-          omega (arith, few, same)
+      (at_write (asks_write m.at t.0) fds m t.0 m.control t.2.stands)
+  present_few fds call (ReadingParts r) t = let few = at_read (asks_readv r.machine.at r.parts.lens) fds r.machine r.parts.list r.machine.control t.2.stands in omega (arith, few)
+  present_few fds call (WritingParts w) t =
+      subst (λ (c : TraceCall). drawn_of begun.view.opened.sizes (pass_of now.view) ≤ drawn_of begun.view.opened.sizes (pass_of begun.view) + told_by (told_at_hand (WritingParts w) (drawn_by now.view)) (entries_taken begun.view.opened.sizes.page c)) (sym t.0)
+      (at_write (asks_writev w.machine.at w.parts) fds w.machine (concat w.parts) w.machine.control t.1.stands)
   present_few fds call (Syncing m) t = let few = at_sync m.control t.1 in omega (arith, few)
     where
       at_sync : (control : SyncControl) → syncs.StandsAt fds m.fd begun now control → drawn_of begun.view.opened.sizes (pass_of now.view) ≤ drawn_of begun.view.opened.sizes (pass_of begun.view)
@@ -462,47 +474,51 @@ again_mild RegionFault again = absurd (cc)
 again_mild StoreFault again = absurd (cc)
 again_mild refusal again = refl
 
+busy_few : (laws : CallLaws) (call : TraceCall) (asks : (len file : ℕ) → FileCall) (fds : List Fd) (fd at len : ℕ) (is : IsAskedRead call asks fd at len) (tries : List Try) (start now : PassState) → IsMount (mount_of start.view.opened) → IsIdle start
+    → WereBusyAs asks fds fd at len tries start now → drawn_of now.view.opened.sizes (pass_of now.view) ≡ drawn_of start.view.opened.sizes (pass_of start.view)
+busy_few laws call asks fds fd at len is [] start now mount idle same = ap (λ (p : PassState). drawn_of p.view.opened.sizes (pass_of p.view)) same
+busy_few laws call asks fds fd at len is (last ∷ earlier) start now mount idle busy =
+    let before = tried_since laws fds call start busy.0 mount (is.tried_is fds start busy.0 earlier busy.1) in
+    let all = tried_since laws fds call start now mount (is.tried_is fds start now (last ∷ earlier) busy) in
+    let last_mount = subst (λ (o : Opened). IsMount (mount_of o)) (sym before.opened) mount in
+    let went = laws.reads_go fds asks fd at last.list start now (Err (Busy last.cell)) (subst (IsMadeAsRead asks at) (sym busy.2) is.made) mount idle (all.idle idle) tt all.unplaced record {
+      tries = earlier;
+      last = busy.0;
+      busy = subst (λ n. WereBusyAs asks fds fd at n earlier start busy.0) (sym busy.2) busy.1;
+      over = busy.3;
+      stays = before.stays;
+      heeds = read_heeds laws asks fds fd at last.list busy.0 now (Err (Busy last.cell)) last_mount busy.3;
+    } in
+    let drew_none = went.drawn in
+    omega (arith, drew_none)
+
+again_few : (laws : CallLaws) (call : TraceCall) (asks : (file : ℕ) → FileCall) (fds : List Fd) (fd at : ℕ) (bytes : List ℕ) (is : IsAskedWrite call asks fd at bytes) (tries : List Refusal) (start now : PassState) → IsMount (mount_of start.view.opened)
+    → IsIdle start → WereMadeAgainAs asks fds fd at (length bytes) tries start now → drawn_of now.view.opened.sizes (pass_of now.view) ≡ drawn_of start.view.opened.sizes (pass_of start.view)
+again_few laws call asks fds fd at bytes is [] start now mount idle same = ap (λ (p : PassState). drawn_of p.view.opened.sizes (pass_of p.view)) same
+again_few laws call asks fds fd at bytes is (last ∷ earlier) start now mount idle again =
+    let before = tried_since laws fds call start again.0 mount (is.tried_is fds start again.0 earlier again.1) in
+    let all = tried_since laws fds call start now mount (is.tried_is fds start now (last ∷ earlier) again) in
+    let last_mount = subst (λ (o : Opened). IsMount (mount_of o)) (sym before.opened) mount in
+    let went = laws.writes_go fds asks fd at bytes start now (Err last) is.made mount idle (all.idle idle) tt all.unplaced record {
+      tries = earlier;
+      last = again.0;
+      again = again.1;
+      over = again.3;
+      left = again.4;
+      stays = before.stays;
+      heeds = write_heeds laws asks fds fd at (length bytes) again.0 now (Err last) last_mount again.3;
+    } in
+    let drew_some = went.drawn in
+    let none = ap (λ b. entries_if b (pages_touched at (length bytes) start.view.opened.sizes.page)) (again_mild last again.2) in
+    omega (arith, drew_some, none)
+
 -- they have drawn nothing
 pub tried_few : CallLaws → (fds : List Fd) (call : TraceCall) (start now : PassState) → IsMount (mount_of start.view.opened) → IsIdle start → WereTried fds call start now
     → drawn_of now.view.opened.sizes (pass_of now.view) ≡ drawn_of start.view.opened.sizes (pass_of start.view)
-tried_few laws fds (Pread fd at len) start now mount idle tried = busy_few tried.0 tried.1
-  where
-    busy_few : (tries : List Try) → WereBusy fds fd at len tries start now → drawn_of now.view.opened.sizes (pass_of now.view) ≡ drawn_of start.view.opened.sizes (pass_of start.view)
-    busy_few [] same = ap (λ (p : PassState). drawn_of p.view.opened.sizes (pass_of p.view)) same
-    busy_few (last ∷ earlier) busy =
-        let before = tried_since laws fds (Pread fd at len) start busy.0 mount (earlier, busy.1) in
-        let all = tried_since laws fds (Pread fd at len) start now mount (last ∷ earlier, busy) in
-        let last_mount = subst (λ (o : Opened). IsMount (mount_of o)) (sym before.opened) mount in
-        let went = laws.reads_go fds fd at last.list start now (Err (Busy last.cell)) mount idle (all.idle idle) tt all.unplaced record {
-          tries = earlier;
-          last = busy.0;
-          busy = subst (λ n. WereBusy fds fd at n earlier start busy.0) (sym busy.2) busy.1;
-          over = busy.3;
-          stays = before.stays;
-          heeds = laws.reads_heed fds fd at last.list busy.0 now (Err (Busy last.cell)) last_mount busy.3;
-        } in
-        let drew_none = went.drawn in
-        omega (arith, drew_none)
-tried_few laws fds (Pwrite fd at bytes) start now mount idle tried = again_few tried.0 tried.1
-  where
-    again_few : (tries : List Refusal) → WereMadeAgain fds fd at bytes tries start now → drawn_of now.view.opened.sizes (pass_of now.view) ≡ drawn_of start.view.opened.sizes (pass_of start.view)
-    again_few [] same = ap (λ (p : PassState). drawn_of p.view.opened.sizes (pass_of p.view)) same
-    again_few (last ∷ earlier) again =
-        let before = tried_since laws fds (Pwrite fd at bytes) start again.0 mount (earlier, again.1) in
-        let all = tried_since laws fds (Pwrite fd at bytes) start now mount (last ∷ earlier, again) in
-        let last_mount = subst (λ (o : Opened). IsMount (mount_of o)) (sym before.opened) mount in
-        let went = laws.writes_go fds fd at bytes start now (Err last) mount idle (all.idle idle) tt all.unplaced record {
-          tries = earlier;
-          last = again.0;
-          again = again.1;
-          over = again.3;
-          left = again.4;
-          stays = before.stays;
-          heeds = laws.writes_heed fds fd at bytes again.0 now (Err last) last_mount again.3;
-        } in
-        let drew_some = went.drawn in
-        let none = ap (λ b. entries_if b (pages_touched at (length bytes) start.view.opened.sizes.page)) (again_mild last again.2) in
-        omega (arith, drew_some, none)
+tried_few laws fds (Pread fd at len) start now mount idle tried = busy_few laws (Pread fd at len) (asks_read at) fds fd at len (asked_read fd at len) tried.0 start now mount idle tried.1
+tried_few laws fds (Pwrite fd at bytes) start now mount idle tried = again_few laws (Pwrite fd at bytes) (asks_write at bytes) fds fd at bytes (asked_write fd at bytes) tried.0 start now mount idle tried.1
+tried_few laws fds (Preadv fd at lens) start now mount idle tried = busy_few laws (Preadv fd at lens) (asks_readv at lens) fds fd at (sum lens) (asked_readv fd at lens) tried.0 start now mount idle tried.1
+tried_few laws fds (Pwritev fd at parts) start now mount idle tried = again_few laws (Pwritev fd at parts) (asks_writev at parts) fds fd at (concat parts) (asked_writev fd at parts) tried.0 start now mount idle tried.1
 tried_few laws fds (Fsync fd) start now mount idle same = ap (λ (p : PassState). drawn_of p.view.opened.sizes (pass_of p.view)) same
 
 -- ---- a thread

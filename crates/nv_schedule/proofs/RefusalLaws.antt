@@ -266,7 +266,7 @@ module _ (words : WordLaws) (call_laws : CallLaws) (causes : refusals.RefusalsHa
     to_end : HasGrown at.now end
     to_end =
         grown_on at.now come.last end (answered_grown mount.fds at.after at.now come.last at.rest)
-        (at_call_grown call_laws.reads_heed call_laws.writes_heed mount.fds thread.left thread.hand come.last end (subst (λ (o : Opened). IsMount (mount_of o)) (sym last_opened) is_mount) come.at)
+        (at_call_grown call_laws mount.fds thread.left thread.hand come.last end (subst (λ (o : Opened). IsMount (mount_of o)) (sym last_opened) is_mount) come.at)
 
     now_begins : IsPrefix at.now.view.run zero_then.view.run
     now_begins = begins_all at.now.view.run end.view.run zero_then.view.run (to_end.more, to_end.run) (begins i d less)

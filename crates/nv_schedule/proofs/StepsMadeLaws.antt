@@ -12,7 +12,7 @@ use Rattle.nv_table.proofs.state.ViewLaws.{own_both}
 use Rattle.nv_table.specs.state.States.{PassState}
 use Rattle.nv_table.specs.state.Views.{PassView, pass_of, values_of}
 use Rattle.nv_table.specs.steps.SeatSteps.{act_of, events}
-use Rattle.nv_mirror.specs.OwnSteps.{AreOwn}
+use Rattle.nv_mirror.specs.OwnSteps.{AreOwnAs}
 use Rattle.nv_mirror.specs.PassSteps.{HasMade, HasTaken, PassStep}
 use Rattle.nv_schedule.specs.Acting.{GoesOnBy}
 use Rattle.nv_schedule.specs.StepsMade.{StepsMade, made_by, made_in, made_on}
@@ -82,15 +82,15 @@ later_on number opens works op found steps begins =
     (step_on number works op found steps)
 
 -- Those of a call since its pass was idle are what the run tells.
-pub made_are : (sizes : Sizes) (call : FileCall) (steps : List PassStep) (start now : PassState) → HasMade steps start now → AreOwn sizes call steps → (pass_of start.view).control ≡ Idle → made_in now.view.number now.view.run ≡ so_far steps []
-made_are sizes call [] start now made own_steps idle = absurd own_steps
-made_are sizes call (step ∷ []) start now made own_steps idle =
+pub made_are : (sizes : Sizes) (asked call : FileCall) (steps : List PassStep) (start now : PassState) → HasMade steps start now → AreOwnAs sizes asked call steps → (pass_of start.view).control ≡ Idle → made_in now.view.number now.view.run ≡ so_far steps []
+made_are sizes asked call [] start now made own_steps idle = absurd own_steps
+made_are sizes asked call (step ∷ []) start now made own_steps idle =
     let at_idle : (pass_of made.0.view).control ≡ Idle = ap (λ (p : PassState). (pass_of p.view).control) made.1 ∙ idle in
     taken_made step made.0 now made.2
-    ∙ first_on made.0.view.number step.opens step.works step.op step.found call (made_of made.0) own_steps.0 (idle_makes_none step made.0 now made.2 at_idle)
-made_are sizes call (step ∷ (other ∷ earlier)) start now made own_steps idle =
+    ∙ first_on made.0.view.number step.opens step.works step.op step.found asked (made_of made.0) own_steps.0 (idle_makes_none step made.0 now made.2 at_idle)
+made_are sizes asked call (step ∷ (other ∷ earlier)) start now made own_steps idle =
     taken_made step made.0 now made.2
-    ∙ ap (made_by (events_of made.0.view.number step)) (made_are sizes call (other ∷ earlier) start made.0 made.1 own_steps.2 idle)
+    ∙ ap (made_by (events_of made.0.view.number step)) (made_are sizes asked call (other ∷ earlier) start made.0 made.1 own_steps.2 idle)
     ∙ later_on made.0.view.number step.opens step.works step.op step.found (other ∷ earlier) own_steps.0
 
 -- ---- the run goes on by a step

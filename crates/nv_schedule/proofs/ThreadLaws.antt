@@ -7,7 +7,7 @@ use Rattle.nv_table.specs.invariant.Idle.{IsIdle}
 use Rattle.nv_table.specs.state.States.{PassState}
 use Rattle.nv_mount.specs.declared.fds.Fd.{Fd}
 use Rattle.nv_trace.specs.declared.trace_call.TraceCall.{TraceCall}
-use Rattle.nv_trace.specs.declared.trace_call.TraceCall.TheVariants.{Pread, Pwrite, Fsync}
+use Rattle.nv_trace.specs.declared.trace_call.TraceCall.TheVariants.{Pread, Pwrite, Preadv, Pwritev, Fsync}
 use Rattle.nv_trace.specs.declared.trace_call.TracedCall.{TracedCall}
 use Rattle.nv_runner.specs.declared.answer.Answer.{Answer}
 use Rattle.nv_runner.specs.Lists.{MadeCall}
@@ -29,6 +29,8 @@ rest_whole calls = grind (arith, common_steps)
 pub none_tried : (fds : List Fd) (call : TraceCall) (now : PassState) → WereTried fds call now now
 none_tried fds (Pread fd at len) now = ([], refl)
 none_tried fds (Pwrite fd at bytes) now = ([], refl)
+none_tried fds (Preadv fd at lens) now = ([], refl)
+none_tried fds (Pwritev fd at parts) now = ([], refl)
 none_tried fds (Fsync fd) now = refl
 
 pub at_next : (fds : List Fd) (left : List TracedCall) (now : PassState) → IsIdle now → IsAtCall fds left None now now

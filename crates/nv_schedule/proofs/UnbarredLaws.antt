@@ -22,13 +22,19 @@ use Rattle.nv_calls.specs.declared.syncing.SyncControl.{SyncControl}
 use Rattle.nv_calls.specs.declared.syncing.SyncControl.TheVariants as sync_controls
 use Rattle.nv_calls.specs.declared.writing.WriteControl.{WriteControl}
 use Rattle.nv_calls.specs.declared.writing.WriteControl.TheVariants as write_controls
+use Rattle.nv_calls.specs.calls.Asks.{asks_read, asks_readv, asks_write, asks_writev}
+use Rattle.nv_plain.specs.declared.call.FileCall.{FileCall}
+use Rattle.nv_plain.specs.Modes.{can_read}
+use Rattle.std.specs.List.{concat}
+use Rattle.nv_calls.specs.declared.reading.ReadMachine.{ReadMachine}
+use Rattle.nv_calls.specs.declared.writing.WriteMachine.{WriteMachine}
 use Rattle.nv_calls.specs.fsync.SyncMachines as syncs
 use Rattle.nv_calls.specs.fsync.SyncRuns.{file_of_fd}
 use Rattle.nv_calls.specs.reads.ReadMachines as reads
 use Rattle.nv_calls.specs.writes.WriteMachines as writes
 use Rattle.nv_trace.specs.declared.token.Token.{Token}
 use Rattle.nv_trace.specs.declared.trace_call.TraceCall.{TraceCall}
-use Rattle.nv_trace.specs.declared.trace_call.TraceCall.TheVariants.{Pread, Pwrite, Fsync}
+use Rattle.nv_trace.specs.declared.trace_call.TraceCall.TheVariants.{Pread, Pwrite, Preadv, Pwritev, Fsync}
 use Rattle.nv_trace.specs.declared.trace_call.TracedCall.{TracedCall}
 use Rattle.nv_runner.specs.declared.answer.Answer.{Answer}
 use Rattle.nv_runner.specs.declared.answer.Answer.TheVariants.{Placed}
@@ -46,7 +52,7 @@ use Rattle.nv_schedule.specs.Turns.{CallerState, HasCome}
 use Rattle.nv_schedule.specs.declared.caller.Work.{Work}
 use Rattle.nv_schedule.specs.declared.caller.Work.TheVariants.{Calls, Batches}
 use Rattle.nv_schedule.specs.declared.hand.Hand.{Hand}
-use Rattle.nv_schedule.specs.declared.hand.Hand.TheVariants.{Reading, Writing, Syncing}
+use Rattle.nv_schedule.specs.declared.hand.Hand.TheVariants.{Reading, Writing, ReadingParts, WritingParts, Syncing}
 use Rattle.nv_schedule.specs.declared.schedule_error.ScheduleError.{ScheduleError}
 use Rattle.nv_schedule.proofs.AnswerLaws.{CallLaws, all_answered, tried_since}
 use Rattle.nv_schedule.proofs.BegunLaws.{any_caller}
@@ -70,6 +76,8 @@ listed_of_some (caller ∷ later) m one = elim (one_either (all_listed later) (l
 early_none : (sizes : Sizes) (fds : List Fd) (call : TraceCall) (file : ℕ) → file_of_fd fds (fd_of call) ≡ Some file → IsUnbarred sizes fds call → early_of_call sizes fds call ≡ None
 early_none sizes fds (Pread fd at len) file file_is unbarred = unbarred
 early_none sizes fds (Pwrite fd at bytes) file file_is unbarred = unbarred
+early_none sizes fds (Preadv fd at lens) file file_is unbarred = unbarred
+early_none sizes fds (Pwritev fd at parts) file file_is unbarred = unbarred
 early_none sizes fds (Fsync fd) file file_is unbarred = ap unless_file file_is
 
 pub answered_free : (fds : List Fd) (made : List MadeCall) (start last : PassState) (call : TracedCall) (place : ℕ) (reply : Reply) → AreMade fds None made start last
@@ -82,18 +90,24 @@ answered_free fds made start last call place reply are one =
 -- ---- one in mid-call
 
 module _ (fds : List Fd) (begun now : PassState) (done : Done) where
+  read_free : (asks : (len file : ℕ) → FileCall) (m : ReadMachine) (list : List ℕ) (control : ReadControl) → reads.answer_at control ≡ Some done → reads.StandsAt asks fds m list begun now control
+      → early_refusal can_read begun.view.opened.sizes fds m.fd m.at m.len ≡ None
+  read_free asks m list read_controls.Begin is s = absurd (cc)
+  read_free asks m list (read_controls.Running running) is s = s.1.early
+
+  write_free : (asks : (file : ℕ) → FileCall) (m : WriteMachine) (bytes : List ℕ) → length bytes ≡ m.len → (control : WriteControl) → done_at m.len (writes.place_at control) ≡ Some done → writes.StandsAt asks fds m bytes begun now control
+      → early_refusal can_write begun.view.opened.sizes fds m.fd m.at (length bytes) ≡ None
+  write_free asks m bytes room write_controls.Begin is s = absurd (cc)
+  write_free asks m bytes room (write_controls.Running running) is s = ap (early_refusal can_write begun.view.opened.sizes fds m.fd m.at) room ∙ s.2.early
+
   hand_free : (call : TraceCall) (hand : Hand) → IsTrying fds call hand begun now → placed_at_hand hand ≡ Some done → early_of_call begun.view.opened.sizes fds call ≡ None
-  hand_free call (Reading r) t is = subst (λ (c : TraceCall). early_of_call begun.view.opened.sizes fds c ≡ None) (sym t.0) (at_read r.machine.control is t.1.stands)
-    where
-      at_read : (control : ReadControl) → reads.answer_at control ≡ Some done → reads.StandsAt fds r.machine r.list.items begun now control
-          → early_of_call begun.view.opened.sizes fds (Pread r.machine.fd r.machine.at r.machine.len) ≡ None
-      at_read read_controls.Begin is s = absurd (cc)
-      at_read (read_controls.Running running) is s = s.1.early
-  hand_free call (Writing m) t is = subst (λ (c : TraceCall). early_of_call begun.view.opened.sizes fds c ≡ None) (sym t.1) (at_write m.control is t.2.stands)
-    where
-      at_write : (control : WriteControl) → done_at m.len (writes.place_at control) ≡ Some done → writes.StandsAt fds m t.0 begun now control → early_of_call begun.view.opened.sizes fds (Pwrite m.fd m.at t.0) ≡ None
-      at_write write_controls.Begin is s = absurd (cc)
-      at_write (write_controls.Running running) is s = ap (early_refusal can_write begun.view.opened.sizes fds m.fd m.at) t.2.room ∙ s.2.early
+  hand_free call (Reading r) t is = ap (early_of_call begun.view.opened.sizes fds) t.0 ∙ read_free (asks_read r.machine.at) r.machine r.list.items r.machine.control is t.1.stands
+  hand_free call (Writing m) t is = ap (early_of_call begun.view.opened.sizes fds) t.1 ∙ write_free (asks_write m.at t.0) m t.0 t.2.room m.control is t.2.stands
+  hand_free call (ReadingParts r) t is =
+      ap (early_of_call begun.view.opened.sizes fds) t.0 ∙ ap (early_refusal can_read begun.view.opened.sizes fds r.machine.fd r.machine.at) t.1
+      ∙ read_free (asks_readv r.machine.at r.parts.lens) r.machine r.parts.list r.machine.control is t.2.stands
+  hand_free call (WritingParts w) t is =
+      ap (early_of_call begun.view.opened.sizes fds) t.0 ∙ write_free (asks_writev w.machine.at w.parts) w.machine (concat w.parts) t.1.room w.machine.control is t.1.stands
   hand_free call (Syncing m) t is = subst (λ (c : TraceCall). early_of_call begun.view.opened.sizes fds c ≡ None) (sym t.0) (at_sync m.control is t.1)
     where
       at_sync : (control : SyncControl) → done_at 0 (pageless_place_at (syncs.at_step control)) ≡ Some done → syncs.StandsAt fds m.fd begun now control → early_of_call begun.view.opened.sizes fds (Fsync m.fd) ≡ None

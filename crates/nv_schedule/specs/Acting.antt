@@ -4,7 +4,7 @@ use Rattle.nv_plain.specs.Histories.{Answered}
 use Rattle.nv_plain.specs.declared.call.FileCall.{FileCall}
 use Rattle.nv_plain.specs.declared.call.Reply.{Reply}
 use Rattle.nv_core.specs.state.Cleaner.{TakeCleaner}
-use Rattle.nv_core.specs.state.Passes.{Control, Idle}
+use Rattle.nv_core.specs.state.Passes.{Control, Idle, plain_call}
 use Rattle.nv_core.specs.steps.Events.{Event, own}
 use Rattle.nv_core.specs.steps.Ops.{Op, ByCleaner}
 use Rattle.nv_table.specs.state.Opened.{Opened}
@@ -15,7 +15,7 @@ use Rattle.nv_mirror.specs.declared.answers.Refusal.TheVariants.{RegionFault, St
 use Rattle.nv_calls.specs.fsync.SyncRuns.{file_of_fd}
 use Rattle.nv_calls.specs.histories.Faults.{OpenWrite, open_in}
 use Rattle.nv_trace.specs.declared.trace_call.TraceCall.{TraceCall}
-use Rattle.nv_trace.specs.declared.trace_call.TraceCall.TheVariants.{Pwrite}
+use Rattle.nv_trace.specs.declared.trace_call.TraceCall.TheVariants.{Pwrite, Pwritev}
 use Rattle.nv_trace.specs.declared.trace_call.TracedCall.{TracedCall}
 use Rattle.nv_runner.specs.Calls.{call_on, fd_of}
 use Rattle.nv_runner.specs.Refusals.{early_of_call}
@@ -35,18 +35,20 @@ pub record IsPlacedLast (opened : Opened) (call : FileCall) (reply : Reply) (pla
   pub ends : (pass_at opened actor).seen ≡ before ++ record { caller = actor.number; call = call; reply = reply } ∷ []
   pub at : place ≡ length before
 
--- The last of its pass's writes in flight is this call, from this number on.
+-- The last of its pass's writes in flight is what this call is made as, from this number on.
 abbrev pub IsLastOpen : Opened → FileCall → (number : ℕ) → Actor → Type 0
-IsLastOpen opened call number actor = (earlier : List OpenWrite) × (open_in (flights_of (pass_at opened actor)) ≡ record { call = call; first = number } ∷ earlier)
+IsLastOpen opened call number actor = (earlier : List OpenWrite) × (open_in (flights_of (pass_at opened actor)) ≡ record { call = plain_call call; first = number } ∷ earlier)
 
--- why the steps of its present try were refused, if they were
+-- why the steps of its present try were refused, if they were, by what it is made as
 abbrev pub refusal_now : Opened → FileCall → Actor → Option Refusal
-refusal_now opened call actor = refusal_in opened.sizes call (steps_in actor.number actor.seen)
+refusal_now opened call actor = refusal_in opened.sizes (plain_call call) (steps_in actor.number actor.seen)
 
 -- a write that a device fault ended is open
 abbrev pub leaves_open : TraceCall → Refusal → Bool
 leaves_open (Pwrite fd at bytes) RegionFault = true
 leaves_open (Pwrite fd at bytes) StoreFault = true
+leaves_open (Pwritev fd at parts) RegionFault = true
+leaves_open (Pwritev fd at parts) StoreFault = true
 leaves_open call refusal = false
 
 abbrev pub IsRefusedAs : (is_open : Bool) → Opened → FileCall → Refusal → Answer → Actor → Type 0

@@ -6,12 +6,14 @@ use Rattle.nv_calls.specs.writes.WriteMachines as writes
 use Rattle.nv_clean.specs.CleanSteps.{is_fault}
 use Rattle.nv_clean.specs.Cleaning.{CleanState}
 use Rattle.nv_schedule.specs.declared.hand.Hand.{Hand}
-use Rattle.nv_schedule.specs.declared.hand.Hand.TheVariants.{Reading, Writing, Syncing}
+use Rattle.nv_schedule.specs.declared.hand.Hand.TheVariants.{Reading, Writing, ReadingParts, WritingParts, Syncing}
 
 -- the fault of a device call in the present try of a call, once there was one
 abbrev pub fault_at_hand : Hand → Option Refusal
 fault_at_hand (Reading read) = reads.fault_so_far read.machine
 fault_at_hand (Writing machine) = writes.fault_so_far machine
+fault_at_hand (ReadingParts read) = reads.fault_so_far read.machine
+fault_at_hand (WritingParts write) = writes.fault_so_far write.machine
 fault_at_hand (Syncing machine) = None
 
 -- one has failed in that try, or in the present batch

@@ -1,5 +1,6 @@
 -- Listed: the calls that a thread has begun, with what a schedule tells of them.
 use Rattle.std.specs.Prelude.{ℕ, Bool, true, false, List, [], ◌∷◌, ◌++◌, take, Option, Some, None}
+use Rattle.nv_plain.specs.Calls.{filled}
 use Rattle.nv_plain.specs.declared.call.Reply.{Reply}
 use Rattle.nv_plain.specs.declared.call.Reply.TheVariants as replies
 use Rattle.nv_table.specs.invariant.Drawn.{drawn_by}
@@ -22,7 +23,7 @@ use Rattle.nv_schedule.specs.Turns.{CallerState}
 use Rattle.nv_schedule.specs.declared.caller.Work.{Work}
 use Rattle.nv_schedule.specs.declared.caller.Work.TheVariants.{Calls, Batches}
 use Rattle.nv_schedule.specs.declared.hand.Hand.{Hand}
-use Rattle.nv_schedule.specs.declared.hand.Hand.TheVariants.{Reading, Writing, Syncing}
+use Rattle.nv_schedule.specs.declared.hand.Hand.TheVariants.{Reading, Writing, ReadingParts, WritingParts, Syncing}
 
 -- ---- a call in mid-call
 
@@ -30,12 +31,16 @@ use Rattle.nv_schedule.specs.declared.hand.Hand.TheVariants.{Reading, Writing, S
 abbrev pub placed_at_hand : Hand → Option Done
 placed_at_hand (Reading read) = reads.placed_by read.machine
 placed_at_hand (Writing machine) = writes.placed_by machine
+placed_at_hand (ReadingParts read) = reads.placed_by read.machine
+placed_at_hand (WritingParts write) = writes.placed_by write.machine
 placed_at_hand (Syncing machine) = syncs.placed_by machine
 
 -- the reply of one that has its place
 abbrev pub reply_at_hand : Hand → (len : ℕ) → Reply
 reply_at_hand (Reading read) len = replies.Bytes (take len read.list.items)
 reply_at_hand (Writing machine) len = replies.Count len
+reply_at_hand (ReadingParts read) len = replies.Parts (filled read.parts.lens (take len read.parts.list))
+reply_at_hand (WritingParts write) len = replies.Count len
 reply_at_hand (Syncing machine) len = replies.Done
 
 -- A write has drawn its numbers: it goes its way through the log, or is placed; or a device fault has ended it, and it gives back what it holds.
@@ -50,6 +55,7 @@ has_drawn control = false
 
 abbrev pub has_drawn_at_hand : Hand → Bool
 has_drawn_at_hand (Writing machine) = has_drawn machine.control
+has_drawn_at_hand (WritingParts write) = has_drawn write.machine.control
 has_drawn_at_hand hand = false
 
 abbrev pub placed_answer : Option Done → (reply : ℕ → Reply) → Option Answer

@@ -1,29 +1,37 @@
 //! What a thread has at hand of its present call.
-ghost use Rattle.std.specs.Prelude.{◌≡◌, List, [], IfOk, None, is_some, length};
+ghost use Rattle.std.specs.Prelude.{◌≡◌, ℕ, List, [], IfOk, None, is_some, length, take};
+ghost use Rattle.std.specs.List.{sum};
+ghost use Rattle.nv_plain.specs.Calls.{filled};
+ghost use Rattle.nv_plain.specs.declared.call.Reply.TheVariants as replies;
 ghost use Rattle.nv_core.specs.state.Words.{Sizes};
 ghost use Rattle.nv_table.specs.invariant.Idle.{IsIdle};
 ghost use Rattle.nv_table.specs.state.States.{IsOf, PassState};
 ghost use Rattle.nv_table.specs.state.Workspaces.{IsWorkspace};
 ghost use Rattle.nv_calls.specs.calls.Advances.{IsOneOrNone};
-ghost use Rattle.nv_calls.specs.reads.ReadMachines.{IsReadUnderWay, IsSameRead, ReadGoes, early_of, standing};
+ghost use Rattle.nv_calls.specs.reads.ReadMachines.{IsReadUnderWay, IsReadvUnderWay, IsSameRead, ReadGoes, ReadvGoes, early_of, standing};
 ghost use Rattle.nv_mount.specs.declared.fds.Fd.{Fd};
 ghost use Rattle.nv_schedule.specs.Barred.{IsRefusedEarly};
 ghost use Rattle.nv_schedule.specs.Faulted.{fault_at_hand};
 ghost use Rattle.nv_schedule.specs.Hands.{IsOneOrNoStep, IsTrying, TryGoes, kind_at_hand, list_at_hand};
-ghost use Rattle.nv_schedule.specs.Listed.{ends_by_fault, has_drawn, told_at_hand};
+ghost use Rattle.nv_schedule.specs.Listed.{ends_by_fault, has_drawn, has_drawn_at_hand, placed_at_hand, reply_at_hand, told_at_hand};
+ghost use Rattle.nv_schedule.specs.Tries.{reply_to};
 
-use nv_calls::{Kind, Progress, ReadMachine, Refusal, SyncMachine, WriteControl, WriteMachine};
+use nv_calls::{
+    Done, Gather, Kind, Progress, ReadMachine, Refusal, Scatter, SyncMachine, WriteControl,
+    WriteMachine,
+};
 use nv_core::{passes_are_left_alone, runs_are_sound};
 use nv_mirror::{FrontControl, FrontMachine};
 use nv_mount::Mount;
-use nv_plain::{Bytes, NoMemory, Reply};
+use nv_plain::{Bytes, NoMemory, Parts, Reply};
 use nv_pmem::Lines;
 use nv_ring::RunningWrite;
-use nv_runner::Answer;
+use nv_runner::{Answer, fill_rooms, gathered, reply_rooms, scattered};
 use nv_store::Backing;
 use nv_table::{Pass, Workspace};
-use nv_trace::TraceCall;
+use nv_trace::{LenList, TraceCall};
 use std::alloc::Global;
+use std::marker::Model;
 
 /// The machine of a read that is tried, with room for the read's bytes.
 #[derive(Drop)]
@@ -52,11 +60,101 @@ impl ReadAtHand {
     }
 }
 
+/// The parts of a vectored read that is tried, with room for what each of them gets.
+#[derive(Drop)]
+pub(crate) struct PartsAtHand {
+    alloc: Global,
+    parts: Scatter,
+    rooms: Vec<Bytes>,
+}
+
+impl Model for PartsAtHand {
+    ghost use Rattle.std.specs.Prelude.{◌≡◌, length, map};
+    ghost use Rattle.nv_calls.specs.calls.Scattered.{Scattered};
+
+    ghost Value = { Scattered };
+
+    ghost view = { λ p. p.parts };
+
+    ghost invariant = { λ p. map (λ room. length room) p.rooms.items ≡ p.parts.lens };
+}
+
+impl PartsAtHand {
+    // Parts of these lengths, which have got none.
+    fn new(alloc: Global, lens: &LenList) -> Result<PartsAtHand, NoMemory>
+        ensures { IfOk result (λ parts. parts.lens ≡ lens.now) }
+    {
+        Ok(PartsAtHand {
+            alloc,
+            parts: scattered(alloc, lens)?,
+            rooms: reply_rooms(alloc, lens)?,
+        })
+    }
+
+    // How many bytes all of them ask for together: as many as their room has.
+    fn total(&self) -> u64
+        ensures sum { result ≡ sum self.now.lens }
+        ensures room { result ≡ length self.now.list }
+    {
+        self.parts.total()
+    }
+
+    // Makes the next step of their read, or none where it is refused by what it asks for.
+    fn advance<L: Lines + Drop, B: Backing + Drop>(
+        &mut self,
+        machine: &mut ReadMachine,
+        mount: &Mount<L, B>,
+        pass: &mut Pass<L, B>,
+    ) -> Progress
+        requires board { IsOf mount.now.board pass.old }
+        requires under_way { (begun : PassState) × IsReadvUnderWay mount.now.fds machine.old self.old begun pass.old }
+        ensures board { IsOf mount.now.board pass.new }
+        ensures one { IsOneOrNone (standing pass.old.view.opened.sizes) (early_of pass.old.view.opened.sizes mount.now.fds machine.old) machine.old machine.new pass.old pass.new result }
+        ensures same { IsSameRead machine.old machine.new }
+        ensures goes { (begun : PassState) → IsReadvUnderWay mount.now.fds machine.old self.old begun pass.old → ReadvGoes mount.now.fds begun machine.new self.new pass.new result }
+        ensures lens { self.new.lens ≡ self.old.lens }
+        ensures size { length self.new.list ≡ sum self.new.lens }
+    {
+        machine.advance_parts(mount, pass, &mut self.parts)
+    }
+
+    // Their reply, where they got so many bytes, or as many as they have room for.
+    fn into_reply(self, len: u64) -> Reply
+        ensures { result ≡ replies.Parts (filled self.lens (take len self.list)) }
+    {
+        let PartsAtHand {
+            alloc,
+            mut parts,
+            mut rooms,
+        } = self;
+        let got = len.min(parts.total());
+        parts.fill(got);
+        fill_rooms(alloc, &parts, &mut rooms);
+        Reply::Parts(Parts::from_vec(rooms))
+    }
+}
+
+/// The machine of a vectored read that is tried, with its parts.
+#[derive(Drop)]
+pub(crate) struct ReadvAtHand {
+    pub(crate) machine: ReadMachine,
+    pub(crate) parts: PartsAtHand,
+}
+
+/// The machine of a vectored write that is tried, with its parts.
+#[derive(Drop)]
+pub(crate) struct WritevAtHand {
+    pub(crate) machine: WriteMachine,
+    pub(crate) parts: Gather,
+}
+
 /// The machine of a call that is tried.
 #[derive(Drop)]
 pub(crate) enum Hand {
     Reading(ReadAtHand),
     Writing(WriteMachine),
+    ReadingParts(ReadvAtHand),
+    WritingParts(WritevAtHand),
     Syncing(SyncMachine),
 }
 
@@ -98,17 +196,65 @@ impl Hand {
             TraceCall::Pwrite { fd, at, bytes } => {
                 Hand::Writing(WriteMachine::new(*fd, *at, bytes.len() as u64))
             }
+            TraceCall::Preadv { fd, at, lens } => {
+                let parts = PartsAtHand::new(alloc, lens)?;
+                Hand::ReadingParts(ReadvAtHand {
+                    machine: ReadMachine::new(*fd, *at, parts.total()),
+                    parts,
+                })
+            }
+            TraceCall::Pwritev { fd, at, parts } => {
+                let parts = gathered(alloc, parts)?;
+                Hand::WritingParts(WritevAtHand {
+                    machine: WriteMachine::new(*fd, *at, parts.total()),
+                    parts,
+                })
+            }
             TraceCall::Fsync { fd } => Hand::Syncing(SyncMachine::new(*fd)),
         })
     }
 
-    /// What a read has in its list.
-    pub(crate) fn into_list(self, alloc: Global) -> Vec<u8>
-        ensures { result.items ≡ list_at_hand self }
+    /// The reply of the call, which has its place, where it moved so many bytes.
+    pub(crate) fn into_reply(self, len: u64) -> Reply
+        ensures { result ≡ reply_at_hand self len }
     {
         match self {
-            Hand::Reading(read) => read.list,
-            Hand::Writing(_) | Hand::Syncing(_) => Vec::new(alloc),
+            Hand::Reading(
+                ReadAtHand {
+                    machine: _,
+                    mut list,
+                },
+            ) => {
+                list.truncate(len as usize);
+                Reply::Bytes(Bytes::from_vec(list))
+            }
+            Hand::ReadingParts(read) => read.parts.into_reply(len),
+            Hand::Writing(_) | Hand::WritingParts(_) => Reply::Count(len),
+            Hand::Syncing(_) => Reply::Done,
+        }
+    }
+
+    // The place of the call, once it has one, and how many bytes it moved.
+    fn placed(&self) -> Option<Done>
+        ensures { result ≡ placed_at_hand self.now }
+    {
+        match self {
+            Hand::Reading(read) => read.machine.placed(),
+            Hand::Writing(machine) => machine.placed(),
+            Hand::ReadingParts(read) => read.machine.placed(),
+            Hand::WritingParts(write) => write.machine.placed(),
+            Hand::Syncing(machine) => machine.placed(),
+        }
+    }
+
+    // Whether it is a write that has drawn its numbers.
+    fn has_drawn(&self) -> bool
+        ensures { result ≡ has_drawn_at_hand self.now }
+    {
+        match self {
+            Hand::Writing(machine) => has_drawn(machine),
+            Hand::WritingParts(write) => has_drawn(&write.machine),
+            Hand::Reading(_) | Hand::ReadingParts(_) | Hand::Syncing(_) => false,
         }
     }
 
@@ -116,30 +262,13 @@ impl Hand {
     pub(crate) fn told(self, drawn: Option<u64>) -> Option<Answer>
         ensures { result ≡ told_at_hand self drawn }
     {
-        match self {
-            Hand::Reading(ReadAtHand { machine, mut list }) => {
-                let done = machine.placed()?;
-                list.truncate(done.len as usize);
-                Some(Answer::Placed {
-                    place: done.place,
-                    reply: Reply::Bytes(Bytes::from_vec(list)),
-                })
-            }
-            Hand::Writing(machine) => match (machine.placed(), drawn) {
-                (Some(done), _) => Some(Answer::Placed {
-                    place: done.place,
-                    reply: Reply::Count(done.len),
-                }),
-                (None, Some(number)) if has_drawn(&machine) => Some(Answer::Open { number }),
-                _ => None,
-            },
-            Hand::Syncing(machine) => {
-                let done = machine.placed()?;
-                Some(Answer::Placed {
-                    place: done.place,
-                    reply: Reply::Done,
-                })
-            }
+        match (self.placed(), drawn) {
+            (Some(done), _) => Some(Answer::Placed {
+                place: done.place,
+                reply: self.into_reply(done.len),
+            }),
+            (None, Some(number)) if self.has_drawn() => Some(Answer::Open { number }),
+            _ => None,
         }
     }
 
@@ -150,6 +279,8 @@ impl Hand {
         match self {
             Hand::Reading(read) => read.machine.next_kind(),
             Hand::Writing(machine) => machine.next_kind(),
+            Hand::ReadingParts(read) => read.machine.next_kind(),
+            Hand::WritingParts(write) => write.machine.next_kind(),
             Hand::Syncing(machine) => machine.next_kind(),
         }
     }
@@ -161,6 +292,8 @@ impl Hand {
         match self {
             Hand::Reading(read) => read.machine.faulted(),
             Hand::Writing(machine) => machine.faulted(),
+            Hand::ReadingParts(read) => read.machine.faulted(),
+            Hand::WritingParts(write) => write.machine.faulted(),
             Hand::Syncing(machine) => machine.faulted(),
         }
     }
@@ -180,6 +313,7 @@ impl Hand {
         ensures board { IsOf mount.now.board pass.new }
         ensures moved { IsOneOrNoStep (IsRefusedEarly pass.old.view.opened.sizes mount.now.fds call.now result) (is_some (fault_at_hand self.old)) (is_some (fault_at_hand self.new)) pass.old pass.new }
         ensures goes { (begun : PassState) → IsTrying mount.now.fds call.now self.old begun pass.old → TryGoes mount.now.fds call.now self.new begun pass.new result }
+        ensures replies { (len : ℕ) → reply_at_hand self.new len ≡ reply_to call.now (list_at_hand self.new) len }
         ensures workspace { IsWorkspace mount.now.board.opened.sizes workspace.new }
         ensures bare { workspace.new.parts.items ≡ [] }
     {
@@ -198,6 +332,12 @@ impl Hand {
                     unreachable!()
                 };
                 machine.advance(mount, pass, workspace, bytes.as_slice())
+            }
+            Hand::ReadingParts(read) => read.parts.advance(&mut read.machine, mount, pass),
+            Hand::WritingParts(write) => {
+                write
+                    .machine
+                    .advance_parts(mount, pass, workspace, &write.parts)
             }
             Hand::Syncing(machine) => machine.advance(mount, pass),
         }

@@ -1,6 +1,8 @@
 //! A thread of a schedule: its calls, one after another.
-ghost use Rattle.std.specs.Prelude.{◌≡◌, ◌≢◌, ◌∷◌, false, List, [], Option, None, Some, IfOk, OnErr, OnOk, is_some, length, take};
+ghost use Rattle.std.specs.Prelude.{◌≡◌, ◌≢◌, ◌∷◌, ◌==◌, ℕ, nat_lt, not, false, List, [], Option, None, Some, IfOk, OnErr, OnOk, is_some, length, take};
+ghost use Rattle.std.specs.List.{list_any};
 ghost use Rattle.nv_core.specs.state.Words.{Sizes};
+ghost use Rattle.nv_cache.specs.ReadSteps.{first_kind as kind_of_first};
 ghost use Rattle.nv_mount.specs.declared.fds.Fd.{Fd};
 ghost use Rattle.nv_table.specs.invariant.Drawn.{drawn_by};
 ghost use Rattle.nv_table.specs.invariant.Idle.{IsIdle};
@@ -13,6 +15,7 @@ ghost use Rattle.nv_schedule.specs.Barred.{IsAnsweredEarly, IsFirstAnsweredEarly
 ghost use Rattle.nv_schedule.specs.Callers.{CallEnds, CallGoes, IsAtCall, ThreadHasCome, next_of_calls};
 ghost use Rattle.nv_schedule.specs.Faulted.{fault_at_hand, hand_faulted};
 ghost use Rattle.nv_schedule.specs.Hands.{IsOneOrNoStep, kind_at_first, list_at_hand};
+ghost use Rattle.nv_schedule.specs.Listed.{reply_at_hand};
 ghost use Rattle.nv_schedule.specs.Tries.{answer_of, begins_anew, refused_answer, reply_to};
 ghost use Rattle.nv_schedule.specs.Turns.{CallCame};
 
@@ -20,7 +23,7 @@ use crate::hand::Hand;
 use crate::turned::Turned;
 use nv_calls::{Done, Kind, Progress, Refusal, refused_writes_leave_words};
 use nv_mount::Mount;
-use nv_plain::{Bytes, NoMemory, Reply};
+use nv_plain::{Bytes, NoMemory};
 use nv_pmem::Lines;
 use nv_runner::{Answer, AnsweredCall};
 use nv_store::Backing;
@@ -76,8 +79,31 @@ fn first_kind(call: &TraceCall) -> Kind
         TraceCall::Pread { .. } => Kind::Take,
         TraceCall::Pwrite { bytes, .. } if bytes.is_empty() => Kind::Load,
         TraceCall::Pwrite { .. } => Kind::Take,
+        TraceCall::Preadv { lens, .. } => moved_kind(has_some(lens.as_slice())),
+        TraceCall::Pwritev { parts, .. } => moved_kind(has_bytes(parts.as_slice())),
         TraceCall::Fsync { .. } => Kind::Load,
     }
+}
+
+// Whether some parts of a read ask for any byte.
+fn has_some(lens: &[u64]) -> bool
+    ensures { result ≡ list_any (λ len. nat_lt 0 len) lens.now }
+{
+    lens.iter().any(|len| *len > 0)
+}
+
+// Whether some parts of a write have any byte.
+fn has_bytes(parts: &[Bytes]) -> bool
+    ensures { result ≡ list_any (λ part. not (length part == 0)) parts.now }
+{
+    parts.iter().any(|part| !part.is_empty())
+}
+
+// The kind of the first step of a read or a write, by whether it moves any byte.
+fn moved_kind(some: bool) -> Kind
+    ensures { (len : ℕ) → some ≡ nat_lt 0 len → result ≡ kind_of_first len }
+{
+    if some { Kind::Take } else { Kind::Load }
 }
 
 // Whether a call begins anew that came to this.
@@ -85,24 +111,12 @@ fn anew(call: &TraceCall, ended: Result<Done, Refusal>) -> bool
     ensures { result ≡ begins_anew call.now ended }
 {
     match (call, ended) {
-        (TraceCall::Pread { .. }, Err(Refusal::Busy { .. })) => true,
-        (TraceCall::Pwrite { .. }, Err(Refusal::Busy { .. } | Refusal::Raced { .. })) => true,
+        (TraceCall::Pread { .. } | TraceCall::Preadv { .. }, Err(Refusal::Busy { .. })) => true,
+        (
+            TraceCall::Pwrite { .. } | TraceCall::Pwritev { .. },
+            Err(Refusal::Busy { .. } | Refusal::Raced { .. }),
+        ) => true,
         _ => false,
-    }
-}
-
-// The reply of a call that has its place, which left these bytes in its list.
-fn reply(call: &TraceCall, list: Vec<u8>, len: u64) -> Reply
-    ensures { result ≡ reply_to call.now list.items len }
-{
-    match call {
-        TraceCall::Pread { .. } => {
-            let mut list = list;
-            list.truncate(len as usize);
-            Reply::Bytes(Bytes::from_vec(list))
-        }
-        TraceCall::Pwrite { .. } => Reply::Count(len),
-        TraceCall::Fsync { .. } => Reply::Done,
     }
 }
 
@@ -111,25 +125,24 @@ fn without_place(call: &TraceCall, refusal: Refusal, drawn: Option<u64>) -> Answ
     ensures { result ≡ refused_answer call.now refusal drawn }
 {
     match (call, refusal, drawn) {
-        (TraceCall::Pwrite { .. }, Refusal::RegionFault | Refusal::StoreFault, Some(number)) =>
-            Answer::Open { number },
+        (
+            TraceCall::Pwrite { .. } | TraceCall::Pwritev { .. },
+            Refusal::RegionFault | Refusal::StoreFault,
+            Some(number),
+        ) => Answer::Open { number },
         _ => Answer::Refused(refusal),
     }
 }
 
-// What a call is answered by its last try, which left these bytes in its list.
-fn answer(
-    call: &TraceCall,
-    list: Vec<u8>,
-    ended: Result<Done, Refusal>,
-    drawn: Option<u64>,
-) -> Answer
-    ensures { result ≡ answer_of call.now list.items ended drawn }
+// What a call is answered by its last try, which left this at hand.
+fn answer(call: &TraceCall, tried: Hand, ended: Result<Done, Refusal>, drawn: Option<u64>) -> Answer
+    requires { (len : ℕ) → reply_at_hand tried len ≡ reply_to call.now (list_at_hand tried) len }
+    ensures { result ≡ answer_of call.now (list_at_hand tried) ended drawn }
 {
     match ended {
         Ok(done) => Answer::Placed {
             place: done.place,
-            reply: reply(call, list, done.len),
+            reply: tried.into_reply(done.len),
         },
         Err(refusal) => without_place(call, refusal, drawn),
     }
@@ -241,8 +254,7 @@ fn advance_call<L: Lines + Drop, B: Backing + Drop>(
             if anew(&call.call, ended) {
                 return Ok((None, faulted));
             }
-            let list = tried.into_list(alloc);
-            let answer = answer(&call.call, list, ended, pass.drawn());
+            let answer = answer(&call.call, tried, ended, pass.drawn());
             Ok((Some(answer), faulted))
         }
     }

@@ -10,14 +10,16 @@ use Rattle.std.proofs.lemmas.List.Sorted.{All-permutation, IsPermutation-refl, I
 use Rattle.nv_plain.specs.Files.{Files}
 use Rattle.nv_plain.specs.declared.call.FileCall.{FileCall}
 use Rattle.nv_plain.specs.Made.{after_calls}
-use Rattle.nv_core.specs.state.Passes.{Fault, IsOneOf, is_write}
+use Rattle.nv_plain.specs.Calls.{files_after}
+use Rattle.nv_core.specs.state.Passes.{Fault, IsOneOf, is_write, plain_call}
+use Rattle.nv_runner.proofs.LifeLaws.{leaves_alike}
 use Rattle.nv_mount.specs.declared.fds.Fd.{Fd}
 use Rattle.nv_calls.specs.fsync.SyncRuns.{file_of_fd}
 use Rattle.nv_calls.specs.histories.Faults.{OpenWrite, open_in}
 use Rattle.nv_trace.specs.Shape.{IsCallWithin}
 use Rattle.nv_trace.specs.declared.trace.Descriptor.{Descriptor}
 use Rattle.nv_trace.specs.declared.trace_call.TraceCall.{TraceCall}
-use Rattle.nv_trace.specs.declared.trace_call.TraceCall.TheVariants.{Pread, Pwrite, Fsync}
+use Rattle.nv_trace.specs.declared.trace_call.TraceCall.TheVariants.{Pread, Pwrite, Preadv, Pwritev, Fsync}
 use Rattle.nv_trace.specs.declared.report.Fate.TheVariants.{Kept, Lost}
 use Rattle.nv_runner.specs.declared.sorted.Open.{Open}
 use Rattle.nv_runner.specs.Calls.{fd_of, opened_on}
@@ -37,6 +39,8 @@ use Rattle.nv_top.specs.Fates.{AreShownOpen, begun_call, fated, fated_opened}
 within_fds : (call : TraceCall) (count : ℕ) → IsCallWithin count call → fd_of call < count
 within_fds (Pread fd at len) count is = is.0
 within_fds (Pwrite fd at bytes) count is = is.0
+within_fds (Preadv fd at lens) count is = is.0
+within_fds (Pwritev fd at parts) count is = is.0
 within_fds (Fsync fd) count is = is
 
 got : {X : Type 0} (xs : List X) (k : ℕ) → k < length xs → (x : X) × (slice_get xs k ≡ Some x)
@@ -45,7 +49,7 @@ got (x ∷ xs) zero less = (x, refl)
 got (x ∷ xs) (suc k) less = got xs k (omega arith)
 
 abbrev pub open_write : List Descriptor → Open → OpenWrite
-open_write descriptors one = record { call = file_call descriptors one.call.now.call; first = one.number }
+open_write descriptors one = record { call = plain_call (file_call descriptors one.call.now.call); first = one.number }
 
 abbrev pub AreWithin : List Descriptor → List Open → Type 0
 AreWithin descriptors open_calls = All (λ (o : Open). IsCallWithin (length descriptors) o.call.now.call) open_calls
@@ -59,7 +63,7 @@ module _ (descriptors : List Descriptor) (fds : List Fd) (fds_are : fds ≡ map 
       let at = got fds (fd_of call) less in
       let is : file_of_fd fds (fd_of call) ≡ Some at.0.file = ap (option_map (λ (fd : Fd). fd.file)) at.1 in
       ap (λ file. opened_on file call one.number) is
-      ∙ ap (λ call. record { call = call; first = one.number } ∷ []) (sym (files_so call at.0.file is))
+      ∙ ap (λ call. record { call = plain_call call; first = one.number } ∷ []) (sym (files_so call at.0.file is))
 
   pub open_writes_are : (open_calls : List Open) → AreWithin descriptors open_calls → flat_map (open_of fds) (map opened_call open_calls) ≡ map (open_write descriptors) open_calls
   open_writes_are [] within = refl
@@ -86,7 +90,7 @@ after_fates descriptors first groups (one ∷ later) files =
     by : (kept : Bool) → ((files : Files) → after_calls (map (λ (w : OpenWrite). w.call) rest) files ≡ after_open descriptors (map (fated first groups) later) files)
         → after_calls (map (λ (w : OpenWrite). w.call) (if kept then open_write descriptors one ∷ rest else rest)) files
         ≡ after_open descriptors (map (fated first groups) later) (after_fate call files (if kept then Kept else Lost))
-    by true same = same (after_fate call files Kept)
+    by true same = same (files_after (plain_call call) files) ∙ ap (after_open descriptors (map (fated first groups) later)) (leaves_alike call files)
     by false same = same files
 
 -- ---- their numbers

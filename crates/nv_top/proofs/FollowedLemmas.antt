@@ -41,7 +41,7 @@ use Rattle.nv_trace.specs.declared.report.Refusal.{Refusal}
 use Rattle.nv_trace.specs.declared.report.Refusal.TheVariants.{BadDescriptor, TooFar, TooLong, Stopped, Spent, Again, RegionFault, StoreFault}
 use Rattle.nv_trace.specs.declared.trace.Descriptor.{Descriptor}
 use Rattle.nv_trace.specs.declared.trace_call.TraceCall.{TraceCall}
-use Rattle.nv_trace.specs.declared.trace_call.TraceCall.TheVariants.{Pread, Pwrite, Fsync}
+use Rattle.nv_trace.specs.declared.trace_call.TraceCall.TheVariants.{Pread, Pwrite, Preadv, Pwritev, Fsync}
 use Rattle.nv_trace.specs.declared.trace_call.TracedCall.{TracedCall}
 use Rattle.nv_runner.specs.Faithful.{Basis, IsAllowedRefusal, WasRefused, after_fate, after_open, barred, descriptors_in, drawing_calls, file_call, files_shown, history_of, named, placed_in}
 use Rattle.nv_calls.specs.histories.Faults.{open_in}
@@ -132,6 +132,8 @@ either_open (one ∷ left) begun = ap (λ l. one ∷ l) (either_open left begun)
 stays : (call : TraceCall) (on_file : FileCall) (files : Files) → after_fate on_file files (begun_fate call) ≡ files
 stays (Pread fd at len) on_file files = refl
 stays (Pwrite fd at bytes) on_file files = refl
+stays (Preadv fd at lens) on_file files = refl
+stays (Pwritev fd at parts) on_file files = refl
 stays (Fsync fd) on_file files = refl
 
 order_after : (first : ℕ) (groups : List ℕ) (descriptors : List Descriptor) (these : List (Open ⊎ TracedCall)) (files : Files)

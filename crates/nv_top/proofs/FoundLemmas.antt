@@ -46,7 +46,7 @@ use Rattle.nv_trace.specs.declared.report.Fate.{Fate}
 use Rattle.nv_trace.specs.declared.report.Fate.TheVariants.{Kept, Lost, Unanswered}
 use Rattle.nv_trace.specs.declared.trace.Descriptor.{Descriptor}
 use Rattle.nv_trace.specs.declared.trace_call.TraceCall.{TraceCall}
-use Rattle.nv_trace.specs.declared.trace_call.TraceCall.TheVariants.{Pread, Pwrite, Fsync}
+use Rattle.nv_trace.specs.declared.trace_call.TraceCall.TheVariants.{Pread, Pwrite, Preadv, Pwritev, Fsync}
 use Rattle.nv_trace.specs.declared.trace_call.TracedCall.{TracedCall}
 use Rattle.nv_runner.specs.Faithful.{Basis, after_fate, after_open, descriptors_in, file_call, files_shown, history_of, listed_calls, open_calls_of, placed_calls, placed_in}
 use Rattle.nv_runner.specs.Histories.{PlacedCall}
@@ -289,6 +289,8 @@ after_joined (first ∷ later) files more there =
 call_there : (count : ℕ) (descriptors : List Descriptor) (call : TraceCall) → All (λ (d : Descriptor). d.file < count) descriptors → IsCallWithin (length descriptors) call → IsThere count (file_call descriptors call)
 call_there count descriptors (Pread fd at len) inside within = inside fd (record { file = 0; mode = R }) within.0
 call_there count descriptors (Pwrite fd at bytes) inside within = inside fd (record { file = 0; mode = R }) within.0
+call_there count descriptors (Preadv fd at lens) inside within = inside fd (record { file = 0; mode = R }) within.0
+call_there count descriptors (Pwritev fd at parts) inside within = inside fd (record { file = 0; mode = R }) within.0
 call_there count descriptors (Fsync fd) inside within = inside fd (record { file = 0; mode = R }) within
 
 abbrev kept_calls : List Descriptor → List OpenCall → List Answered
@@ -325,6 +327,9 @@ opened_there count descriptors (o ∷ later) inside within =
     write_there (Pread fd at len) here rest = rest
     write_there (Pwrite fd at bytes) here rest =
         All-cons (λ (answered : Answered). IsThere count answered.call) (record { caller = o.call.thread; call = file_call descriptors (Pwrite fd at bytes); reply = Count (length bytes) }) (kept_calls descriptors later) here rest
+    write_there (Preadv fd at lens) here rest = rest
+    write_there (Pwritev fd at parts) here rest =
+        All-cons (λ (answered : Answered). IsThere count answered.call) (record { caller = o.call.thread; call = file_call descriptors (Pwritev fd at parts); reply = Count (length (concat parts)) }) (kept_calls descriptors later) here rest
     write_there (Fsync fd) here rest = rest
 
     by : (fate : Fate) → IsThere count (file_call descriptors o.call.call) → AreThere count (kept_calls descriptors later) → AreThere count (done_so descriptors o fate ++ kept_calls descriptors later)
@@ -368,6 +373,8 @@ done_there worker options holding basis trace report begun reported formed =
 write_after : (descriptors : List Descriptor) (thread : ℕ) (call : TraceCall) (files : Files) → after (done_write descriptors thread call) files ≡ files_after (file_call descriptors call) files
 write_after descriptors thread (Pread fd at len) files = refl
 write_after descriptors thread (Pwrite fd at bytes) files = refl
+write_after descriptors thread (Preadv fd at lens) files = refl
+write_after descriptors thread (Pwritev fd at parts) files = refl
 write_after descriptors thread (Fsync fd) files = refl
 
 -- the open writes that were kept leave the files that are shown
@@ -388,6 +395,8 @@ kept_after descriptors (o ∷ later) files = by o.fate (λ files. kept_after des
 write_legal : (descriptors : List Descriptor) (thread : ℕ) (call : TraceCall) (files : Files) → IsLegal (done_write descriptors thread call) files
 write_legal descriptors thread (Pread fd at len) files = tt
 write_legal descriptors thread (Pwrite fd at bytes) files = (refl, tt)
+write_legal descriptors thread (Preadv fd at lens) files = tt
+write_legal descriptors thread (Pwritev fd at parts) files = (refl, tt)
 write_legal descriptors thread (Fsync fd) files = tt
 
 kept_legal : (descriptors : List Descriptor) (calls : List OpenCall) (files : Files) → IsLegal (kept_calls descriptors calls) files

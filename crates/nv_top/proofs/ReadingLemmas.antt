@@ -10,7 +10,7 @@ use Rattle.hex.specs.Hex.{encode_with, lower_digits}
 use Rattle.nv_plain.specs.declared.call.Reply.{Reply}
 use Rattle.nv_plain.specs.declared.call.Reply.TheVariants.{Bytes, Parts, Count, Done}
 use Rattle.nv_trace.specs.declared.trace_call.TraceCall.{TraceCall}
-use Rattle.nv_trace.specs.declared.trace_call.TraceCall.TheVariants.{Pread, Pwrite, Fsync}
+use Rattle.nv_trace.specs.declared.trace_call.TraceCall.TheVariants.{Pread, Pwrite, Preadv, Pwritev, Fsync}
 use Rattle.nv_trace.specs.declared.report.Fate.{Fate}
 use Rattle.nv_trace.specs.declared.report.Fate.TheVariants.{Kept, Lost, Unanswered}
 use Rattle.nv_trace.specs.declared.report.Refusal.{Refusal}
@@ -126,6 +126,8 @@ placed_line : (place thread : ℕ) (call : TraceCall) (reply : Reply) → histor
 unfolding history_text
 placed_line place thread (Pread fd at len) reply = simp append_assoc
 placed_line place thread (Pwrite fd at bytes) reply = simp append_assoc
+placed_line place thread (Preadv fd at lens) reply = simp append_assoc
+placed_line place thread (Pwritev fd at parts) reply = simp append_assoc
 placed_line place thread (Fsync fd) reply = simp append_assoc
 
 -- the words of a refusal, behind another field
@@ -150,6 +152,8 @@ call_line : (word : List ℕ) (thread : ℕ) (call : TraceCall) (text : List ℕ
     → line_text (word ∷ decimal thread ∷ (spaced (call_fields call) ++ codes ":") ∷ text ∷ []) ≡ line_text (word ∷ decimal thread ∷ (behind_last (call_fields call) (codes ":") ++ text ∷ []))
 call_line word thread (Pread fd at len) text = simp append_assoc
 call_line word thread (Pwrite fd at bytes) text = simp append_assoc
+call_line word thread (Preadv fd at lens) text = simp append_assoc
+call_line word thread (Pwritev fd at parts) text = simp append_assoc
 call_line word thread (Fsync fd) text = simp append_assoc
 
 refused_line : (thread : ℕ) (call : TraceCall) (refusal : Refusal) → refused_text thread call refusal ≡ line_text (codes "refused" ∷ decimal thread ∷ (behind_last (call_fields call) (codes ":") ++ refusal_fields refusal))
@@ -166,6 +170,14 @@ refused_line thread call refusal =
     words (Pwrite fd at bytes) =
         spaced_same (codes "refused" ∷ decimal thread ∷ codes "pwrite" ∷ decimal fd ∷ decimal at ∷ []) (decimal (length bytes) ++ codes ":")
         (refusal_text refusal ∷ []) (refusal_fields refusal) (sym (refusal_line (decimal (length bytes) ++ codes ":") refusal))
+    words (Preadv fd at lens) =
+        let listing = listed (map decimal lens) in
+        spaced_same (codes "refused" ∷ decimal thread ∷ codes "preadv" ∷ decimal fd ∷ decimal at ∷ []) (listing ++ codes ":")
+        (refusal_text refusal ∷ []) (refusal_fields refusal) (sym (refusal_line (listing ++ codes ":") refusal))
+    words (Pwritev fd at parts) =
+        let listing = listed (map (λ part. decimal (length part)) parts) in
+        spaced_same (codes "refused" ∷ decimal thread ∷ codes "pwritev" ∷ decimal fd ∷ decimal at ∷ []) (listing ++ codes ":")
+        (refusal_text refusal ∷ []) (refusal_fields refusal) (sym (refusal_line (listing ++ codes ":") refusal))
     words (Fsync fd) =
         spaced_same (codes "refused" ∷ decimal thread ∷ codes "fsync" ∷ []) (decimal fd ++ codes ":")
         (refusal_text refusal ∷ []) (refusal_fields refusal) (sym (refusal_line (decimal fd ++ codes ":") refusal))
@@ -312,23 +324,26 @@ hex_plain : (bytes : List ℕ) → IsPlain (hex_text bytes)
 hex_plain [] = word (codes "-") refl
 hex_plain (byte ∷ bytes) = encode_plain lower_digits (byte ∷ bytes) (word lower_digits refl)
 
-listed_plain : (parts : List (List ℕ)) → IsPlain (listed (map hex_text parts))
-listed_plain [] = tt
-listed_plain (part ∷ rest) = each-append IsPlainByte (hex_text part) _ (hex_plain part) (more_plain rest)
+listed_plain : {X : Type 0} (text : X → List ℕ) → ((x : X) → IsPlain (text x)) → (xs : List X) → IsPlain (listed (map text xs))
+listed_plain text plain [] = tt
+listed_plain {X = X} text plain (x ∷ xs) = each-append IsPlainByte (text x) _ (plain x) (more_plain xs)
   where
-    more_plain : (rest : List (List ℕ)) → IsPlain (flat_map (λ more. 44 ∷ more) (map hex_text rest))
+    more_plain : (rest : List X) → IsPlain (flat_map (λ more. 44 ∷ more) (map text rest))
     more_plain [] = tt
-    more_plain (one ∷ rest) = (((λ e. omega (arith, e)), (λ e. omega (arith, e))), each-append IsPlainByte (hex_text one) _ (hex_plain one) (more_plain rest))
+    more_plain (one ∷ rest) = (((λ e. omega (arith, e)), (λ e. omega (arith, e))), each-append IsPlainByte (text one) _ (plain one) (more_plain rest))
 
 reply_plain : (reply : Reply) → IsPlain (reply_text reply)
 reply_plain (Bytes bytes) = hex_plain bytes
-reply_plain (Parts parts) = listed_plain parts
+reply_plain (Parts parts) = listed_plain hex_text hex_plain parts
 reply_plain (Count count) = decimal_plain count
 reply_plain Done = word (codes "0") refl
 
 call_plain : (call : TraceCall) → Each IsPlain (call_fields call)
 call_plain (Pread fd at len) = (word (codes "pread") refl, (decimal_plain fd, (decimal_plain at, (decimal_plain len, tt))))
 call_plain (Pwrite fd at bytes) = (word (codes "pwrite") refl, (decimal_plain fd, (decimal_plain at, (decimal_plain (length bytes), tt))))
+call_plain (Preadv fd at lens) = (word (codes "preadv") refl, (decimal_plain fd, (decimal_plain at, (listed_plain decimal decimal_plain lens, tt))))
+call_plain (Pwritev fd at parts) =
+    (word (codes "pwritev") refl, (decimal_plain fd, (decimal_plain at, (listed_plain (λ (part : List ℕ). decimal (length part)) (λ part. decimal_plain (length part)) parts, tt))))
 call_plain (Fsync fd) = (word (codes "fsync") refl, (decimal_plain fd, tt))
 
 behind_plain : (fields : List (List ℕ)) (text : List ℕ) → Each IsPlain fields → IsPlain text → Each IsPlain (behind_last fields text)

@@ -1,6 +1,6 @@
 -- What the log that power left says of the writes that a report lists.
 use Rattle.std.proofs.Common.{◌≡◌, ◌⊎◌, ℕ, ◌+◌, List, [], ◌∷◌, ◌++◌, length, map, Bool, true, false, if◌then◌else◌, inl, inr, refl, sym, ap, subst, ◌∙◌, arith, append_assoc}
-use Rattle.std.specs.List.{AllZip}
+use Rattle.std.specs.List.{AllZip, concat}
 use Rattle.std.proofs.lemmas.Bool.{lt-ltb}
 use Rattle.std.proofs.lemmas.List.Sorted.{IsPermutation-sym}
 use Rattle.nv_plain.specs.Histories.{Answered}
@@ -30,7 +30,7 @@ use Rattle.nv_calls.specs.histories.Faults.{OpenWrite, open_in}
 use Rattle.nv_trace.specs.Traced.{Traced}
 use Rattle.nv_trace.specs.declared.trace.Descriptor.{Descriptor}
 use Rattle.nv_trace.specs.declared.trace_call.TraceCall.{TraceCall}
-use Rattle.nv_trace.specs.declared.trace_call.TraceCall.TheVariants.{Pread, Pwrite, Fsync}
+use Rattle.nv_trace.specs.declared.trace_call.TraceCall.TheVariants.{Pread, Pwrite, Preadv, Pwritev, Fsync}
 use Rattle.nv_runner.specs.Faithful.{Basis, IsWrite, descriptors_in, file_call}
 use Rattle.nv_runner.specs.FaithfulRuns.{as_fd}
 use Rattle.nv_runner.specs.Histories.{AreAtPlaces, PlacedCall, StandsAs}
@@ -120,14 +120,11 @@ placed_stands opened run earlier answered number was =
 
 -- ---- the writes
 
-plain_file_call : (descriptors : List Descriptor) (call : TraceCall) → plain_call (file_call descriptors call) ≡ file_call descriptors call
-plain_file_call descriptors (Pread fd at len) = refl
-plain_file_call descriptors (Pwrite fd at bytes) = refl
-plain_file_call descriptors (Fsync fd) = refl
-
-writes_on : (descriptors : List Descriptor) (call : TraceCall) → IsWrite call → is_write (file_call descriptors call) ≡ true
+writes_on : (descriptors : List Descriptor) (call : TraceCall) → IsWrite call → is_write (plain_call (file_call descriptors call)) ≡ true
 writes_on descriptors (Pread fd at len) write = absurd write
 writes_on descriptors (Pwrite fd at bytes) write = lt-ltb 0 (length bytes) write
+writes_on descriptors (Preadv fd at lens) write = absurd write
+writes_on descriptors (Pwritev fd at parts) write = lt-ltb 0 (length (concat parts)) write
 writes_on descriptors (Fsync fd) write = absurd write
 
 -- a write in flight is an open one
@@ -154,7 +151,7 @@ module _ (basis : Basis) (trace : Traced) (report : Report) (left : List OpenedC
   image = row_words behind.lost.power.parts
 
   -- what an image has of a write, as the sizes of the run say it
-  as_basis : (call : FileCall) (number : ℕ) → ReadsWhole last.opened.sizes call number image → HasWrite basis.sizes image number call
+  as_basis : (call : FileCall) (number : ℕ) → ReadsWhole last.opened.sizes (plain_call call) number image → HasWrite basis.sizes image number call
   as_basis call number whole = has_write last.opened.sizes basis.sizes call number image ran.opened.page ran.opened.entries whole
 
   on_file : (p : PlacedCall) (answered : Answered) → StandsAs fds p answered → answered.call ≡ file_call descriptors p.call.call
@@ -164,7 +161,7 @@ module _ (basis : Basis) (trace : Traced) (report : Report) (left : List OpenedC
   one_placed p one write =
       let stands = stands_there fds report.history (history_then last) 0 ran.history.places ran.history.each p one in
       let same = on_file p stands.answered stands.stands in
-      let made = ap plain_call same ∙ plain_file_call descriptors p.call.call in
+      let made = ap plain_call same in
       let there = behind.whole.placed stands.earlier stands.later stands.answered stands.splits (ap is_write made ∙ writes_on descriptors p.call.call write) in
       let at : length stands.earlier ≡ p.place = let at = stands.at in omega (arith, at) in (
         there.number,
@@ -181,10 +178,10 @@ module _ (basis : Basis) (trace : Traced) (report : Report) (left : List OpenedC
       let flown = fault_of_open (flights_then last) write (one_moved (map (left_write descriptors) left) (open_in (flights_then last)) write ran.flights (one_mapped (left_write descriptors) left o one)) in
       let fault = flown.0 in
       let number : o.number ≡ fault.first = ap (λ (w : OpenWrite). w.first) flown.3 in
-      let call : file_call descriptors o.call.call ≡ fault.call = ap (λ (w : OpenWrite). w.call) flown.3 in
+      let call : plain_call (file_call descriptors o.call.call) ≡ fault.call = ap (λ (w : OpenWrite). w.call) flown.3 in
       let whole = behind.whole.own fault flown.1 flown.2 (subst (IsOneOf (recovered image basis.files).groups) number found) in
       as_basis (file_call descriptors o.call.call) o.number
-      (subst (λ n. ReadsWhole last.opened.sizes (file_call descriptors o.call.call) n image) (sym number) (subst (λ (c : FileCall). ReadsWhole last.opened.sizes c fault.first image) (sym call) whole))
+      (subst (λ n. ReadsWhole last.opened.sizes (plain_call (file_call descriptors o.call.call)) n image) (sym number) (subst (λ (c : FileCall). ReadsWhole last.opened.sizes c fault.first image) (sym call) whole))
 
   one_committed : (number : ℕ) → IsOneOf (recovered image basis.files).groups number
       → ((p : PlacedCall) × IsOneOf report.history p × DrewInRun basis trace last p number) ⊎ ((o : OpenedCall) × IsOneOf left o × (o.number ≡ number))

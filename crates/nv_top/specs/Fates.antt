@@ -7,7 +7,7 @@ use Rattle.nv_recover.specs.declared.recovering.Recovered as recover
 use Rattle.nv_trace.specs.declared.report.Fate.{Fate}
 use Rattle.nv_trace.specs.declared.report.Fate.TheVariants.{Kept, Lost, Unanswered}
 use Rattle.nv_trace.specs.declared.trace_call.TraceCall.{TraceCall}
-use Rattle.nv_trace.specs.declared.trace_call.TraceCall.TheVariants.{Pread, Pwrite, Fsync}
+use Rattle.nv_trace.specs.declared.trace_call.TraceCall.TheVariants.{Pread, Pwrite, Preadv, Pwritev, Fsync}
 use Rattle.nv_trace.specs.declared.trace_call.TracedCall.{TracedCall}
 use Rattle.nv_runner.specs.declared.sorted.Open.{Open}
 use Rattle.nv_runner.specs.declared.sorted.SortedCalls.{SortedCalls}
@@ -31,6 +31,8 @@ fated_opened first groups write = record { call = write.call; fate = fate_of fir
 abbrev pub begun_fate : TraceCall → Fate
 begun_fate (Pread fd at len) = Unanswered
 begun_fate (Pwrite fd at bytes) = Lost
+begun_fate (Preadv fd at lens) = Unanswered
+begun_fate (Pwritev fd at parts) = Lost
 begun_fate (Fsync fd) = Unanswered
 
 abbrev pub begun_call : TracedCall → OpenCall

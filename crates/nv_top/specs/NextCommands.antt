@@ -1,6 +1,6 @@
 -- Next commands: what a command asks of a bench, and that one that ended with status 0 leaves it so for the next.
 use Rattle.std.specs.Prelude.{◌≡◌, ◌⊎◌, ℕ, ◌^◌, ◌<◌, ◌≤◌, Bool, false, List, [], ◌∷◌, ◌++◌, length, Option, Some, IfSome}
-use Rattle.std.specs.List.{flat_map}
+use Rattle.std.specs.List.{concat, flat_map}
 use Rattle.nv_plain.specs.declared.call.Reply.TheVariants.{Count}
 use Rattle.nv_plain.specs.Faults.{Rose}
 use Rattle.nv_plain.specs.Files.{Files}
@@ -22,7 +22,7 @@ use Rattle.nv_trace.specs.declared.report.Fate.{Fate}
 use Rattle.nv_trace.specs.declared.report.Fate.TheVariants.{Kept, Lost, Unanswered}
 use Rattle.nv_trace.specs.declared.trace.Descriptor.{Descriptor}
 use Rattle.nv_trace.specs.declared.trace_call.TraceCall.{TraceCall}
-use Rattle.nv_trace.specs.declared.trace_call.TraceCall.TheVariants.{Pread, Pwrite, Fsync}
+use Rattle.nv_trace.specs.declared.trace_call.TraceCall.TheVariants.{Pread, Pwrite, Preadv, Pwritev, Fsync}
 use Rattle.nv_trace.specs.Shape.{IsWellFormed}
 use Rattle.nv_trace.specs.Traced.{Traced}
 use Rattle.nv_top.specs.Commands.{HasRecovered, HasRunOn, IsBasis, IsLookedAt, recovery_of}
@@ -147,6 +147,8 @@ NextFindsShown =
 abbrev pub done_write : List Descriptor → (thread : ℕ) → TraceCall → List Answered
 done_write descriptors thread (Pread fd at len) = []
 done_write descriptors thread (Pwrite fd at bytes) = record { caller = thread; call = file_call descriptors (Pwrite fd at bytes); reply = Count (length bytes) } ∷ []
+done_write descriptors thread (Preadv fd at lens) = []
+done_write descriptors thread (Pwritev fd at parts) = record { caller = thread; call = file_call descriptors (Pwritev fd at parts); reply = Count (length (concat parts)) } ∷ []
 done_write descriptors thread (Fsync fd) = []
 
 -- an open call, if it is a write that was kept; a lost one is none

@@ -8,7 +8,7 @@ use Rattle.nv_pmem.specs.declared.picker.Pick.{Pick}
 use Rattle.nv_bench.specs.Benches.{BenchState}
 use Rattle.nv_bench.specs.Holding.{NamedStore}
 use Rattle.nv_open.specs.Held.{files_named}
-use Rattle.nv_core.specs.state.Passes.{IsOneOf}
+use Rattle.nv_core.specs.state.Passes.{IsOneOf, plain_call}
 use Rattle.nv_table.specs.state.Views.{PassView}
 use Rattle.nv_mount.specs.RisenCounts.{SawStop}
 use Rattle.nv_mount.specs.WholeRuns.{history_then}
@@ -34,7 +34,7 @@ use Rattle.nv_top.specs.Reports.{report_text}
 
 -- a write that was left open, as a write of its file
 abbrev pub left_write : List Descriptor → OpenedCall → OpenWrite
-left_write descriptors one = record { call = file_call descriptors one.call.call; first = one.number }
+left_write descriptors one = record { call = plain_call (file_call descriptors one.call.call); first = one.number }
 
 -- A report is of this run of the core, as pass 0 saw it last: it goes from an opening of the basis on, and has the events of all passes; its history is the report's; and the writes in flight at its end are those that were left open,
 -- each with the first number that it drew.

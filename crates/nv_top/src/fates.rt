@@ -72,8 +72,10 @@ fn begun_fate(call: &TraceCall) -> Fate
     ensures { result ≡ begun_fate call.now }
 {
     match call {
-        TraceCall::Pwrite { .. } => Fate::Lost,
-        TraceCall::Pread { .. } | TraceCall::Fsync { .. } => Fate::Unanswered,
+        TraceCall::Pwrite { .. } | TraceCall::Pwritev { .. } => Fate::Lost,
+        TraceCall::Pread { .. } | TraceCall::Preadv { .. } | TraceCall::Fsync { .. } => {
+            Fate::Unanswered
+        }
     }
 }
 

@@ -1,6 +1,7 @@
 -- Hands: a try goes on as its machine does.
 use Rattle.std.proofs.Common.{◌≡◌, List, [], ◌++◌, length, ℕ, sym, ap, subst, ◌∙◌, arith}
 use Rattle.std.proofs.lemmas.Grind.{common_steps}
+use Rattle.std.specs.List.{concat, sum}
 use Rattle.std.specs.Prelude.{IfOk, None, Option, Some, Result, Ok, Err, drop, take}
 use Rattle.nv_mirror.specs.declared.answers.Done.{Done}
 use Rattle.nv_mirror.specs.declared.answers.Refusal.{Refusal}
@@ -12,14 +13,18 @@ use Rattle.nv_calls.specs.declared.progress.Progress.TheVariants.{More, Ended}
 use Rattle.nv_calls.specs.declared.syncing.SyncMachine.{SyncMachine}
 use Rattle.nv_calls.specs.declared.writing.WriteMachine.{WriteMachine}
 use Rattle.nv_calls.specs.fsync.SyncMachines.{SyncGoes}
-use Rattle.nv_calls.specs.reads.ReadMachines.{IsSameRead, ReadGoes}
-use Rattle.nv_calls.specs.writes.WriteMachines.{IsSameWrite, WriteGoes, place_so_far}
+use Rattle.nv_calls.specs.reads.ReadMachines.{IsSameRead, ReadGoes, ReadvGoes}
+use Rattle.nv_calls.specs.writes.WriteMachines.{IsSameWrite, WriteGoes, WritevGoes, place_so_far}
 use Rattle.nv_trace.specs.declared.trace_call.TraceCall.{TraceCall}
-use Rattle.nv_trace.specs.declared.trace_call.TraceCall.TheVariants.{Pread, Pwrite, Fsync}
+use Rattle.nv_trace.specs.declared.trace_call.TraceCall.TheVariants.{Pread, Pwrite, Preadv, Pwritev, Fsync}
 use Rattle.nv_schedule.specs.declared.hand.ReadAtHand.{ReadAtHand}
-use Rattle.nv_schedule.specs.declared.hand.Hand.TheVariants.{Reading, Writing, Syncing}
-use Rattle.nv_schedule.specs.Hands.{IsTrying, TryGoes}
-use Rattle.nv_schedule.specs.Tries.{IsTryOver}
+use Rattle.nv_schedule.specs.declared.hand.ReadvAtHand.{ReadvAtHand}
+use Rattle.nv_schedule.specs.declared.hand.WritevAtHand.{WritevAtHand}
+use Rattle.nv_schedule.specs.declared.hand.Hand.TheVariants.{Reading, Writing, ReadingParts, WritingParts, Syncing}
+use Rattle.nv_schedule.specs.Hands.{IsTrying, TryGoes, list_at_hand}
+use Rattle.nv_schedule.specs.Listed.{reply_at_hand}
+use Rattle.nv_schedule.specs.declared.hand.Hand.{Hand}
+use Rattle.nv_schedule.specs.Tries.{IsTryOver, reply_to}
 
 -- ---- a read
 
@@ -40,6 +45,14 @@ module _ (fds : List Fd) (call : TraceCall) (old new : ReadAtHand) (begun pass n
 
 -- ---- a write
 
+-- one that is done has written all its bytes
+written : (len all : ℕ) (result : Result Done Refusal) (place : Option ℕ) → len ≡ all → done_at len place ≡ done_of result → IfOk result (λ (done : Done). done.len ≡ all)
+written len all (Err refusal) place same is = tt
+written len all (Ok done) None same is = absurd (cc)
+written len all (Ok done) (Some place) same is =
+    let one : ◌≡◌ {A = Done} (record { place = place; len = len }) done = cc in
+    sym (ap (λ (d : Done). d.len) one) ∙ same
+
 -- what a write writes
 abbrev pub bytes_in : TraceCall → List ℕ
 bytes_in (Pwrite fd at bytes) = bytes
@@ -57,14 +70,36 @@ module _ (fds : List Fd) (call : TraceCall) (old new : WriteMachine) (begun pass
 
   pub write_goes : (progress : Progress) → WriteGoes fds begun new trying.0 now progress → TryGoes fds call (Writing new) begun now progress
   write_goes More way = (trying.0, write_call, way)
-  write_goes (Ended result) over = subst (λ c. IsTryOver fds c [] begun now result) (sym write_call) (written result (place_so_far new) over.0, over.2)
-    where
-      written : (result : Result Done Refusal) (place : Option ℕ) → done_at new.len place ≡ done_of result → IfOk result (λ (done : Done). done.len ≡ length trying.0)
-      written (Err refusal) place is = tt
-      written (Ok done) None is = absurd (cc)
-      written (Ok done) (Some place) is =
-          let one : ◌≡◌ {A = Done} (record { place = place; len = new.len }) done = cc in
-          sym (ap (λ (d : Done). d.len) one) ∙ same.len ∙ sym trying.2.room
+  write_goes (Ended result) over = subst (λ c. IsTryOver fds c [] begun now result) (sym write_call) (written new.len (length trying.0) result (place_so_far new) (same.len ∙ sym trying.2.room) over.0, over.2)
+
+-- ---- of parts
+
+module _ (fds : List Fd) (call : TraceCall) (old new : ReadvAtHand) (begun pass now : PassState) (same : IsSameRead old.machine new.machine) (lens : new.parts.lens ≡ old.parts.lens) (size : length new.parts.list ≡ sum new.parts.lens) (trying : IsTrying fds call (ReadingParts old) begun pass) where
+  readv_call : call ≡ Preadv new.machine.fd new.machine.at new.parts.lens
+  readv_call =
+      trying.0
+      ∙ ap (λ fd. Preadv fd old.machine.at old.parts.lens) (sym same.fd)
+      ∙ ap (λ at. Preadv new.machine.fd at old.parts.lens) (sym same.at)
+      ∙ ap (Preadv new.machine.fd new.machine.at) (sym lens)
+
+  pub readv_goes : (progress : Progress) → ReadvGoes fds begun new.machine new.parts now progress → TryGoes fds call (ReadingParts new) begun now progress
+  readv_goes More way = (readv_call, ap sum lens ∙ trying.1 ∙ sym same.len, way)
+  readv_goes (Ended result) over = subst (λ c. IsTryOver fds c new.parts.list begun now result) (sym readv_call) (size, over.2)
+
+module _ (fds : List Fd) (call : TraceCall) (old new : WritevAtHand) (begun pass now : PassState) (same : IsSameWrite old.machine new.machine) (parts : new.parts ≡ old.parts)
+    (trying : IsTrying fds call (WritingParts old) begun pass) where
+  writev_call : call ≡ Pwritev new.machine.fd new.machine.at new.parts
+  writev_call =
+      trying.0
+      ∙ ap (λ fd. Pwritev fd old.machine.at old.parts) (sym same.fd)
+      ∙ ap (λ at. Pwritev new.machine.fd at old.parts) (sym same.at)
+      ∙ ap (Pwritev new.machine.fd new.machine.at) (sym parts)
+
+  pub writev_goes : (progress : Progress) → WritevGoes fds begun new.machine new.parts now progress → TryGoes fds call (WritingParts new) begun now progress
+  writev_goes More way = (writev_call, way)
+  writev_goes (Ended result) over =
+      subst (λ c. IsTryOver fds c [] begun now result) (sym writev_call)
+      (written new.machine.len (length (concat new.parts)) result (place_so_far new.machine) (same.len ∙ sym trying.1.room ∙ ap (λ (all : List (List ℕ)). length (concat all)) (sym parts)) over.0, over.2)
 
 -- ---- a sync
 

@@ -6,12 +6,11 @@ use Rattle.nv_schedule.proofs.laws.faults_of_schedules_are_counted.Goals as goal
 pub returns : goal.returns
 returns c =
     let laws : CallLaws = record {
-      reads_heed = c.ended_calls_heed_stop.ensures.reads;
-      writes_heed = c.ended_calls_heed_stop.ensures.writes;
+      calls_heed = c.ended_calls_heed_stop.ensures.calls;
       syncs_heed = c.ended_calls_heed_stop.ensures.syncs;
-      writes_leave = c.refused_writes_leave_words.ensures.writes;
-      writes_open = c.faults_open_writes.ensures.writes;
-      reads_open = c.faults_open_writes.ensures.reads;
+      writes_leave = c.refused_writes_leave_words.ensures.made;
+      writes_open = c.faults_open_writes.ensures.made_writes;
+      reads_open = c.faults_open_writes.ensures.made_reads;
       syncs_open = c.faults_open_writes.ensures.syncs;
       reads_go = c.tries_go_on.ensures.reads;
       writes_go = c.tries_go_on.ensures.writes;

@@ -11,12 +11,11 @@ returns c =
     let draws = c.heads_count_draws.ensures in
     let words : WordLaws = record { keep = core.events; sound = core.runs; on = c.histories_go_on.ensures } in
     let laws : CallLaws = record {
-      reads_heed = c.ended_calls_heed_stop.ensures.reads;
-      writes_heed = c.ended_calls_heed_stop.ensures.writes;
+      calls_heed = c.ended_calls_heed_stop.ensures.calls;
       syncs_heed = c.ended_calls_heed_stop.ensures.syncs;
-      writes_leave = c.refused_writes_leave_words.ensures.writes;
-      writes_open = c.faults_open_writes.ensures.writes;
-      reads_open = c.faults_open_writes.ensures.reads;
+      writes_leave = c.refused_writes_leave_words.ensures.made;
+      writes_open = c.faults_open_writes.ensures.made_writes;
+      reads_open = c.faults_open_writes.ensures.made_reads;
       syncs_open = c.faults_open_writes.ensures.syncs;
       reads_go = c.tries_go_on.ensures.reads;
       writes_go = c.tries_go_on.ensures.writes;

@@ -33,7 +33,7 @@ returns-then-anew-clause-goes g c = λ later last at.
     let way = of_trying fds call c.in_ok-tried.tried t.0 c.args.pass.now t.2 in
     let over = subst (TryGoes fds call c.advance-progress.new.self t.0 c.advance-progress.new.pass) c.in-Ended.is (c.advance-progress.ensures.goes t.0 t.2) in
     subst (λ (hand : Option Hand). IsAtCall fds (c.args.call.now ∷ later) hand last c.advance-progress.new.pass) (sym c.in_ok-tried.ensures.none) (
-      tried_more c.refused_writes_leave_words.ensures.writes fds call (list_at_hand c.advance-progress.new.self) last t.0 c.advance-progress.new.pass c.in-Ended.ended
+      tried_more c.refused_writes_leave_words.ensures.made fds call (list_at_hand c.advance-progress.new.self) last t.0 c.advance-progress.new.pass c.in-Ended.ended
           (subst (λ (o : Opened). IsMount (mount_of o)) way.mount c.sees_a_run.ensures.mount) way.idle t.1 over (sym c.anew.ensures ∙ c.if-anew.true),
       over_idle fds call (list_at_hand c.advance-progress.new.self) t.0 c.advance-progress.new.pass c.in-Ended.ended way.idle over,
     )
@@ -55,7 +55,6 @@ returns-else-anew-clause-goes g c = λ later last at.
         for_good = sym c.anew.ensures ∙ c.if-anew.false;
         answer_is =
             c.answer-answer.ensures
-            ∙ ap (λ list. answer_of call list c.in-Ended.ended c.drawn.result) c.into_list-list.ensures
             ∙ ap (answer_of call (list_at_hand c.advance-progress.new.self) c.in-Ended.ended) c.drawn.ensures;
       },
       over_idle fds call (list_at_hand c.advance-progress.new.self) t.0 c.advance-progress.new.pass c.in-Ended.ended way.idle over,
@@ -87,3 +86,6 @@ returns-else-anew-clause-moved g c =
     let progress = c.advance-progress.result in
     told_so (IsRefusedEarly sizes fds call progress) (IsAnsweredEarly sizes fds call true) (is_some (fault_at_hand c.in_ok-tried.tried)) (hand_faulted c.args.hand.now) (is_some (fault_at_hand c.advance-progress.new.self)) c.faulted-faulted.result
     c.args.pass.now c.advance-progress.new.pass c.in_ok-tried.ensures.faulted (sym c.faulted-faulted.ensures) (λ early. record { over = refl; barred = is_barred sizes fds call progress early }) c.advance-progress.ensures.moved
+
+pub answer-answer-requires : goal.answer-answer-requires
+answer-answer-requires g c = c.advance-progress.ensures.replies
