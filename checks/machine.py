@@ -152,14 +152,17 @@ class Call:
 
     def __init__(self, line):
         fields = line.split(" ")
-        self.thread, self.word, self.fd = fields[0], fields[1].replace("pfill", "pwrite"), int(fields[2])
+        self.thread, self.word, self.fd = fields[0], fields[1].replace("pfill", "pwrite").rstrip("v"), int(fields[2])
         self.at = int(fields[3]) if len(fields) > 3 else 0
         self.data = data_of(fields) if self.word == "pwrite" else b""
-        self.size = int(fields[4]) if self.word == "pread" else len(self.data)
+        self.parts = parts_of(fields) if fields[1].endswith("v") else None
+        self.size = len(self.data) if self.word != "pread" else sum(self.parts or [int(fields[4])])
         self.end = self.at + self.size
         self.file, self.has_begun, self.answer, self.place, self.reply, self.drawn = None, False, None, None, None, None
 
     def name(self):
+        if self.parts:
+            return f"{self.thread} {self.word}v {self.fd} {self.at} {','.join(map(str, self.parts))}"
         return f"{self.thread} {self.word} {self.fd}" + ("" if self.word == "fsync" else f" {self.at} {self.size}")
 
     def first_kind(self):
@@ -169,7 +172,19 @@ class Call:
 def data_of(fields):
     if fields[1] == "pfill":
         return bytes([int(fields[5])]) * int(fields[4])
-    return bytes.fromhex(fields[4].replace("-", ""))
+    return bytes.fromhex(fields[4].replace("-", "").replace(",", ""))
+
+
+def parts_of(fields):
+    """How long each part of a vectored call is."""
+    return [int(part) if fields[1] == "preadv" else len(part.replace("-", "")) // 2 for part in fields[4].split(",")]
+
+
+def in_parts(data, parts):
+    """What each part gets: they are filled in order, each to its end before the next."""
+    for size in parts:
+        yield data[:size]
+        data = data[size:]
 
 
 def shown(data):

@@ -84,6 +84,12 @@ RUNS = [
     ("run --noworker --stop 24 --image new", TWICE, TWICE_KEPT),
     ("run --noworker --image new --stop 19", THREE_PIECES, "open 0 pwrite 0 0 192: lost|file a 0 -|end 0 0 1|"),
     ("run --noworker --image new --stop 30", THREE_PIECES, f"open 0 pwrite 0 0 192: kept|file a 192 {'05' * 192}|end 0 0 1|"),
+    # Parts across a page, empty ones first, last and alone, and a read of parts over the end of the file.
+    ("run --noworker", A + "0 pwritev 0 62 aa,-,bbcc|0 preadv 0 61 2,0,9,1|",
+     f"0 0 pwritev 0 62 1,0,2 = 3|1 0 preadv 0 61 2,0,9,1 = 00aa,-,bbcc,-|file a 65 {'00' * 62}aabbcc|end 2 0 0|"),
+    ("run --noworker", A + "0 pwritev 0 0 -,01,-|0 pwritev 0 9 -|0 preadv 0 0 0|0 preadv 0 0 0,1|",
+     "0 0 pwritev 0 0 0,1,0 = 1|1 0 pwritev 0 9 0 = 0|2 0 preadv 0 0 0 = -|3 0 preadv 0 0 0,1 = -,01|file a 1 01|end 4 0 0|"),
+    ("run --noworker", A + "0 pwritev 0 4095 01,02|0 preadv 0 63 900,62|", "refused 0 pwritev 0 4095 1,1: too far|refused 0 preadv 0 63 900,62: too long|file a 0 -|end 0 2 0|"),
     # A number may have a plus, and zeros before it. What loads print load.py computes.
     ("gen +0 0001 +01", "", "gen 0 1 1|placed 65|written 6240|read 0|sum 38227152|"),
     # Schedules without calls.

@@ -15,7 +15,7 @@ import subprocess
 import sys
 
 sys.dont_write_bytecode = True
-from machine import Call, Mount, Pass, Picker, overwritten, shown, splitmix  # noqa: E402
+from machine import Call, Mount, Pass, Picker, in_parts, overwritten, shown, splitmix  # noqa: E402
 
 MOST_ADVANCES = 100_000
 SIZES = {"page": 64, "entries": 16, "cache": 4, "batch": 4, "pages": 64}
@@ -116,7 +116,7 @@ def recover(mount):
 
 def reply_text(call):
     if call.word == "pread":
-        return shown(call.reply)
+        return ",".join(shown(part) for part in in_parts(call.reply, call.parts or [call.size]))
     return str(call.reply)
 
 
@@ -221,6 +221,11 @@ ROWS = [
      f"open 0 pwrite 0 63 2: kept|file a 65 {'00' * 63}0102|end 0 0 1"),
     ("before its place and cleaned, then power off", {}, "old", ["0 pwrite 0 0 cc"], "0:place w:done",
      "open 0 pwrite 0 0 1: kept|file a 1 cc|end 0 0 1"),
+    ("parts cut at the commit word", {}, "new", ["0 pwritev 0 63 01,02"], "0:pledge cut:19 0", "open 0 pwritev 0 63 1,1: lost|file a 0 -|end 0 0 1"),
+    ("parts cut at its fence", {}, "new", ["0 pwritev 0 63 01,02"], "0:pledge cut:20 0",
+     f"open 0 pwritev 0 63 1,1: kept|file a 65 {'00' * 63}0102|end 0 0 1"),
+    ("parts in a row", {}, "old", ["0 pwritev 0 62 aa,-,bbcc", "0 preadv 0 61 2,0,9,1"], "0:done 0:done",
+     f"0 0 pwritev 0 62 1,0,2 = 3|1 0 preadv 0 61 2,0,9,1 = 00aa,-,bbcc,-|file a 65 {'00' * 62}aabbcc|end 2 0 0"),
     ("busy page", {}, "old", ["0 pwrite 0 0 11", "1 pread 0 0 1"], "0:place 1 0:done 1:done",
      "0 0 pwrite 0 0 1 = 1|1 1 pread 0 0 1 = 11|file a 1 11|end 2 0 0"),
     ("torn after cleaning", {}, "torn", ["0 pwrite 0 0 dd"], "0:done w:free", "0 0 pwrite 0 0 1 = 1|file a 1 dd|end 1 0 0"),
@@ -324,11 +329,20 @@ def drawn_call(draw, lines):
         return f"{thread} fsync {fd}"
     at = lines * draw.choice([draw.randrange(256), draw.randrange(64), draw.choice([60, 62, 126, 190])])
     size = draw.choice([draw.randint(1, 8)] * 16 + [0, 70, 80, draw.randint(9, 200)])
+    if draw.random() < 0.2:
+        return f"{thread} {word}v {fd} {at} {','.join(drawn_parts(draw, word, size))}"
     if word == "pread":
         return f"{thread} pread {fd} {at} {size}"
     if draw.random() < 0.3:
         return f"{thread} pfill {fd} {at} {size} {draw.randrange(256)}"
     return f"{thread} pwrite {fd} {at} {shown(draw.randbytes(size))}"
+
+
+def drawn_parts(draw, word, size):
+    """The parts of a vectored call of so many bytes."""
+    cuts = [0, *sorted(draw.randint(0, size) for _ in range(draw.choice([0, 1, 1, 2, 3, 15]))), size]
+    for left, right in zip(cuts, cuts[1:]):
+        yield str(right - left) if word == "pread" else shown(draw.randbytes(right - left))
 
 
 def drawn_cut(draw):

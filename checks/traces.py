@@ -20,7 +20,7 @@ RUN, SCHED = ["run", "--noworker"], ["sched"]
 NO_FORM = [
     "x", "0", "round 0", "round ", "0 round", "steps 0", "file", "file a b", "fd 1 a", "fd 1 a rw r", "file pwrite 0 0 ff", "fd fsync 0",
     "round pread 0 0 4", "0 sync 0", "0 PREAD 0 0 4", "0 pwrite", "0 pwrite 0 0", "0 pwrite 0 0 ff 0", "0 pread 0 0", "0 pread 0 0 4 4",
-    "0 pfill 0 0 1", "0 pfill 0 0 1 2 3", "0 fsync", "0 fsync 0 0", " ", " # no comment", " 0 pread 0 0 4", "0 pread 0 0 4 ",
+    "0 pwritev 0 0", "0 preadv 0 0 4 4", "0 preadv 0 0 1, 1", "0 pfill 0 0 1", "0 pfill 0 0 1 2 3", "0 fsync", "0 fsync 0 0", " ", " # no comment", " 0 pread 0 0 4", "0 pread 0 0 4 ",
     "0  pread 0 0 4", "0 pread  0 4", "file ",
 ]
 
@@ -31,7 +31,10 @@ BAD_FIELDS = [
     ("number", ["0 pwrite 0 00 ff", "0 pwrite 0 +1 ff", "0 pwrite 0 -1 ff", "0 pwrite 0 - ff", "0 pwrite 0 x 6"]),
     ("number", ["0 pwrite 0 4611686018427387904 ff", "0 pwrite 0 123456789012345678901234567890 ff"]),
     ("hex", ["0 pwrite 0 0 6", "0 pwrite 0 0 6g", "0 pwrite 0 0 --", "0 pwrite 0 0 0x"]),
-    ("unknown", ["0 pread 1 0 4", "7 pread 1 0 4"]),
+    ("hex", ["0 pwritev 0 0 00,,11", "0 pwritev 0 0 00,", "0 pwritev 0 0 ,00", "0 pwritev 0 0 00,6", "0 pwritev 0 0 " + "00" * 65_536 + "," + "00" * 65_537]),
+    ("many", ["0 pwritev 0 0 " + ",".join(["6"] * 17), "0 preadv 0 0 " + ",".join(["x"] * 17)]),
+    ("unknown", ["0 pread 1 0 4", "7 pread 1 0 4", "0 pwritev 1 0 6", "0 preadv 1 0 x"]),
+    ("number", ["0 preadv 0 0 1,,1", "0 preadv 0 0 1,", "0 preadv 0 0 01", "0 preadv 0 0 1,-", "0 preadv 0 0 131072,1", "0 preadv 0 x 1"]),
     ("number", ["0 pread 0 00 4", "0 pread 0 0 131073", "0 pread 0 0 01", "0 pread 0 0 -", "8 pread 0 0 4"]),
     ("number", ["8 pfill 1 0 1 2", "0 pfill 0 4611686018427387904 1 2", "0 pfill 0 0 131073 0", "0 pfill 0 0 - 1"]),
     ("number", ["0 pfill 0 0 1 256", "0 pfill 0 0 1 00"]),
@@ -55,6 +58,9 @@ GOOD = [
     ("0 pwrite 0 4611686018427387903 -", "\n", 1),
     ("0 pwrite 0 0 " + "0" * 262_144, "\n", 1),
     ("0 pread 0 4611686018427387903 131072", "\n", 1),
+    ("0 pwritev 0 1 " + ",".join(["-"] * 16), "\n", 1),
+    ("0 pwritev 0 0 " + "00" * 65_536 + ",-," + "FF" * 65_536, "\n", 1),
+    ("0 preadv 0 0 " + ",".join(["8192"] * 16), "\n", 1),
     ("0 pread 0 0 0", "", 1),
     ("0 pfill 0 1 131072 255", "\n", 1),
     ("0 fsync 0", "\n0 fsync 0\n", 2),
