@@ -31,6 +31,8 @@ pub mod AcceptedLemmas
 pub mod CompleteLemmas
 pub mod NextLemmas
 pub mod FoundLemmas
+pub mod LifeRowLemmas
+pub mod RowNameLemmas
 pub mod InTurnLemmas
 pub mod FollowedLemmas
 pub mod LifeLineLemmas

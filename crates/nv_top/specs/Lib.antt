@@ -13,6 +13,8 @@ pub mod Outcomes
 pub mod Stopping
 pub mod Behind
 pub mod LifeLines
+pub mod LifeRows
+pub mod Followed
 pub mod Stopped
 pub mod Tied
 pub mod Stops

@@ -28,7 +28,7 @@ use nv_open::{Restored, recover_region};
 use nv_plain::{Bytes, NoMemory};
 use nv_pmem::images_follow_calls;
 use nv_recover::{Recovered, images_stand_for_files};
-use nv_runner::{Refused, Shown, SortedCalls, push_history, show_refusals};
+use nv_runner::{AnsweredCall, Refused, Shown, SortedCalls, push_history, show_refusals};
 use nv_store::Backing;
 use nv_trace::{TracedCall, end_line, refused_line};
 use std::alloc::Global;
@@ -55,6 +55,32 @@ pub(crate) struct LifeLines {
     pub(crate) open_lines: Vec<u8>,
     /// Those of the files; none where another life follows, which begins with them.
     pub(crate) files: Vec<u8>,
+}
+
+/// What a life of a schedule comes to: its lines, and how many calls of each thread it has begun.
+#[derive(Drop)]
+pub(crate) struct Followed {
+    pub(crate) lines: LifeLines,
+    pub(crate) begun: [u64; 8],
+}
+
+/// How many calls of each thread are among some that were begun.
+pub(crate) fn count_begun(answered: &[AnsweredCall<'_>], unanswered: &[&TracedCall]) -> [u64; 8] {
+    let mut begun = [0; 8];
+    for one in answered {
+        count_one(&mut begun, one.call.thread);
+    }
+    for call in unanswered {
+        count_one(&mut begun, call.thread);
+    }
+    begun
+}
+
+// Counts one more of a thread.
+fn count_one(begun: &mut [u64; 8], thread: u64) {
+    if let Some(count) = begun.get_mut(thread as usize) {
+        *count = count.saturating_add(1);
+    }
 }
 
 /// Recovers the region of a bench, and gives all back. The lines of a life's sorted calls, the first one's place being this, of those that were begun beside them, and of the files, where it is the last life.

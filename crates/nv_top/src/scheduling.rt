@@ -22,7 +22,9 @@ ghost use Rattle.nv_runner.specs.Faithful.{Basis};
 ghost use Rattle.nv_schedule.specs.declared.schedule_error.ScheduleError.TheVariants as schedule_errors;
 ghost use Rattle.nv_schedule.specs.declared.scheduled.ScheduledCalls.{ScheduledCalls as AnyCalls};
 ghost use Rattle.nv_top.specs.Commands.{HasRecovered, IsGivenBack};
-ghost use Rattle.nv_top.specs.Headline.{HasUsedTurnsOn, IsRunRefused, ShowsFollowed, ShowsLives, expected_faults};
+ghost use Rattle.nv_top.specs.Followed.{HasUsedTurnsOn, ShowsFollowed};
+ghost use Rattle.nv_top.specs.Headline.{IsRunRefused, expected_faults};
+ghost use Rattle.nv_top.specs.LifeRows.{ArePickedSome, IsPickedLast, LeaveLives, ShowsLives, UseTurns, all_tokens, picks_of};
 ghost use Rattle.nv_top.specs.Lives.{HasLived, LeavesRun, TellsNothing};
 ghost use Rattle.nv_top.specs.Runs.{BeginsMount, HasCache, basis_over};
 ghost use Rattle.nv_top.specs.Scheduling.{HasUsedTurns, IsArmedAt, IsArmedAtSome, ShowsOutcome, ShowsScheduled};
@@ -33,7 +35,7 @@ ghost use Rattle.nv_words.specs.Words.{AreInLimits};
 ghost use Rattle.nv_top.specs.declared.ending.Stop.TheVariants as stops;
 
 use crate::ending::Stop;
-use crate::life::{LifeLines, LivesShown, show_life};
+use crate::life::{Followed, LivesShown, count_begun, show_life};
 use crate::mounting::{Unmounted, mount_over};
 use crate::names::copy_names;
 use crate::recovery::recover;
@@ -49,41 +51,65 @@ use nv_schedule::{
     schedules_are_told, schedules_begin_in_order, schedules_leave_lives, schedules_run_in_the_core,
 };
 use nv_table::Pass;
-use nv_trace::Trace;
+use nv_trace::{EndedLife, Trace};
 use nv_words::RunOptions;
 use std::alloc::Global;
 
-/// Follows the schedule of a trace over a bench, power failing behind it. The text of its report.
+/// Follows the lives of a trace over a bench, each a schedule behind which power fails: those that crashes end, and then the last one. The text of their report.
 pub(crate) fn schedule<T: Bench>(
     alloc: Global,
     bench: &mut T,
     options: RunOptions,
-    trace: &Trace,
+    mut trace: Trace,
 ) -> Result<Vec<u8>, Stop>
     requires ready { IsReady (T.state bench.old) }
     requires images { T.can_lose_power ≡ true }
     requires limits { AreInLimits options }
-    requires trace { IsRunnable trace.now }
-    requires no_rounds { has_rounds trace.now.form ≡ false }
-    ensures runnable { IsRunnable trace.now }
+    requires trace { IsRunnable trace }
+    requires no_rounds { has_rounds trace.form ≡ false }
+    ensures runnable { IsRunnable trace }
     ensures back { IsAllBack (T.state bench.new) }
-    ensures cuts { IsArmedAtSome trace.now.tokens (T.state bench.old) (T.state bench.new) }
-    ensures all_cuts { OnOk result (IsArmedAt trace.now.tokens (T.state bench.old) (T.state bench.new)) }
-    ensures picked { IsPickedOnce options.image (T.state bench.old) (T.state bench.new) }
+    ensures cuts { IsArmedAtSome (all_tokens trace) (T.state bench.old) (T.state bench.new) }
+    ensures all_cuts { OnOk result (IsArmedAt (all_tokens trace) (T.state bench.old) (T.state bench.new)) }
+    ensures picked { ArePickedSome (picks_of options trace) (T.state bench.old) (T.state bench.new) }
     ensures cause { IsSettledStop (expected_faults (T.state bench.old) (T.state bench.new)) (T.state bench.new).faults result }
-    ensures turns { result ≡ Err stops.Turns → (T.state bench.new).picked ≡ options.image ∷ (T.state bench.old).picked }
-    ensures used { result ≡ Err stops.Turns → IfSome (T.state bench.old).told (λ holding. HasUsedTurnsOn options (T.state bench.old) (T.state bench.new) holding trace.now) }
+    ensures turns { result ≡ Err stops.Turns → IsPickedLast (picks_of options trace) (T.state bench.old) (T.state bench.new) }
+    ensures used { result ≡ Err stops.Turns → IfSome (T.state bench.old).told (λ holding. UseTurns options (T.state bench.old) (T.state bench.new) holding trace) }
     ensures never_falls { (T.state bench.old).faults ≤ (T.state bench.new).faults }
-    ensures life { IfSome (T.state bench.old).told (λ was. LeavesRun TellsNothing options was trace.now [] (T.state bench.new).told) }
-    ensures followed { IfOk result (λ text. IfSome (T.state bench.old).told (λ holding.
-        ShowsLives (Rose (T.state bench.old).faults (T.state bench.new).faults) options (T.state bench.old).picked holding (T.state bench.new) trace.now text.items)) }
-    ensures refused { (why : _) → result ≡ Err (stops.Region why) → IfSome (T.state bench.old).told (λ holding. IsRunRefused options holding trace.now.names (T.state bench.old) (T.state bench.new) why
+    ensures life { IfSome (T.state bench.old).told (λ was. LeaveLives options (T.state bench.old) (T.state bench.new) was trace) }
+    ensures followed { IfOk result (λ text. IfSome (T.state bench.old).told (λ holding. ShowsLives options (T.state bench.old) (T.state bench.new) holding trace text.items)) }
+    ensures refused { (why : _) → result ≡ Err (stops.Region why) → IfSome (T.state bench.old).told (λ holding. IsRunRefused options holding trace.names (T.state bench.old) (T.state bench.new) why
         × ((T.state bench.new).picked ≡ (T.state bench.old).picked)) }
     ensures unarmed { (why : _) → result ≡ Err (stops.Region why) → IfSome (T.state bench.old).told (λ holding. (T.state bench.new).arms ≡ (T.state bench.old).arms) }
 {
-    let shown = LivesShown::new(alloc);
-    let last = follow_life(alloc, bench, options, trace, shown.placed, true)?;
-    Ok(shown.text_with(alloc, last)?)
+    let lives = trace.take_lives();
+    let mut shown = LivesShown::new(alloc);
+    for life in lives {
+        end_life(alloc, bench, options, life, &mut trace, &mut shown)?;
+    }
+    let last = follow_life(alloc, bench, options, &trace, shown.placed, true)?;
+    Ok(shown.text_with(alloc, last.lines)?)
+}
+
+// Follows the schedule of a life that a crash ends over a bench, with the calls of the trace, of which those that it begins are dropped then.
+fn end_life<T: Bench>(
+    alloc: Global,
+    bench: &mut T,
+    options: RunOptions,
+    mut life: EndedLife,
+    trace: &mut Trace,
+    shown: &mut LivesShown,
+) -> Result<(), Stop> {
+    let options = RunOptions {
+        image: life.pick(),
+        ..options
+    };
+    trace.swap_tokens(&mut life);
+    let followed = follow_life(alloc, bench, options, trace, shown.placed, false)?;
+    trace.swap_tokens(&mut life);
+    trace.drop_begun(followed.begun);
+    shown.end_life(followed.lines)?;
+    Ok(())
 }
 
 // Follows the schedule of a trace over a bench: opens its region, of these sizes where it is blank, with the files of the trace, lets callers follow the tokens over a mount of them, gives all back, powers
@@ -95,7 +121,7 @@ fn follow_life<T: Bench>(
     trace: &Trace,
     place: u64,
     last: bool,
-) -> Result<LifeLines, Stop>
+) -> Result<Followed, Stop>
     requires place { place < 2 ^ 63 }
     requires ready { IsReady (T.state bench.old) }
     requires images { T.can_lose_power ≡ true }
@@ -112,8 +138,8 @@ fn follow_life<T: Bench>(
     ensures used { result ≡ Err stops.Turns → IfSome (T.state bench.old).told (λ holding. HasUsedTurnsOn options (T.state bench.old) (T.state bench.new) holding trace.now) }
     ensures never_falls { (T.state bench.old).faults ≤ (T.state bench.new).faults }
     ensures life { IfSome (T.state bench.old).told (λ was. LeavesRun TellsNothing options was trace.now [] (T.state bench.new).told) }
-    ensures followed { IfOk result (λ lines. IfSome (T.state bench.old).told (λ holding.
-        ShowsFollowed (Rose (T.state bench.old).faults (T.state bench.new).faults) options (T.state bench.old).picked holding (T.state bench.new) trace.now place last lines)) }
+    ensures followed { IfOk result (λ life. IfSome (T.state bench.old).told (λ holding.
+        ShowsFollowed (Rose (T.state bench.old).faults (T.state bench.new).faults) options (T.state bench.old).picked holding (T.state bench.new) trace.now place last life.lines)) }
     ensures refused { (why : _) → result ≡ Err (stops.Region why) → IfSome (T.state bench.old).told (λ holding. IsRunRefused options holding trace.now.names (T.state bench.old) (T.state bench.new) why
         × ((T.state bench.new).picked ≡ (T.state bench.old).picked)) }
     ensures unarmed { (why : _) → result ≡ Err (stops.Region why) → IfSome (T.state bench.old).told (λ holding. (T.state bench.new).arms ≡ (T.state bench.old).arms) }
@@ -139,7 +165,7 @@ fn schedule_region<T: Bench>(
     before: u64,
     place: u64,
     last: bool,
-) -> Result<LifeLines, Stop>
+) -> Result<Followed, Stop>
     requires place { place < 2 ^ 63 }
     requires images { T.can_lose_power ≡ true }
     requires limits { AreInLimits options }
@@ -173,12 +199,12 @@ fn schedule_region<T: Bench>(
         → HasUsedTurns (Rose (saturated ((T.state bench.old).faults
         + (sum_by T.Part.fault_count opened.region.parts.items + sum_by T.Store.fault_count opened.stores.items))) (T.state bench.new).faults)
         options (basis_over opened.region options.pages (files_of now)) trace.now (length opened.region.parts.items) home.stores (T.state bench.old) (T.state bench.new)) }
-    ensures scheduled { IfOk result (λ lines. (parts : List Part) (now : List Store)
+    ensures scheduled { IfOk result (λ life. (parts : List Part) (now : List Store)
         → AreNow (map T.Part.history opened.region.parts.items) parts → AreNow (map T.Store.history opened.stores.items) now
         → IfSome (T.state bench.old).told (λ home. IsAway opened.region.names home
         → ShowsScheduled (Rose (saturated ((T.state bench.old).faults
         + (sum_by T.Part.fault_count opened.region.parts.items + sum_by T.Store.fault_count opened.stores.items))) (T.state bench.new).faults)
-        options (T.state bench.old).picked (basis_over opened.region options.pages (files_of now)) trace.now (length opened.region.parts.items) home.stores (T.state bench.new) place last lines)) }
+        options (T.state bench.old).picked (basis_over opened.region options.pages (files_of now)) trace.now (length opened.region.parts.items) home.stores (T.state bench.new) place last life.lines)) }
 {
     let Opened { region, stores } = opened;
     match mount_over(alloc, region, stores, options, trace) {
@@ -210,7 +236,7 @@ fn schedule_mount<T: Bench>(
     before: u64,
     place: u64,
     last: bool,
-) -> Result<LifeLines, Stop>
+) -> Result<Followed, Stop>
     requires place { place < 2 ^ 63 }
     requires cache { HasCache options.cache mount }
     requires images { T.can_lose_power ≡ true }
@@ -241,10 +267,10 @@ fn schedule_mount<T: Bench>(
         → IfSome (T.state bench.old).told (λ home. IsAway basis.names home
         → HasUsedTurns (Rose (saturated ((T.state bench.old).faults + failed_before pass)) (T.state bench.new).faults)
         options basis trace.now (1 + mount.board.opened.sizes.entries + length pass.spare) home.stores (T.state bench.old) (T.state bench.new)) }
-    ensures scheduled { IfOk result (λ lines. (basis : Basis) → BeginsMount basis trace.now mount pass → basis.names ≡ (T.state bench.old).lent
+    ensures scheduled { IfOk result (λ life. (basis : Basis) → BeginsMount basis trace.now mount pass → basis.names ≡ (T.state bench.old).lent
         → IfSome (T.state bench.old).told (λ home. IsAway basis.names home
         → ShowsScheduled (Rose (saturated ((T.state bench.old).faults + failed_before pass)) (T.state bench.new).faults)
-        options (T.state bench.old).picked basis trace.now (1 + mount.board.opened.sizes.entries + length pass.spare) home.stores (T.state bench.new) place last lines)) }
+        options (T.state bench.old).picked basis trace.now (1 + mount.board.opened.sizes.entries + length pass.spare) home.stores (T.state bench.new) place last life.lines)) }
 {
     images_stand_for_files();
     a_header_has_one_answer();
@@ -294,7 +320,7 @@ fn show_outcome<T: Bench>(
     outcome: Result<ScheduledCalls<'_>, ScheduleError>,
     place: u64,
     last: bool,
-) -> Result<LifeLines, Stop>
+) -> Result<Followed, Stop>
     requires place { place < 2 ^ 63 }
     requires at_home { IsAtHome (T.state bench.old) }
     ensures back { IsGivenBack (T.state bench.old) (T.state bench.new) }
@@ -302,7 +328,7 @@ fn show_outcome<T: Bench>(
     ensures followed { OnOk result ((calls : AnyCalls) × (outcome.entry ≡ Ok calls)) }
     ensures used { result ≡ Err stops.Turns → outcome.entry ≡ Err schedule_errors.TurnsUsed }
     ensures recovered { result ≡ Err stops.Turns → IfSome (T.state bench.old).told (λ holding. (text : List ℕ) × HasRecovered holding (T.state bench.new).told text) }
-    ensures shown { IfOk result (λ lines. IfSome (T.state bench.old).told (λ holding. ShowsOutcome place last holding outcome.entry (T.state bench.new).told lines)) }
+    ensures shown { IfOk result (λ life. IfSome (T.state bench.old).told (λ holding. ShowsOutcome place last holding outcome.entry (T.state bench.new).told life.lines)) }
     ensures standing { IfSome (T.state bench.old).told (λ was. HasHeader was.parts → TellsOf (StandsAsBefore was) (T.state bench.new).told) }
     ensures cause { IsSettledStop (T.state bench.old).faults (T.state bench.new).faults result }
     ensures never_falls { (T.state bench.old).faults ≤ (T.state bench.new).faults }
@@ -313,8 +339,10 @@ fn show_outcome<T: Bench>(
                 answered,
                 unanswered,
             } = calls;
+            let begun = count_begun(&answered, &unanswered);
             let sorted = sort_out(alloc, answered)?;
-            show_life(alloc, bench, sorted, &unanswered, place, last)
+            let lines = show_life(alloc, bench, sorted, &unanswered, place, last)?;
+            Ok(Followed { lines, begun })
         }
         Err(ScheduleError::TurnsUsed) => {
             recover(alloc, bench)?;
