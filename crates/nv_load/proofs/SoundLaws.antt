@@ -7,6 +7,7 @@ use Rattle.nv_core.specs.state.Passes.{IsOneOf}
 use Rattle.nv_plain.specs.Layouts.{mount_layout}
 use Rattle.nv_plain.specs.Names.{is_name}
 use Rattle.nv_trace.specs.Grammar.{last_thread}
+use Rattle.nv_trace.specs.Lives.{TracedLife}
 use Rattle.nv_trace.specs.Shape.{IsCallWithin, IsTokenWithin, IsWellFormed}
 use Rattle.nv_trace.specs.declared.trace.Descriptor.{Descriptor}
 use Rattle.nv_trace.specs.declared.trace_call.TracedCall.{TracedCall}
@@ -52,6 +53,8 @@ formed calls rounds within threads low order = record {
   no_rounds = λ is. absurd (true≢false is);
   tokens = of_each IsTokenWithin [] (λ t there. absurd there);
   no_tokens = λ none. refl;
+  lives = of_each (λ (life : TracedLife). All IsTokenWithin life.tokens) [] (λ life there. absurd there);
+  no_lives = λ none. refl;
 }
 
 -- before its calls it has none

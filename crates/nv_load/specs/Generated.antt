@@ -73,6 +73,7 @@ declared = record {
   descriptors = record { file = 0; mode = Rw } ∷ [];
   calls = [];
   rounds = 0;
+  lives = [];
   tokens = [];
 }
 

@@ -18,7 +18,7 @@ use Rattle.nv_trace.specs.declared.bad_line.Why.{Why}
 use Rattle.nv_trace.specs.declared.bad_line.Why.TheVariants.{Form as BadForm, Late}
 use Rattle.nv_trace.specs.declared.statement.Statement.{Statement}
 use Rattle.nv_trace.specs.declared.statement.Statement.TheVariants.{File, Opened, Call, Round}
-use Rattle.nv_trace.specs.declared.token.Token.{Token}
+use Rattle.nv_trace.specs.declared.token.LineToken.{LineToken}
 use Rattle.nv_trace.specs.declared.trace_call.TracedCall.{TracedCall}
 
 -- a trace with a round behind it has begun, whatever calls it holds
@@ -70,7 +70,7 @@ module _ (calls : List TracedCall) (trace : Traced) (some : 0 < trace.rounds) wh
   same_tokens (word ∷ []) = refl
   same_tokens (word ∷ field ∷ fields) = refl
 
-  tokens_on : (tokens : Result (List Token) Why) → and_then (λ tokens. Ok (with_tokens (behind_calls calls trace) tokens)) tokens ≡ result_behind calls (and_then (λ tokens. Ok (with_tokens trace tokens)) tokens)
+  tokens_on : (tokens : Result (List LineToken) Why) → and_then (λ tokens. Ok (with_tokens (behind_calls calls trace) tokens)) tokens ≡ result_behind calls (and_then (λ tokens. Ok (with_tokens trace tokens)) tokens)
   tokens_on (Ok tokens) = refl
   tokens_on (Err why) = refl
 
@@ -101,7 +101,7 @@ module _ (calls : List TracedCall) (trace : Traced) (some : 0 < trace.rounds) wh
 
 -- the rounds that ended stay
 module _ (trace : Traced) where
-  tokens_stay : (tokens : Result (List Token) Why) → 0 < trace.rounds → IfOk (and_then (λ tokens. Ok (with_tokens trace tokens)) tokens) (λ next. 0 < next.rounds)
+  tokens_stay : (tokens : Result (List LineToken) Why) → 0 < trace.rounds → IfOk (and_then (λ tokens. Ok (with_tokens trace tokens)) tokens) (λ next. 0 < next.rounds)
   tokens_stay (Ok tokens) some = some
   tokens_stay (Err why) some = tt
 

@@ -1,9 +1,12 @@
+pub mod Begun
 mod Endings
 mod Fields
+pub mod FewTokens
 pub mod FirstRounds
 mod Fitting
 mod Forgotten
 mod Inputs
+mod Joined
 mod NextRounds
 pub mod Numbered
 mod Numbers

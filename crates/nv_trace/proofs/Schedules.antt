@@ -15,7 +15,7 @@ use Rattle.nv_trace.specs.declared.bad_line.Unsaid.{Unsaid}
 use Rattle.nv_trace.specs.declared.bad_line.Unsaid.TheVariants as unsaids
 use Rattle.nv_trace.specs.declared.bad_line.Why.{Why}
 use Rattle.nv_trace.specs.declared.bad_line.Why.TheVariants.{Form, Long as LongLine, Bytes as OddBytes}
-use Rattle.nv_trace.specs.declared.token.Token.{Token}
+use Rattle.nv_trace.specs.declared.token.LineToken.{LineToken}
 use Rattle.nv_trace.proofs.Parts.{parts_some}
 
 -- a line is its only field, or goes on behind the first
@@ -118,7 +118,7 @@ pub steps_read : (trace : Traced) (line rest : List ℕ) → line ≡ codes "ste
     → after_schedule trace line ≡ and_then (λ tokens. Ok (with_tokens trace tokens)) (ok_or (tokens_of (fields_of rest)) Form)
 unfolding after_schedule
 steps_read trace line rest is clear has =
-    let put : List Token → Result Traced Why = λ tokens. Ok (with_tokens trace tokens) in
+    let put : List LineToken → Result Traced Why = λ tokens. Ok (with_tokens trace tokens) in
     ap (and_then (after_steps trace)) clear ∙ ap (λ line. and_then put (tokens_said trace (fields_of line))) is
     ∙ ap (and_then put) (steps_said trace rest ∙ ap (λ has. cond has (ok_or (tokens_of (fields_of rest)) Form) (Err Form)) has)
 

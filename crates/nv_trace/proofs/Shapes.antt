@@ -13,14 +13,15 @@ use Rattle.nv_plain.specs.Names.{is_name}
 use Rattle.nv_trace.specs.Forms.{has_rounds, has_steps}
 use Rattle.nv_trace.specs.Grammar.{last_thread}
 use Rattle.nv_trace.specs.Said.{said_place}
-use Rattle.nv_trace.specs.Shape.{IsCallWithin, IsTokenWithin, IsWellFormed, MayFollow}
+use Rattle.nv_trace.specs.Shape.{IsCallWithin, IsLineTokenWithin, IsWellFormed, MayFollow}
 use Rattle.nv_trace.specs.Streams.{counted}
-use Rattle.nv_trace.specs.Traced.{Traced}
+use Rattle.nv_trace.specs.Traced.{Traced, lives_in}
+use Rattle.nv_trace.proofs.Joined.{lives_within}
 use Rattle.nv_trace.specs.Reading.{with_statement, with_tokens}
 use Rattle.nv_trace.specs.declared.statement.Statement.{Statement}
 use Rattle.nv_trace.specs.declared.statement.Statement.TheVariants.{File, Opened, Call, Round}
 use Rattle.nv_trace.specs.declared.trace.Descriptor.{Descriptor}
-use Rattle.nv_trace.specs.declared.token.Token.{Token}
+use Rattle.nv_trace.specs.declared.token.LineToken.{LineToken}
 use Rattle.nv_trace.specs.declared.trace_call.TracedCall.{TracedCall}
 use Rattle.nv_trace.specs.declared.trace_call.TraceCall.{TraceCall}
 use Rattle.nv_trace.specs.declared.trace_call.TraceCall.TheVariants.{Pread, Pwrite, Preadv, Pwritev, Fsync}
@@ -68,6 +69,8 @@ with_name trace name may is =
       no_rounds = is.no_rounds;
       tokens = is.tokens;
       no_tokens = is.no_tokens;
+      lives = is.lives;
+      no_lives = is.no_lives;
     }
 
 within_more : (count more : ℕ) (call : TraceCall) → count ≤ more → IsCallWithin count call → IsCallWithin more call
@@ -94,6 +97,8 @@ with_descriptor trace descriptor may is =
       no_rounds = is.no_rounds;
       tokens = is.tokens;
       no_tokens = is.no_tokens;
+      lives = is.lives;
+      no_lives = is.no_lives;
     }
 
 with_call : (trace : Traced) (traced : TracedCall) → IsCallWithin (length trace.descriptors) traced.call → traced.thread ≤ last_thread → traced.round ≡ trace.rounds → IsWellFormed trace
@@ -111,6 +116,8 @@ with_call trace traced within thread round is = record {
   no_rounds = is.no_rounds;
   tokens = is.tokens;
   no_tokens = is.no_tokens;
+  lives = is.lives;
+  no_lives = is.no_lives;
 }
 
 with_round : (trace : Traced) (rounds : ℕ) → has_rounds trace.form ≡ true → trace.rounds ≤ rounds → IsWellFormed trace → IsWellFormed (record trace { rounds = rounds })
@@ -127,6 +134,8 @@ with_round trace rounds has more is = record {
   no_rounds = λ none. absurd (true≢false (sym has ∙ none));
   tokens = is.tokens;
   no_tokens = is.no_tokens;
+  lives = is.lives;
+  no_lives = is.no_lives;
 }
 
 -- a statement that may follow leaves a trace well formed, whose rounds are a u64
@@ -137,7 +146,7 @@ goes_on trace number (Call thread call) may few is = with_call trace (record { l
 goes_on trace number Round may few is = with_round trace (counted trace.rounds) may (omega (arith, few)) is
 
 -- and so do tokens, where the form has them
-pub tokens_go_on : (trace : Traced) (tokens : List Token) → has_steps trace.form ≡ true → All IsTokenWithin tokens → IsWellFormed trace → IsWellFormed (with_tokens trace tokens)
+pub tokens_go_on : (trace : Traced) (tokens : List LineToken) → has_steps trace.form ≡ true → All IsLineTokenWithin tokens → IsWellFormed trace → IsWellFormed (with_tokens trace tokens)
 tokens_go_on trace tokens has within is = record {
   names = is.names;
   allowed = is.allowed;
@@ -149,6 +158,8 @@ tokens_go_on trace tokens has within is = record {
   rounds = is.rounds;
   round_order = is.round_order;
   no_rounds = is.no_rounds;
-  tokens = All-append IsTokenWithin trace.tokens tokens is.tokens within;
+  tokens = (lives_within (lives_in trace) tokens within (is.lives, is.tokens)).1;
   no_tokens = λ none. absurd (true≢false (sym has ∙ none));
+  lives = (lives_within (lives_in trace) tokens within (is.lives, is.tokens)).0;
+  no_lives = λ none. absurd (true≢false (sym has ∙ none));
 }

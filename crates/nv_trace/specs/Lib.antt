@@ -3,6 +3,7 @@ pub mod Lines
 pub mod Grammar
 pub mod Forms
 pub mod Tokens
+pub mod Lives
 pub mod Traced
 pub mod Reading
 pub mod Said

@@ -2,16 +2,17 @@
 use Rattle.std.specs.Prelude.{ℕ, ◌+◌, ◌==◌, nat_le, nat_lt, not, Bool, true, if◌then◌else◌, List, [], ◌∷◌, ◌++◌, length, take, Result, Ok, Err}
 use Rattle.std.specs.List.{list_all}
 use Rattle.nv_trace.specs.Lines.{ended_lines, fields_of, open_line}
+use Rattle.nv_trace.specs.Lives.{lives_behind}
 use Rattle.nv_trace.specs.Grammar.{and_then, is_printable}
 use Rattle.nv_trace.specs.Said.{is_schedule, said, tokens_said}
 use Rattle.nv_trace.specs.Streams.{counted}
-use Rattle.nv_trace.specs.Traced.{Traced, empty_trace}
+use Rattle.nv_trace.specs.Traced.{Traced, empty_trace, lives_in}
 use Rattle.nv_trace.specs.declared.bad_line.BadLine.{BadLine}
 use Rattle.nv_trace.specs.declared.bad_line.Why.{Why}
 use Rattle.nv_trace.specs.declared.bad_line.Why.TheVariants.{Long as LongLine, Bytes as OddBytes}
 use Rattle.nv_trace.specs.declared.statement.Statement.{Statement}
 use Rattle.nv_trace.specs.declared.statement.Statement.TheVariants.{File, Opened, Call, Round}
-use Rattle.nv_trace.specs.declared.token.Token.{Token}
+use Rattle.nv_trace.specs.declared.token.LineToken.{LineToken}
 use Rattle.nv_trace.specs.declared.trace.Form.{Form}
 
 -- the most bytes of a line that isn't skipped, and of an input
@@ -30,8 +31,8 @@ with_statement trace number (Call thread call) =
 with_statement trace number Round = record trace { rounds = counted trace.rounds }
 
 -- the trace with more tokens
-abbrev pub with_tokens : Traced → List Token → Traced
-with_tokens trace tokens = record trace { tokens = trace.tokens ++ tokens }
+abbrev pub with_tokens : Traced → List LineToken → Traced
+with_tokens trace tokens = record trace { lives = (lives_behind (lives_in trace) tokens).ended; tokens = (lives_behind (lives_in trace) tokens).tokens }
 
 -- an empty line, and one that begins with `#`
 abbrev pub is_skipped : List ℕ → Bool

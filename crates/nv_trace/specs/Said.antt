@@ -16,7 +16,7 @@ use Rattle.nv_trace.specs.declared.bad_line.Unsaid.TheVariants as unsaid
 use Rattle.nv_trace.specs.declared.call_lines.CallPlace.{CallPlace}
 use Rattle.nv_trace.specs.declared.statement.Statement.{Statement}
 use Rattle.nv_trace.specs.declared.statement.Statement.TheVariants.{File, Opened, Call, Round}
-use Rattle.nv_trace.specs.declared.token.Token.{Token}
+use Rattle.nv_trace.specs.declared.token.LineToken.{LineToken}
 use Rattle.nv_trace.specs.declared.trace_call.TraceCall.{TraceCall}
 use Rattle.nv_trace.specs.declared.trace_call.TraceCall.TheVariants.{Pread, Pwrite, Preadv, Pwritev, Fsync}
 
@@ -135,7 +135,7 @@ is_schedule [] = false
 is_schedule (word ∷ fields) = says word (codes "steps")
 
 -- what the fields of a `steps` line say: a token each, and one at least
-unfoldable pub tokens_said : Traced → List (List ℕ) → Result (List Token) Why
+unfoldable pub tokens_said : Traced → List (List ℕ) → Result (List LineToken) Why
 tokens_said trace [] = Err Form
 tokens_said trace (word ∷ []) = Err Form
 tokens_said trace (word ∷ fields) = if says word (codes "steps") && has_steps trace.form then ok_or (tokens_of fields) Form else Err Form

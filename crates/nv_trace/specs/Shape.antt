@@ -11,6 +11,8 @@ use Rattle.nv_trace.specs.Tokens.{last_cut}
 use Rattle.nv_trace.specs.Traced.{Traced, has_begun, has_tokens, lines_in}
 use Rattle.nv_trace.specs.declared.statement.Statement.{Statement}
 use Rattle.nv_trace.specs.declared.statement.Statement.TheVariants.{File, Opened, Call, Round}
+use Rattle.nv_trace.specs.declared.token.LineToken.{LineToken}
+use Rattle.nv_trace.specs.declared.token.LineToken.TheVariants.{Inside, Crash}
 use Rattle.nv_trace.specs.declared.token.Token.{Token}
 use Rattle.nv_trace.specs.declared.token.Token.TheVariants.{Advance, Cut}
 use Rattle.nv_trace.specs.declared.token.Turn.TheVariants.{Thread, Cleaner}
@@ -32,6 +34,11 @@ IsTokenWithin (Advance (Thread thread) reach) = thread ≤ last_thread
 IsTokenWithin (Advance Cleaner reach) = Unit {0}
 IsTokenWithin (Cut number) = (1 ≤ number) × (number ≤ last_cut)
 
+-- so is a token of a life; whatever a crash leaves is allowed
+abbrev pub IsLineTokenWithin : LineToken → Type 0
+IsLineTokenWithin (Inside token) = IsTokenWithin token
+IsLineTokenWithin (Crash pick) = Unit {0}
+
 -- a statement may follow: a name that is new, a descriptor of a file that is declared, a call on a descriptor, a new round
 abbrev pub MayFollow : Traced → Statement → Type 0
 MayFollow trace (File name) =
@@ -42,7 +49,7 @@ MayFollow trace (Call thread call) = (thread ≤ last_thread) × IsCallWithin (l
 MayFollow trace Round = has_rounds trace.form ≡ true
 
 -- At most 64 files, whose names are allowed and differ; at most 64 descriptors of them; calls on these, by eight threads;
--- and rounds, which don't fall along the calls, or tokens, where the form has them.
+-- and rounds, which don't fall along the calls, or tokens, in one life or more, where the form has them.
 pub record IsWellFormed (trace : Traced) : Type 0 where
   pub names : length trace.names ≤ most_files
   pub allowed : All (λ name. is_name mount_layout.name_limit name ≡ true) trace.names
@@ -56,6 +63,8 @@ pub record IsWellFormed (trace : Traced) : Type 0 where
   pub no_rounds : has_rounds trace.form ≡ false → trace.rounds ≡ 0
   pub tokens : All IsTokenWithin trace.tokens
   pub no_tokens : has_steps trace.form ≡ false → trace.tokens ≡ []
+  pub lives : All (λ life. All IsTokenWithin life.tokens) trace.lives
+  pub no_lives : has_steps trace.form ≡ false → trace.lives ≡ []
 
 -- the calls stand in the order of their lines, whose numbers are below this one, and there are fewer calls
 pub record IsNumberedBelow (number : ℕ) (trace : Traced) : Type 0 where

@@ -2,8 +2,12 @@
 use Rattle.std.specs.Prelude.{ℕ, ◌-◌, ◌^◌, ◌==◌, if◌then◌else◌, List, [], ◌∷◌, codes, Option, Some, None}
 use Rattle.std.specs.Option.{option_and_then, option_map}
 use Rattle.std.specs.Result.{result_ok}
+use Rattle.nv_pmem.specs.declared.picker.Pick.{Pick}
+use Rattle.nv_pmem.specs.declared.picker.Pick.TheVariants as pick
 use Rattle.nv_trace.specs.Lines.{parts_between}
 use Rattle.nv_trace.specs.Grammar.{last_thread, number_of, says}
+use Rattle.nv_trace.specs.declared.token.LineToken.{LineToken}
+use Rattle.nv_trace.specs.declared.token.LineToken.TheVariants.{Inside, Crash}
 use Rattle.nv_trace.specs.declared.token.Reach.{Reach}
 use Rattle.nv_trace.specs.declared.token.Reach.TheVariants as reach
 use Rattle.nv_trace.specs.declared.token.StepName.{StepName}
@@ -16,6 +20,10 @@ use Rattle.nv_trace.specs.declared.token.Turn.TheVariants as turn
 -- the largest number of a device call at which one is cut
 abbrev pub last_cut : ℕ
 last_cut = 2 ^ 32 - 1
+
+-- the largest seed of what a power failure leaves
+abbrev pub last_seed : ℕ
+last_seed = 2 ^ 32 - 1
 
 -- the kind of step that a field names
 unfoldable pub step_of : List ℕ → Option StepName
@@ -57,17 +65,36 @@ advances turn reach = option_and_then (λ turn. option_map (Advance turn) reach)
 unfoldable pub cut_of : List ℕ → Option Token
 cut_of field = option_and_then (λ number. if number == 0 then None else Some (Cut number)) (result_ok (number_of last_cut field))
 
--- what the parts of a token between its colons say: `T` or `w`, either with `:done` or `:KIND`, or `cut:K`
+-- what a power failure leaves, by its word, or by the seed of its draws
+unfoldable pub pick_of : List ℕ → Option Pick
+pick_of field =
+    if says field (codes "old") then Some pick.Old
+    else if says field (codes "new") then Some pick.New
+    else if says field (codes "torn") then Some pick.Torn
+    else if says field (codes "mixed") then Some pick.Mixed
+    else option_map pick.Seed (result_ok (number_of last_seed field))
+
+-- what the parts of a token of a life between its colons say: `T` or `w`, either with `:done` or `:KIND`, or `cut:K`
 unfoldable pub token_by : List (List ℕ) → Option Token
 token_by (turn ∷ []) = advances (turn_by turn) (Some reach.One)
 token_by (word ∷ last ∷ []) = if says word (codes "cut") then cut_of last else advances (turn_by word) (reach_of last)
 token_by _ = None
 
+-- what the parts of a crash say: `crash:PICK`
+unfoldable pub crash_by : List (List ℕ) → Option Pick
+crash_by (word ∷ last ∷ []) = if says word (codes "crash") then pick_of last else None
+crash_by _ = None
+
+-- a crash, or a token of a life
+abbrev pub line_token : Option Pick → Option Token → Option LineToken
+line_token (Some pick) token = Some (Crash pick)
+line_token None token = option_map Inside token
+
 -- the token that a field is
-unfoldable pub token_of : List ℕ → Option Token
-token_of field = token_by (parts_between 58 field)
+unfoldable pub token_of : List ℕ → Option LineToken
+token_of field = line_token (crash_by (parts_between 58 field)) (token_by (parts_between 58 field))
 
 -- the tokens that some fields are, where each of them is one
-unfoldable pub tokens_of : List (List ℕ) → Option (List Token)
+unfoldable pub tokens_of : List (List ℕ) → Option (List LineToken)
 tokens_of [] = Some []
 tokens_of (field ∷ fields) = option_and_then (λ token. option_map (λ tokens. token ∷ tokens) (tokens_of fields)) (token_of field)

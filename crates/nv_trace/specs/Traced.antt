@@ -1,5 +1,6 @@
 -- A trace: what its lines have said so far.
-use Rattle.std.specs.Prelude.{ℕ, ◌+◌, ◌||◌, nat_lt, max, Bool, List, [], length, map, fold}
+use Rattle.std.specs.Prelude.{ℕ, ◌+◌, ◌||◌, nat_lt, max, Bool, List, [], length, map, sum_by, fold}
+use Rattle.nv_trace.specs.Lives.{TracedLife, TracedLives}
 use Rattle.nv_trace.specs.declared.trace.Form.{Form}
 use Rattle.nv_trace.specs.declared.trace.Descriptor.{Descriptor}
 use Rattle.nv_trace.specs.declared.token.Token.{Token}
@@ -16,15 +17,25 @@ pub record Traced : Type 0 where
   pub calls : List TracedCall
   -- how many `round` lines there were
   pub rounds : ℕ
-  -- the tokens of its `steps` lines, in their order
+  -- the lives of its `steps` lines that a crash ends, in their order
+  pub lives : List TracedLife
+  -- the tokens of the last life: those behind the last crash, in their order
   pub tokens : List Token
 
 abbrev pub empty_trace : Form → Traced
-empty_trace form = record { form = form; names = []; descriptors = []; calls = []; rounds = 0; tokens = [] }
+empty_trace form = record { form = form; names = []; descriptors = []; calls = []; rounds = 0; lives = []; tokens = [] }
 
 -- whether a `steps` line has come: each has a token
 abbrev pub has_tokens : Traced → Bool
-has_tokens trace = nat_lt 0 (length trace.tokens)
+has_tokens trace = nat_lt 0 (length trace.lives) || nat_lt 0 (length trace.tokens)
+
+-- all its lives
+abbrev pub lives_in : Traced → TracedLives
+lives_in trace = record { ended = trace.lives; tokens = trace.tokens }
+
+-- how many tokens its lives have, but for the crashes
+abbrev pub token_count : Traced → ℕ
+token_count trace = sum_by (λ life. length life.tokens) trace.lives + length trace.tokens
 
 -- whether a line has come that declares nothing: a call, a `round` or a `steps` line
 abbrev pub has_begun : Traced → Bool

@@ -1,13 +1,13 @@
 //! Laws of the definitions, each the contract of a function that does nothing.
-ghost use Rattle.std.specs.Prelude.{◌≡◌, ℕ, List, [], ◌++◌};
+ghost use Rattle.std.specs.Prelude.{◌≡◌, ℕ, List, [], ◌++◌, ◌+◌, ◌≤◌, length};
 ghost use Rattle.nv_trace.specs.FirstRounds.{FirstRoundsNameAll, RefusedRoundsAreTheLast, RoundsReadAreFirst};
 ghost use Rattle.nv_trace.specs.NextRound.{IsAtLine, IsLastRound, IsNextRound, IsRoundRefused, input_ends};
 ghost use Rattle.nv_trace.specs.ReadRounds.{AreReadFrom, ReadRound, behind_calls, calls_read};
-ghost use Rattle.nv_trace.specs.Reading.{Ending, Whole, ending_of};
+ghost use Rattle.nv_trace.specs.Reading.{Ending, Whole, ending_of, largest_input};
 ghost use Rattle.nv_trace.specs.Refused.{IsRefusedAs};
 ghost use Rattle.nv_trace.specs.RoundCalls.{AddsCalls};
 ghost use Rattle.nv_trace.specs.Streams.{counted};
-ghost use Rattle.nv_trace.specs.Traced.{Traced, empty_trace};
+ghost use Rattle.nv_trace.specs.Traced.{Traced, empty_trace, token_count};
 ghost use Rattle.nv_trace.specs.declared.read_error.ReadError.{ReadError as AnyReadError};
 ghost use Rattle.nv_trace.specs.declared.reader.LineReader.{LineReader as AnyReader};
 ghost use Rattle.nv_trace.specs.declared.trace.Form.{Form as AnyForm};
@@ -56,4 +56,9 @@ pub fn rounds_read_are_first()
 /// read, no first rounds of it are one.
 pub fn refused_rounds_are_the_last()
     ensures { RefusedRoundsAreTheLast }
+{}
+
+/// A trace that an input is has no more tokens, those that end lives among them, than the largest input has bytes.
+pub fn traces_have_few_tokens()
+    ensures { (form : AnyForm) (input : List ℕ) (trace : Traced) → ending_of form input ≡ Whole trace → token_count trace + length trace.lives ≤ largest_input }
 {}

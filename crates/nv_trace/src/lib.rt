@@ -5,6 +5,7 @@ mod bad_line;
 mod call_lines;
 mod laws;
 mod line;
+mod lives;
 mod mem_sink;
 mod mem_source;
 mod part_list;
@@ -26,9 +27,10 @@ mod writer_sink;
 pub use bad_line::{BadLine, Why};
 pub use laws::{
     first_rounds_name_all_files, refused_rounds_are_the_last, rounds_hold_their_calls,
-    rounds_make_the_trace, rounds_read_are_first,
+    rounds_make_the_trace, rounds_read_are_first, traces_have_few_tokens,
 };
 pub use line::read_line;
+pub use lives::EndedLife;
 pub use mem_sink::MemSink;
 pub use mem_source::MemSource;
 pub use part_list::{LenList, PartList};

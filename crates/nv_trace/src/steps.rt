@@ -5,19 +5,19 @@ ghost use Rattle.nv_trace.specs.Lines.{fields_of};
 ghost use Rattle.nv_trace.specs.Reading.{after_schedule};
 ghost use Rattle.nv_trace.specs.Refused.{IsBadSchedule};
 ghost use Rattle.nv_trace.specs.Said.{IsUnsaid};
-ghost use Rattle.nv_trace.specs.Shape.{IsNumberedBelow, IsTokenWithin};
+ghost use Rattle.nv_trace.specs.Shape.{IsLineTokenWithin, IsNumberedBelow};
 ghost use Rattle.nv_trace.specs.Tokens.{tokens_of};
 ghost use Rattle.nv_trace.specs.declared.bad_line.Why.TheVariants as why;
 
 use crate::bad_line::{Unsaid, Why};
 use crate::line::check_line;
 use crate::read_error::{LineError, line_error};
-use crate::token::{Token, token_of};
+use crate::token::{LineToken, token_of};
 use crate::trace::Trace;
 use std::alloc::Global;
 
-/// Takes a `steps` line, without its line feed, into the trace: its tokens go behind those of the trace. Any other line is in no
-/// form here. After a refusal the trace is as before.
+/// Takes a `steps` line, without its line feed, into the trace: its tokens go behind those of the trace, and a crash among
+/// them ends the life. Any other line is in no form here. After a refusal the trace is as before.
 pub fn schedule(trace: &mut Trace, number: u64, line: &[u8]) -> Result<(), LineError>
     ensures read { OnOk result (after_schedule trace.old line.now ≡ Ok trace.new) }
     ensures bad { IfErr result (IsBadSchedule trace.old number line.now) }
@@ -59,10 +59,10 @@ pub(crate) fn behind_steps(line: &[u8]) -> Option<&[u8]>
 }
 
 /// The tokens that the fields of a line are.
-fn tokens(alloc: Global, line: &[u8]) -> Result<Vec<Token>, Unsaid>
+fn tokens(alloc: Global, line: &[u8]) -> Result<Vec<LineToken>, Unsaid>
     ensures read { IfOk result (λ tokens. tokens_of (fields_of line.now) ≡ Some tokens.items) }
     ensures bad { IfErr result (IsUnsaid (ok_or (tokens_of (fields_of line.now)) why.Form)) }
-    ensures within { IfOk result (λ tokens. All IsTokenWithin tokens.items) }
+    ensures within { IfOk result (λ tokens. All IsLineTokenWithin tokens.items) }
 {
     let mut tokens = Vec::new(alloc);
     for field in line.split(|byte| *byte == b' ') {

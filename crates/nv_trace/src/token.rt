@@ -1,16 +1,20 @@
 //! The tokens of a schedule.
-ghost use Rattle.std.specs.Prelude.{◌≡◌, ◌≤◌, IfSome};
+ghost use Rattle.std.specs.Prelude.{◌≡◌, ◌≤◌, IfSome, map};
 ghost use Rattle.nv_trace.specs.Grammar.{last_thread};
-ghost use Rattle.nv_trace.specs.Shape.{IsTokenWithin};
+ghost use Rattle.nv_trace.specs.Shape.{IsLineTokenWithin, IsTokenWithin};
 ghost use Rattle.nv_trace.specs.Tokens as tokens;
 ghost use Rattle.nv_trace.specs.declared.token.Reach.TheVariants as reaches;
 ghost use Rattle.nv_trace.specs.declared.token.Token.TheVariants.{Advance};
 
 use crate::call_lines::LAST_THREAD;
 use crate::spelling::{number, parts, says};
+use nv_pmem::Pick;
 
 /// The largest number of a device call at which one is cut.
 const LAST_CUT: u64 = u32::MAX as u64;
+
+/// The largest seed of what a power failure leaves.
+const LAST_SEED: u64 = u32::MAX as u64;
 
 /// Who makes the steps.
 #[derive(Clone, Copy, Debug, PartialEq, Eq)]
@@ -54,7 +58,7 @@ pub enum Reach {
     Kind(StepName),
 }
 
-/// One part of a schedule.
+/// One part of a schedule, within a life.
 #[derive(Clone, Copy, Debug, PartialEq, Eq)]
 pub enum Token {
     /// Advances of the one whose turn it is.
@@ -63,14 +67,59 @@ pub enum Token {
     Cut(u64),
 }
 
+/// A token as a line has it: one of a life, or the crash that ends it.
+#[derive(Clone, Copy, Debug, PartialEq, Eq)]
+pub(crate) enum LineToken {
+    Inside(Token),
+    /// Power fails, and leaves what the pick names.
+    Crash(Pick),
+}
+
 /// The token that a field is.
-#[tactic(auto, unfolding(crate::specs::Tokens::token_of, crate::specs::Tokens::token_by))]
-pub(crate) fn token_of(field: &[u8]) -> Option<Token>
+#[tactic(auto, unfolding(crate::specs::Tokens::token_of, crate::specs::Tokens::crash_by, crate::specs::Tokens::token_by))]
+pub(crate) fn token_of(field: &[u8]) -> Option<LineToken>
     ensures read { result ≡ tokens.token_of field.now }
-    ensures within { IfSome result IsTokenWithin }
+    ensures within { IfSome result IsLineTokenWithin }
 {
     let parts = parts(field, b':')?;
-    match parts.as_slice() {
+    if let Some(pick) = crash_by(parts.as_slice()) {
+        return Some(LineToken::Crash(pick));
+    }
+    Some(LineToken::Inside(token_by(parts.as_slice())?))
+}
+
+/// What the parts of a field say that a crash leaves, where it is one.
+#[tactic(auto, unfolding(crate::specs::Tokens::crash_by))]
+fn crash_by(parts: &[&[u8]]) -> Option<Pick>
+    ensures { result ≡ tokens.crash_by (map (λ part. part.now) parts.now) }
+{
+    match parts {
+        [word, last] if says(word, "crash") => pick_of(last),
+        _ => None,
+    }
+}
+
+/// What a field says that a power failure leaves.
+#[tactic(auto, unfolding(crate::specs::Tokens::pick_of))]
+fn pick_of(field: &[u8]) -> Option<Pick>
+    ensures { result ≡ tokens.pick_of field.now }
+{
+    Some(match field {
+        _ if says(field, "old") => Pick::Old,
+        _ if says(field, "new") => Pick::New,
+        _ if says(field, "torn") => Pick::Torn,
+        _ if says(field, "mixed") => Pick::Mixed,
+        _ => Pick::Seed(number(field, LAST_SEED).ok()?),
+    })
+}
+
+/// The token of a life that the parts of a field say.
+#[tactic(auto, unfolding(crate::specs::Tokens::token_by))]
+fn token_by(parts: &[&[u8]]) -> Option<Token>
+    ensures read { result ≡ tokens.token_by (map (λ part. part.now) parts.now) }
+    ensures within { IfSome result IsTokenWithin }
+{
+    match parts {
         [turn] => advances(turn_by(turn), Some(Reach::One)),
         [word, last] if says(word, "cut") => cut_of(last),
         [turn, reach] => advances(turn_by(turn), reach_of(reach)),

@@ -105,6 +105,8 @@ formed_next before now next first second same rounds all = record {
   no_rounds = second.no_rounds;
   tokens = second.tokens;
   no_tokens = second.no_tokens;
+  lives = second.lives;
+  no_lives = second.no_lives;
 }
 
 module _ (first now : Traced) (reader : LineReader) (before : List TracedCall) where

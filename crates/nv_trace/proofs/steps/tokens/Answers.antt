@@ -5,7 +5,7 @@ use Rattle.std.proofs.lemmas.List.Elements.{All-nil, All-push}
 use Rattle.std.proofs.lemmas.Iterator.Consumers.{YieldsList-turn, YieldsList-end}
 use Rattle.std.proofs.lemmas.Iterator.Splits.{YieldsList-from_slice_split}
 use Rattle.nv_trace.specs.Lines.{fields_of}
-use Rattle.nv_trace.specs.Shape.{IsTokenWithin}
+use Rattle.nv_trace.specs.Shape.{IsLineTokenWithin}
 use Rattle.nv_trace.specs.Tokens.{token_of, tokens_of}
 use Rattle.nv_trace.specs.declared.bad_line.Why.TheVariants as why
 use Rattle.nv_trace.proofs.Fields.{parts_are}
@@ -14,7 +14,7 @@ use Rattle.nv_trace.proofs.steps.tokens.Goals as goal
 
 pub loop-field-init : goal.loop-field-init
 unfolding tokens_of
-loop-field-init c = rw c.new-tokens.ensures.items (record { read = refl; within = All-nil IsTokenWithin })
+loop-field-init c = rw c.new-tokens.ensures.items (record { read = refl; within = All-nil IsLineTokenWithin })
 
 pub returns-in_default-clause-bad : goal.returns-in_default-clause-bad
 returns-in_default-clause-bad c =
@@ -35,7 +35,7 @@ loop-field-preserved c =
     rw c.in_ok-push.ensures.items (record {
       read = ap tokens_of (map_push (λ field. field.now) c.loop-field.yielded c.in-Some.field)
           ∙ one_more (map (λ field. field.now) c.loop-field.yielded) c.in-Some.field.now c.loop-field.tokens.items token c.loop-field.invariant.read is;
-      within = All-push IsTokenWithin c.loop-field.tokens.items token c.loop-field.invariant.within c.in-Some-token_of.ensures.within;
+      within = All-push IsLineTokenWithin c.loop-field.tokens.items token c.loop-field.invariant.within c.in-Some-token_of.ensures.within;
     })
 
 pub returns-clause-read : goal.returns-clause-read
