@@ -72,6 +72,7 @@ class Part:
     def lose_power(self, picker):
         for line in self.lines:
             line[:] = [[picker.word(word, values)] for word, values in enumerate(line)]
+        self.noted.clear()
 
     def store_durably(self, line, word, value):
         self.store(line, word, value)
@@ -159,6 +160,8 @@ class Call:
         self.size = len(self.data) if self.word != "pread" else sum(self.parts or [int(fields[4])])
         self.end = self.at + self.size
         self.file, self.has_begun, self.answer, self.place, self.reply, self.drawn = None, False, None, None, None, None
+        # The life in which it was begun, once that has ended.
+        self.life = None
 
     def name(self):
         if self.parts:
@@ -209,14 +212,22 @@ class Mount:
         self.fuse = Fuse()
         self.parts = [Part(self.fuse, 274), *[Part(self.fuse, 1 + self.page // 64) for _ in range(self.entries)]]
         self.stores = [Store(self.fuse) for _ in range(files)]
+        self.plain = [b""] * files
+        # How often each kind of step and each answer was met.
+        self.met = collections.Counter()
+        self.open(0)
+
+    def open(self, number):
+        """Begins anew over the devices, with a log that is empty and goes on with this number."""
         self.words = [0] * self.page_word(self.all_pages)
+        self.words[HEAD] = self.words[TAIL] = number
+        for file, store in enumerate(self.stores):
+            self.words[self.length_word(file)] = len(store.now)
         for buffer in range(self.buffers):
             self.words[self.hint_word(buffer)] = buffer
         # Of each page its buffer, if it has one.
         self.cached = [Buffer() if page < self.buffers else None for page in range(self.all_pages)]
-        self.history, self.plain = [], [b""] * files
-        # How often each kind of step and each answer was met.
-        self.met = collections.Counter()
+        self.history = []
 
     # The places of the words.
 

@@ -1,7 +1,7 @@
 #!/usr/bin/env bash
 # Looks at the pages that a person reads (docs.py), tests nv_sim and nv_run as their users run them: streams and statuses (program.py),
 # rows of commands and their reports (rows.py), lines of traces (traces.py), folders of a real disk (folder.py), regions that are made by hand (regions.py); compares the
-# summaries of loads with those of the rules (load.py) and the reports of 300 drawn schedules with those of a model of the machine that is
+# summaries of loads with those of the rules (load.py) and the reports of 400 drawn schedules, 100 of them with crashes, with those of a model of the machine that is
 # made after the pages (schedules.py), looks for the one history of 20,000 calls of four threads, and of 18,000 amid which power fails (crowds.py), stops runs of two threads
 # at each of many device calls (stops.py), kills a few of four over a folder (threads.py), feeds inputs round by round and has their sources, sinks and runs end amid (streams.py), counts what threads take from the heap once they are at work (thread_memory.py) and what calls
 # that take no memory allocate (no_memory.sh), and tries the tests that nothing proves (tests.sh). These two build anew, and what runs over folders waits for the disk, so each of

@@ -2,10 +2,12 @@
 """Follows schedules by the model of machine.py and by the command `sched` of a program, and compares what the two report.
 
 First come rows whose reports are known. A schedule is drawn by its number: three threads and the cleaner over a file or two of four pages
-and a small log, with cuts and without, and each pick. What the model recovers is compared with its history and the writes that were kept.
+and a small log, with cuts and without, and each pick; and for every third one more, of several lives. What the model recovers at the end of
+a life is compared with the files that the life before left, its history and the writes that were kept.
 Closes with 'N passed, M failed', and fails where one fails.
 
-    schedules.py PROGRAM [COUNT [FIRST]]   PROGRAM is nv_sim; COUNT schedules, 300 unless said, are drawn from number FIRST on
+    schedules.py PROGRAM [COUNT [FIRST]]   PROGRAM is nv_sim; COUNT schedules, 300 unless said, are drawn from number FIRST on,
+                                           and a third as many with two crashes to four
     schedules.py --rows                    the rows by the model alone
 """
 
@@ -82,17 +84,6 @@ def comes(caller, reach, most):
     return False
 
 
-def follow(mount, callers, tokens, most):
-    """Follows tokens. Tells the place of the first that used its advances up, if there is one."""
-    for place, token in enumerate(tokens):
-        who, _, reach = token.partition(":")
-        if who == "cut":
-            mount.fuse.arm(int(reach))
-        elif who in callers and not comes(callers[who], reach, most):
-            return place
-    return None
-
-
 def lose_power(mount, pick):
     picker = Picker(pick)
     for part in mount.parts:
@@ -103,15 +94,20 @@ def lose_power(mount, pick):
 
 
 def recover(mount):
-    """Writes the pieces of the committed groups to the stores. Tells the tail that was found, and the groups' first numbers."""
-    first = mount.parts[0].load(1, 0)
+    """Writes the pieces of the committed groups to the stores, and empties the log. Tells the tail that was found, the groups' first
+    numbers, and the number with which the log goes on."""
+    first = next_ = mount.parts[0].load(1, 0)
     window = range(first, first + mount.entries)
     groups = [number for number in window if mount.part_of(number).load(0, 0) == number + 1]
     for leader in groups:
-        for number in range(leader, leader + mount.part_of(leader).load(0, 4)):
+        next_ = leader + mount.part_of(leader).load(0, 4)
+        for number in range(leader, next_):
             file, at, piece = mount.part_of(number).read_piece()
             mount.stores[file].now = overwritten(mount.stores[file].now, at, piece)
-    return first, groups
+    for store in mount.stores:
+        store.sync()
+    mount.parts[0].store_durably(1, 0, next_)
+    return first, groups, next_
 
 
 def reply_text(call):
@@ -130,23 +126,67 @@ def fate(call, first, groups):
     return "kept" if call.drawn is not None and (call.drawn < first or call.drawn in groups) else "lost"
 
 
-def report(mount, calls, names, first, groups):
-    """The lines of a report behind a recovery that found this tail and these groups."""
-    open_ = [(call, fate(call, first, groups)) for call in calls if is_open(call)]
-    refused = [call for call in calls if call.answer not in (None, "done") and not is_open(call)]
-    mount.met.update(end for _, end in open_)
-    for call in (call for call, end in open_ if end == "kept"):
-        mount.outcome(call)
-    files = [store.now for store in mount.stores]
-    if files != mount.plain:
-        raise ValueError("the model is wrong: other files than after the history and the writes that were kept")
-    return [
-        *[f"{call.place} {call.name()} = {reply_text(call)}" for call in mount.history],
-        *[f"refused {call.name()}: {call.answer}" for call in refused],
-        *[f"open {call.name()}: {end}" for call, end in open_],
-        *[f"file {name} {len(file)} {shown(file)}" for name, file in zip(names, files)],
-        f"end {len(mount.history)} {len(refused)} {len(open_)}",
-    ]
+class Lives:
+    """The lives of a schedule over one mount, which a crash opens anew, and what was reported of those that have ended."""
+
+    def __init__(self, mount, fds, calls):
+        self.mount, self.fds, self.calls, self.lines = mount, fds, calls, []
+        self.life, self.placed, self.open = 0, 0, 0
+        self.hire({thread: [call for call in calls if call.thread == thread] for thread in "01234567"})
+
+    def hire(self, left):
+        self.callers = {who: Caller(self.mount, self.fds, left[who]) for who in left} | {"w": Caller(self.mount, self.fds)}
+
+    def follow(self, tokens, most):
+        """Follows tokens. Tells the place of the first that used its advances up, if there is one."""
+        for place, token in enumerate(tokens):
+            who, _, reach = token.partition(":")
+            if who == "cut":
+                self.mount.fuse.arm(int(reach))
+            elif who == "crash":
+                self.crash(reach)
+            elif who in self.callers and not comes(self.callers[who], reach, most):
+                return place
+        return None
+
+    def lose_power(self, pick):
+        """Power fails, and the region is recovered. Tells the lines of the life's history and of its open calls, and the number behind."""
+        lose_power(self.mount, pick)
+        first, groups, next_ = recover(self.mount)
+        begun = [call for call in self.calls if call.has_begun and call.life is None]
+        open_ = [(call, fate(call, first, groups)) for call in begun if is_open(call)]
+        self.mount.met.update(end for _, end in open_)
+        for call in (call for call, end in open_ if end == "kept"):
+            self.mount.outcome(call)
+        if [store.now for store in self.mount.stores] != self.mount.plain:
+            raise ValueError("the model is wrong: other files than after the history and the writes that were kept")
+        history = [f"{self.placed + call.place} {call.name()} = {reply_text(call)}" for call in self.mount.history]
+        for call in begun:
+            call.life = self.life
+        self.life, self.placed, self.open = self.life + 1, self.placed + len(history), self.open + len(open_)
+        return history, [f"open {call.name()}: {end}" for call, end in open_], next_
+
+    def crash(self, pick):
+        """Ends a life. Of each thread the present call is gone, where it was begun, and the others stay."""
+        history, open_, next_ = self.lose_power(pick)
+        self.lines += [*history, *open_, "crash"]
+        self.mount.met[f"crash: {'seed' if pick.isdigit() else pick}"] += 1
+        self.mount.open(next_)
+        left = {who: [call for call in caller.left if not call.has_begun] for who, caller in self.callers.items() if who != "w"}
+        self.hire(left)
+
+    def report(self, pick, names):
+        """The lines of the report, with the image that the pick names at the end."""
+        history, open_, _ = self.lose_power(pick)
+        refused = [call for call in self.calls if call.answer not in (None, "done") and not is_open(call)]
+        return [
+            *self.lines,
+            *history,
+            *[f"refused {call.name()}: {call.answer}" for call in refused],
+            *open_,
+            *[f"file {name} {len(store.now)} {shown(store.now)}" for name, store in zip(names, self.mount.stores)],
+            f"end {self.placed} {len(refused)} {self.open}",
+        ]
 
 
 class Schedule:
@@ -165,20 +205,16 @@ class Schedule:
         return "\n".join([*files, *fds, *self.lines, *steps, ""])
 
     def followed(self, most=MOST_ADVANCES):
-        """What the model makes of it: its mount, its calls, and the place of a token that used its advances up, if one did."""
-        mount = Mount(SIZES | self.sizes, len(self.names))
+        """What the model makes of it: its lives, and the place of a token that used its advances up, if one did."""
         fds = [(self.names.index(name), mode) for name, mode in (fd.split(" ") for fd in self.fds)]
-        calls = [Call(line) for line in self.lines]
-        callers = {thread: Caller(mount, fds, [call for call in calls if call.thread == thread]) for thread in "01234567"}
-        callers["w"] = Caller(mount, fds)
-        return mount, calls, follow(mount, callers, self.tokens, most)
+        lives = Lives(Mount(SIZES | self.sizes, len(self.names)), fds, [Call(line) for line in self.lines])
+        return lives, lives.follow(self.tokens, most)
 
     def wanted(self, met):
         """The report and the status, by the model. What it met is counted."""
-        mount, calls, used_up = self.followed()
-        lose_power(mount, self.pick)
-        text = report(mount, calls, self.names, *recover(mount))
-        met.update(mount.met)
+        lives, used_up = self.followed()
+        text = lives.report(self.pick, self.names)
+        met.update(lives.mount.met)
         if used_up is not None:
             met["turns"] += 1
             return "error turns\n", 8
@@ -199,6 +235,12 @@ PICKS = ["old", "new", "torn", "mixed", *map(str, range(10))]
 TWO_THREADS = (["0 pfill 0 0 128 0", "0 pwrite 0 0 aa", "1 pwrite 0 64 bb"], "0:done 0:seize 1:done 0:pledge cut:12 0")
 IN_TWO_ENTRIES = ([f"0 pwrite 0 {k} 0{k}" for k in range(3)], "0:done w:done 0:done w:done 0:done")
 ONE = ["0 pwrite 0 0 aa"]
+
+
+def two_lives(pick, last):
+    return [*ONE, "1 pwrite 0 1 bb", "0 pread 0 0 4"], f"0:pledge cut:12 0 crash:{pick} 1:done 0:done{last}"
+
+
 # A sync makes three advances, and a call that its arguments bar one: together 100,000.
 MANY = ["0 fsync 0"] * 33_333 + ["0 pread 0 4096 1"]
 ALL_MANY = "|".join([f"{k} 0 fsync 0 = 0" for k in range(33_333)] + ["refused 0 pread 0 4096 1: too far", "file a 0 -", "end 33333 1 0"])
@@ -255,6 +297,9 @@ ROWS = [
     ("stopped at the read", {}, "old", ["0 pwrite 0 0 68656c6c6f", "0 pread 0 0 16"], "cut:13 0:done 0:done",
      "0 0 pwrite 0 0 5 = 5|refused 0 pread 0 0 16: store fault|file a 5 68656c6c6f|end 1 1 0"),
     ("no calls", {}, "old", [], "", "file a 0 -|end 0 0 0"),
+    *[(f"two lives, crash:{pick}{' and a cut' * bool(cut)}", {}, "old", *two_lives(pick, cut),
+       f"open 0 pwrite 0 0 1: {end}|crash|0 1 pwrite 0 1 1 = 1|1 0 pread 0 0 4 = {file}|file a 2 {file}|end 2 0 1")
+      for cut in ("", " cut:60") for pick, end, file in [("old", "lost", "00bb"), ("torn", "lost", "00bb"), ("mixed", "lost", "00bb"), ("new", "kept", "aabb")]],
     *[(f"cut at call {k} of a write", {}, pick, ONE, f"cut:{k} 0:done", LOST) for k in range(1, 11) for pick in PICKS],
     *[(f"cut at call {k} of a write", {}, pick, ONE, f"cut:{k} 0:done", text)
       for k in (11, 12) for pick, text in [("old", LOST), ("torn", LOST), ("mixed", LOST), ("new", KEPT), ("0", KEPT)]],
@@ -389,13 +434,35 @@ def drawn(number):
     if draw.random() < 0.6:
         lines, tokens = ["0 pfill 0 0 200 238", *lines], ["0:done", *tokens]
     tokens += drawn_end(draw)
-    pick = draw.choice(["old", "new", "torn", "mixed", *[str(draw.randrange(1 << 32))] * 2])
-    schedule = Schedule(sizes, pick, lines, tokens, ("a rw", "a r", "a w", draw.choice(["a rw", "b rw"])))
-    used_up = schedule.followed(FEW_ADVANCES)[2]
-    while used_up is not None and number % 50:
+    schedule = Schedule(sizes, drawn_pick(draw), lines, tokens, ("a rw", "a r", "a w", draw.choice(["a rw", "b rw"])))
+    return schedule if number % 50 == 0 else within_turns(schedule)
+
+
+def within_turns(schedule):
+    """The schedule without the tokens that use their advances up."""
+    used_up = schedule.followed(FEW_ADVANCES)[1]
+    while used_up is not None:
         del schedule.tokens[used_up]
-        used_up = schedule.followed(FEW_ADVANCES)[2]
+        used_up = schedule.followed(FEW_ADVANCES)[1]
     return schedule
+
+
+def drawn_pick(draw):
+    return draw.choice(["old", "new", "torn", "mixed", *[str(draw.randrange(1 << 32))] * 2])
+
+
+def drawn_lives(number):
+    """The schedule of this number of three lives to five, each with some cuts: more calls, and a crash behind some of the tokens."""
+    draw = random.Random(f"lives {number}")
+    schedule = drawn(1 + 50 * number)
+    lines = schedule.sizes["page"] // 64
+    schedule.lines += [drawn_call(draw, lines) for _ in range(draw.randint(8, 24))]
+    for _ in range(draw.randint(2, 4)):
+        thread = draw.choice("012")
+        schedule.tokens += [*draw.choice([[], drawn_cut(draw), [f"{thread}:ready"], [f"{thread}:place"]]), f"crash:{drawn_pick(draw)}"]
+        schedule.tokens += [token for _ in range(draw.randint(3, 12)) for token in drawn_tokens(draw)]
+    schedule.tokens += drawn_end(draw)
+    return within_turns(schedule)
 
 
 # What three hundred schedules are to meet, so that each part of the order of steps is compared.
@@ -404,6 +471,7 @@ load take give place draw seize pledge ready grow break hold return subtract fre
 pread: done; pread: busy; pread: stopped; pread: bad; pread: too; pread: region; pread: store
 pwrite: done; pwrite: busy; pwrite: raced; pwrite: stopped; pwrite: bad; pwrite: too; pwrite: again; pwrite: region
 fsync: done; fsync: stopped; batch: done; batch: busy; batch: idle; batch: stopped; batch: region; batch: store
+crash: old; crash: new; crash: torn; crash: mixed; crash: seed
 """
 
 
@@ -440,6 +508,9 @@ def drawn_checks(program, count, first):
     for number in range(first, first + count):
         schedule = drawn(number)
         yield is_right_by(schedule.shown(program), schedule.wanted(met), f"schedule {number}", schedule, "program")
+    for number in range(first, first + count // 3):
+        schedule = drawn_lives(number)
+        yield is_right_by(schedule.shown(program), schedule.wanted(met), f"lives {number}", schedule, "program")
     if count >= 300:
         yield is_right(unmet(met), [], "never met")
 

@@ -96,7 +96,9 @@ NO_SCHEDULE = [
     "steps 0:done:done", "steps 8:done", "steps 0:DONE", "steps 0:don", "steps 0:split", "steps 0:join", "steps w:split", "steps w:join",
     "steps 0:clean", "steps 0:1", "steps 0:w", "steps 0:cut", "steps w:cut:1", "steps done", "steps load", "steps cut", "steps cut:",
     "steps cut:0", "steps cut:01", "steps cut:+1", "steps cut:-1", "steps cut:x", "steps cut:done", "steps cut:1:1",
-    "steps cut:4294967296", "steps cut:18446744073709551617", "steps crash:old", "steps 0 1 2 3 w:done cut:1 8",
+    "steps cut:4294967296", "steps cut:18446744073709551617", "steps crash", "steps crash:", "steps crash:Old", "steps crash:olds",
+    "steps crash:-1", "steps crash:+1", "steps crash:01", "steps crash:x", "steps crash:4294967296", "steps crash:18446744073709551617",
+    "steps crash:old:1", "steps crash:cut:1", "steps 0:crash", "steps w:crash:old", "steps 0 1 2 3 w:done cut:1 8",
 ]
 
 # What a line behind a schedule is told, where it is told something.
@@ -121,6 +123,7 @@ REPORTS = [
     ("sixty-four files and as many descriptors", RUN, ALL_FILES + ALL_FDS, EACH_FILE),
     ("the largest input", RUN, TWO_CALLS + "#" * (67_108_864 - len(TWO_CALLS)), TWO_ANSWERS),
     ("the longest schedule", SCHED, LONGEST, NOTHING),
+    ("a crash with each pick", SCHED, HEAD + "steps crash:old crash:new crash:torn\nsteps crash:mixed crash:0 crash:4294967295\n", "crash\n" * 6 + NOTHING),
 ]
 
 
@@ -138,7 +141,7 @@ def refusals():
     yield told(RUN, ALL_FILES + "file A\n", 65, "many")
     yield told(RUN, ALL_FILES + ALL_FDS + "fd x B y\n", 129, "many")
     yield from (told(SCHED, HEAD + line, 3, "form") for line in NO_SCHEDULE)
-    for first, number in [("steps 0\n", 4), ("0 fsync 0\nsteps w:done\n", 5)]:
+    for first, number in [("steps 0\n", 4), ("0 fsync 0\nsteps w:done\n", 5), ("steps crash:old\n", 4)]:
         yield from (told(SCHED, HEAD + first + line, number, why) for why, lines in BEHIND for line in lines)
     yield told(SCHED, LONGEST + "0", 3, "form")
     yield told(SCHED, LONGEST + "0\t", 3, "long")
