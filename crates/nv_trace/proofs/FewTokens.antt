@@ -1,26 +1,30 @@
 -- A trace has no more tokens and lives than bytes were read.
-use Rattle.std.proofs.Common.{◌≡◌, ◌+◌, ◌≤◌, ◌<◌, ℕ, Bool, true, false, cond, List, [], ◌∷◌, ◌++◌, length, take, Option, Some, None, Result, Ok, Err, refl, arith, eqb, leb, ltb, not, subst, ◌&&◌}
+use Rattle.std.proofs.Common.{◌≡◌, ◌+◌, ◌-◌, ◌≤◌, ◌<◌, ℕ, Bool, true, false, cond, List, [], ◌∷◌, ◌++◌, length, take, Option, Some, None, Result, Ok, Err, refl, sym, ap, arith, eqb, leb, ltb, not, subst, ◌∙◌, ◌&&◌}
 use Rattle.std.specs.Prelude.{IfOk, IfSome, sum_by, codes}
 use Rattle.std.specs.List.{list_all}
 use Rattle.std.specs.Option.{ok_or, option_and_then, option_map}
 use Rattle.std.proofs.lemmas.Bool.{leb-true}
-use Rattle.std.proofs.lemmas.List.{length_push}
+use Rattle.std.proofs.lemmas.List.{length-append, length_push}
 use Rattle.std.proofs.lemmas.List.Sums.{sum_by_push}
 use Rattle.nv_trace.specs.Forms.{has_steps}
 use Rattle.nv_trace.specs.Grammar.{and_then, is_printable, says}
 use Rattle.nv_trace.specs.Lines.{but_last, ended_lines, fields_of, last_if_some, onto_first, open_line, parts_between}
 use Rattle.nv_trace.specs.Lives.{TracedLife, TracedLives, lives_behind, with_token}
+use Rattle.nv_trace.specs.NextRound.{IsLastRound, IsNextRound}
+use Rattle.nv_trace.specs.Pending.{ending_after, ending_from}
 use Rattle.nv_trace.specs.Reading.{Ending, Whole, Bad, Long, after_fields, after_line, after_lines, ending_of, fields_said, is_skipped, largest_input, long_unless_bad, longest_line, unless_bad, with_statement, with_tokens}
 use Rattle.nv_trace.specs.Said.{is_schedule, said, tokens_said}
 use Rattle.nv_trace.specs.Tokens.{token_of, tokens_of}
 use Rattle.nv_trace.specs.Traced.{Traced, empty_trace, lives_in, token_count}
 use Rattle.nv_trace.specs.declared.bad_line.Why.{Why}
 use Rattle.nv_trace.specs.declared.bad_line.Why.TheVariants.{Form as BadForm, Long as LongLine, Bytes as OddBytes}
+use Rattle.nv_trace.specs.declared.reader.LineReader.{LineReader}
 use Rattle.nv_trace.specs.declared.statement.Statement.{Statement}
 use Rattle.nv_trace.specs.declared.statement.Statement.TheVariants.{File, Opened, Call, Round}
 use Rattle.nv_trace.specs.declared.token.LineToken.{LineToken}
 use Rattle.nv_trace.specs.declared.token.LineToken.TheVariants.{Inside, Crash}
 use Rattle.nv_trace.specs.declared.trace.Form.{Form}
+use Rattle.nv_trace.proofs.Endings.{ending_at_start}
 
 -- tokens and crashes
 abbrev count_in : TracedLives → ℕ
@@ -172,18 +176,40 @@ never_long most (Whole trace) = tt
 never_long most (Bad bad) = tt
 never_long most Long = tt
 
-input_few : (form : Form) (input : List ℕ) → EndsFew largest_input (ending_of form input)
-unfolding ending_of
-input_few form input = on (leb (length input) largest_input) refl
+front_bytes : (lines more : List (List ℕ)) → bytes_in lines ≤ bytes_in (lines ++ more)
+unfolding bytes_in
+front_bytes [] more = omega arith
+front_bytes (line ∷ lines) more = omega (arith, front_bytes lines more)
+
+-- an input that isn't too long adds no more than its bytes
+from_few : (trace : Traced) (number taken most : ℕ) (rest : List ℕ) → (taken + length rest ≤ largest_input → counted_in trace + length rest ≤ most) → EndsFew most (ending_from trace number [] taken rest)
+unfolding ending_from ending_after
+from_few trace number taken most rest few = on (leb (taken + length rest) largest_input) refl
   where
-    on : (test : Bool) → leb (length input) largest_input ≡ test
-        → EndsFew largest_input (cond test (after_lines (empty_trace form) 1 (ended_lines input ++ open_line input)) (long_unless_bad (after_lines (empty_trace form) 1 (ended_lines (take largest_input input)))))
+    on : (test : Bool) → leb (taken + length rest) largest_input ≡ test
+        → EndsFew most (cond test (after_lines trace number (ended_lines rest ++ open_line rest)) (long_unless_bad (ending_after false trace number [] (take (largest_input - taken) rest))))
     on true is =
-        ends_fewer (counted_in (empty_trace form) + bytes_in (ended_lines input ++ open_line input)) largest_input (after_lines (empty_trace form) 1 (ended_lines input ++ open_line input))
-        (omega (arith, split_bytes (parts_between 10 input), parts_bytes 10 input, leb-true (length input) largest_input is))
-        (lines_few (empty_trace form) 1 (ended_lines input ++ open_line input))
-    on false is = never_long largest_input (after_lines (empty_trace form) 1 (ended_lines (take largest_input input)))
+        ends_fewer (counted_in trace + bytes_in (ended_lines rest ++ open_line rest)) most (after_lines trace number (ended_lines rest ++ open_line rest))
+        (omega (arith, split_bytes (parts_between 10 rest), parts_bytes 10 rest, few (leb-true (taken + length rest) largest_input is)))
+        (lines_few trace number (ended_lines rest ++ open_line rest))
+    on false is = never_long most (ending_after false trace number [] (take (largest_input - taken) rest))
 
 pub few_tokens : (form : Form) (input : List ℕ) (trace : Traced) → ending_of form input ≡ Whole trace → token_count trace + length trace.lives ≤ largest_input
 unfolding EndsFew
-few_tokens form input trace is = subst (EndsFew largest_input) is (input_few form input)
+few_tokens form input trace is =
+    subst (EndsFew largest_input) (ending_at_start form input ∙ is) (from_few (empty_trace form) 1 0 largest_input input (λ fits. omega (arith, fits)))
+
+-- a round adds no more than its bytes
+pub round_few : (trace : Traced) (old : LineReader) (input : List ℕ) (next : Traced) (new : LineReader) (behind : List ℕ) → IsNextRound trace old input next new behind → counted_in next + length behind ≤ counted_in trace + length input
+unfolding EndsFew
+round_few trace old input next new behind round =
+    let bytes = round.bytes in
+    let few : counted_in next ≤ counted_in trace + bytes_in (ended_lines bytes) = subst (EndsFew (counted_in trace + bytes_in (ended_lines bytes))) round.read (lines_few trace old.pending.number (ended_lines bytes)) in
+    omega (arith, few, front_bytes (ended_lines bytes) (open_line bytes), split_bytes (parts_between 10 bytes), parts_bytes 10 bytes, ap length round.rest, length-append bytes behind)
+
+-- nor does the last one
+pub last_few : (trace : Traced) (old : LineReader) (input : List ℕ) (next : Traced) → old.pending.line.items ≡ [] → IsLastRound trace old input next → counted_in next ≤ counted_in trace + length input
+unfolding EndsFew
+last_few trace old input next bare last =
+    subst (EndsFew (counted_in trace + length input)) (ap (λ line. ending_from trace old.pending.number line old.taken input) (sym bare) ∙ last.whole)
+    (from_few trace old.pending.number old.taken (counted_in trace + length input) input (λ fits. omega arith))

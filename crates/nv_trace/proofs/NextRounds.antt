@@ -161,15 +161,16 @@ module _ (old_trace : Traced) (old : LineReader) (trace : Traced) (reader : Line
 
   -- whether the source tells or not, a round was read of some input
   pub round_alone : (told left : Option (List ℕ)) (next : Traced) (new : LineReader) → old.pending.line.items ≡ [] → new.taken ≤ largest_input → ReadsOn old_trace old told trace reader left → HasTakenAhead trace reader next new true
-      → (input : List ℕ) × IsNextRound old_trace old input next new []
+      → (input : List ℕ) × IsNextRound old_trace old input next new [] × (new.taken ≡ old.taken + length input)
   round_alone told left next new bare fits reads ended =
       let bytes = reads.front ++ ended.0 in
-      (bytes ++ [], round_of reads.front next new bare fits reads.taken reads.count ended [])
+      let input = bytes ++ [] in
+      (input, round_of reads.front next new bare fits reads.taken reads.count ended [], omega (arith, reads.count, ended.3, length-append reads.front ended.0, length-append bytes []))
 
   -- so was the last one
   pub last_alone : (told left : Option (List ℕ)) (next : Traced) (new : PendingLine) → old.pending.line.items ≡ [] → reader.taken ≤ largest_input → ReadsOn old_trace old told trace reader left
-      → lines_end true trace reader.pending [] ≡ lines_end true next new [] → new.line.items ≡ [] → (input : List ℕ) × IsLastRound old_trace old input next
-  last_alone told left next new bare fits reads whole cleared = (reads.front, last_of reads.front reads.front next new bare fits reads.taken reads.count refl whole cleared)
+      → lines_end true trace reader.pending [] ≡ lines_end true next new [] → new.line.items ≡ [] → (input : List ℕ) × IsLastRound old_trace old input next × (reader.taken ≡ old.taken + length input)
+  last_alone told left next new bare fits reads whole cleared = (reads.front, last_of reads.front reads.front next new bare fits reads.taken reads.count refl whole cleared, reads.count)
 
   -- a round has a byte
   pub further : (next : Traced) (new : LineReader) → old.taken ≤ reader.taken → HasTakenAhead trace reader next new true → old.taken < new.taken

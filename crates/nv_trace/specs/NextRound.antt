@@ -1,10 +1,10 @@
 -- What a reader answers that is to read the next round of an input.
-use Rattle.std.specs.Prelude.{◌≡◌, ℕ, ◌+◌, ◌-◌, ◌≤◌, false, List, [], ◌∷◌, ◌++◌, ◌⊎◌, take, drop, vec_len}
+use Rattle.std.specs.Prelude.{◌≡◌, ℕ, ◌+◌, ◌-◌, ◌≤◌, false, List, [], ◌∷◌, ◌++◌, ◌⊎◌, length, take, drop, vec_len}
 use Rattle.nv_trace.specs.Lines.{ended_lines}
 use Rattle.nv_trace.specs.Pending.{ending_from}
 use Rattle.nv_trace.specs.Reading.{Ending, Whole, Bad, Long, after_lines, largest_input}
 use Rattle.nv_trace.specs.Rounds.{IsRound, has_round}
-use Rattle.nv_trace.specs.Traced.{Traced}
+use Rattle.nv_trace.specs.Traced.{Traced, token_count}
 use Rattle.nv_trace.specs.declared.bad_line.BadLine.{BadLine}
 use Rattle.nv_trace.specs.declared.read_error.ReadError.{ReadError}
 use Rattle.nv_trace.specs.declared.read_error.ReadError.TheVariants as read_errors
@@ -26,6 +26,10 @@ pub record IsAtLine (reader : LineReader) : Type 0 where
   pub bare : reader.pending.line.items ≡ []
   pub taken : reader.taken ≤ largest_input
   pub number : reader.pending.number ≤ reader.taken + 1
+
+-- No more tokens and crashes came to the trace than bytes were taken: so a trace has no more of them than an input may have bytes, also where the source doesn't tell it.
+abbrev pub AddsFewTokens : Traced → LineReader → (next : Traced) → LineReader → Type 0
+AddsFewTokens trace old next new = token_count next + length next.lives + old.taken ≤ token_count trace + length trace.lives + new.taken
 
 -- A round of an input was read, and these bytes are still to come.
 pub record IsNextRound (trace : Traced) (old : LineReader) (input : List ℕ) (next : Traced) (new : LineReader) (behind : List ℕ) : Type 0 where

@@ -4,12 +4,12 @@ ghost use Rattle.std.specs.Prelude.{◌≡◌, ◌≢◌, ℕ, ◌+◌, ◌<◌,
 ghost use Rattle.nv_plain.specs.Faults.{HasCause, Rose};
 ghost use Rattle.nv_trace.specs.Reading.{ending_of, largest_input, Whole};
 ghost use Rattle.nv_trace.specs.Shape.{IsNumberedBelow};
-ghost use Rattle.nv_trace.specs.Traced.{lines_in};
+ghost use Rattle.nv_trace.specs.Traced.{lines_in, token_count};
 ghost use Rattle.nv_trace.specs.Refused.{IsRefusedAs};
 ghost use Rattle.nv_trace.specs.RoundCalls.{AddsCalls};
 ghost use Rattle.nv_trace.specs.Rounds.{has_round};
 ghost use Rattle.nv_trace.specs.Streams.{counted};
-ghost use Rattle.nv_trace.specs.NextRound.{IsAtLine, IsLastRound, IsNextRound, IsRoundRefused, ahead, input_ends};
+ghost use Rattle.nv_trace.specs.NextRound.{AddsFewTokens, IsAtLine, IsLastRound, IsNextRound, IsRoundRefused, ahead, input_ends};
 ghost use Rattle.nv_trace.specs.Ahead.{HasFilled, HasTakenAhead, IsAheadRefused, IsWithinLines};
 ghost use Rattle.nv_trace.specs.declared.read_error.ReadError.TheVariants as read_errors;
 
@@ -27,7 +27,8 @@ const LARGEST_INPUT: u64 = 67_108_864;
 const CHUNK: usize = 65_536;
 
 /// Reads a source to its end, in whatever pieces it comes, and takes its lines into a trace; the last of them may lack
-/// its line feed. Lines that are skipped aren't kept, however long they are. At most 67,108,864 bytes are taken.
+/// its line feed. Lines that are skipped aren't kept, however long they are. At most 67,108,864 bytes are taken: so a
+/// trace has no more calls than that, and no more tokens, those that end lives among them.
 ///
 /// The first bad line ends the reading. `InputLong` comes past the limit, unless a bad line ended before it, and `Failed`
 /// only from the source.
@@ -36,6 +37,7 @@ pub fn read_trace<I: Source>(alloc: Global, form: Form, src: &mut I) -> Result<T
     ensures form { IfOk result (λ trace. trace.form ≡ form) }
     ensures line_order { IfOk result (λ trace. IsStrictlyIncreasing (lines_in trace)) }
     ensures few { IfOk result (λ trace. length trace.calls ≤ largest_input) }
+    ensures tokens { IfOk result (λ trace. token_count trace + length trace.lives ≤ largest_input) }
     ensures at_end { OnOk result (IfSome (I.left src.old) (λ _. I.left src.new ≡ Some [])) }
     ensures refused { IfErr result (λ error. IfSome (I.left src.old) (IsRefusedAs form error)) }
     ensures failed { result ≡ Err read_errors.Failed → Rose (I.fault_count src.old) (I.fault_count src.new) }
@@ -100,6 +102,7 @@ impl LineReader {
         ensures onward { OnOk result (self.old.pending.number ≤ self.new.pending.number) }
         ensures numbered { OnOk result (IsNumberedBelow self.old.pending.number trace.old → IsNumberedBelow self.new.pending.number trace.new) }
         ensures adds { OnOk result (AddsCalls self.old.pending.number trace.old trace.new) }
+        ensures tokens { OnOk result (AddsFewTokens trace.old self.old trace.new self.new) }
         ensures counts { result ≡ Ok true → trace.new.rounds ≡ counted trace.old.rounds }
         ensures form { trace.new.form ≡ trace.old.form }
         ensures refused { IfErr result (λ error. IfSome (I.left src.old) (λ left. IsRoundRefused trace.old self.old (ahead self.old ++ left) trace.new error)) }

@@ -1,6 +1,7 @@
 use Rattle.std.proofs.Common.{◌≡◌, false, [], refl, subst, ◌∙◌, arith}
 use Rattle.std.proofs.lemmas.Result.{err_from_is_err_and}
 use Rattle.nv_trace.specs.Ahead.{HasTakenAhead}
+use Rattle.nv_trace.proofs.FewTokens.{last_few, round_few}
 use Rattle.nv_trace.proofs.NextRounds.{at_start, bad_last, further, last_alone, last_at, not_taken, on_ended, on_filled, on_taken, refused_at, round_alone, round_at, some_ahead}
 use Rattle.nv_trace.proofs.RoundCalls.{last_round_adds, round_adds}
 use Rattle.nv_trace.proofs.reader.LineReader.next_round.Goals as goal
@@ -140,3 +141,23 @@ returns-then-not-branch-clause-adds g c =
     let last = last_alone c.args.trace.now c.args.self.now c.loop-self.trace c.fill.new.self told next c.finish.new.trace c.finish.new.self c.requires.bare (omega (arith, c.fill.ensures.same.1, c.loop-self.invariant.within.taken)) reads
     c.in_ok-finish.ensures.whole c.in_ok-finish.ensures.none in
     last_round_adds c.args.trace.now c.args.self.now last.0 c.finish.new.trace c.requires last.1
+
+pub returns-then-branch-clause-tokens : goal.returns-then-branch-clause-tokens
+returns-then-branch-clause-tokens g c =
+    let told = g.I.Source.left c.args.src.now in
+    let left = g.I.Source.left c.loop-self.src in
+    let next = g.I.Source.left c.fill.new.src in
+    let reads = on_filled c.args.trace.now c.args.self.now c.loop-self.trace c.loop-self.self told left next c.fill.new.self c.in_ok-fill.field-0 c.fill.ensures.same.0 c.fill.ensures.same.1 c.loop-self.invariant.reads c.in_ok-fill.ensures.filled in
+    let taken = subst (HasTakenAhead c.loop-self.trace c.fill.new.self c.take_ahead.new.trace c.take_ahead.new.self) c.if-branch.true c.in_ok-take_ahead.ensures.taken in
+    let round = round_alone c.args.trace.now c.args.self.now c.loop-self.trace c.fill.new.self told next c.take_ahead.new.trace c.take_ahead.new.self c.requires.bare c.in_ok-take_ahead.ensures.within.taken reads taken in
+    omega (arith, round_few c.args.trace.now c.args.self.now round.0 c.take_ahead.new.trace c.take_ahead.new.self [] round.1, round.2)
+
+pub returns-then-not-branch-clause-tokens : goal.returns-then-not-branch-clause-tokens
+returns-then-not-branch-clause-tokens g c =
+    let told = g.I.Source.left c.args.src.now in
+    let left = g.I.Source.left c.loop-self.src in
+    let next = g.I.Source.left c.fill.new.src in
+    let reads = on_filled c.args.trace.now c.args.self.now c.loop-self.trace c.loop-self.self told left next c.fill.new.self c.in_ok-fill.field-0 c.fill.ensures.same.0 c.fill.ensures.same.1 c.loop-self.invariant.reads c.in_ok-fill.ensures.filled in
+    let last = last_alone c.args.trace.now c.args.self.now c.loop-self.trace c.fill.new.self told next c.finish.new.trace c.finish.new.self c.requires.bare (omega (arith, c.fill.ensures.same.1, c.loop-self.invariant.within.taken)) reads
+    c.in_ok-finish.ensures.whole c.in_ok-finish.ensures.none in
+    omega (arith, last_few c.args.trace.now c.args.self.now last.0 c.finish.new.trace c.requires.bare last.1, last.2)
