@@ -45,6 +45,8 @@ use Rattle.nv_open.proofs.Stands.{durable_images}
 use Rattle.nv_open.proofs.Versions.{own_layout}
 use Rattle.nv_top.proofs.LineLemmas.{head_layout_is}
 use Rattle.nv_trace.specs.Traced.{Traced}
+use Rattle.nv_trace.specs.Lives.{TracedLife}
+use Rattle.nv_trace.specs.declared.trace_call.TracedCall.{TracedCall}
 use Rattle.nv_trace.specs.declared.trace.Form.{Form}
 use Rattle.nv_trace.specs.declared.trace.Form.TheVariants as forms
 use Rattle.nv_runner.specs.ToldRounds.{TellsRounds}
@@ -55,13 +57,14 @@ use Rattle.nv_load.specs.Generated.{generated}
 use Rattle.nv_top.specs.Accepted.{IsAcceptedBehindPower, IsBlankOrGood, HasMadeRegion, NextIsAccepted, WhatIsMadeIsGood}
 use Rattle.nv_top.specs.Commands.{IsBasis, IsLookedAt}
 use Rattle.nv_top.specs.Endings.{OfRead}
-use Rattle.nv_top.specs.Headline.{IsShown, IsShownOf, UsesTurns}
+use Rattle.nv_top.specs.Headline.{IsShown, IsShownOf, LeavesLife, UsesTurns}
+use Rattle.nv_top.specs.LifeRows.{HaveEnded, LeaveLives, pick_next, tokens_next, trace_of, with_pick}
 use Rattle.nv_top.specs.Leaving.{Leaves}
-use Rattle.nv_top.specs.Lives.{LeavesLife, LeavesRecovery, LeavesRun, TellsNothing}
+use Rattle.nv_top.specs.Lives.{LeavesRecovery, LeavesRun, TellsNothing}
 use Rattle.nv_top.specs.Loads.{load_options}
 use Rattle.nv_top.specs.Ready.{IsReady}
 use Rattle.nv_top.specs.Reported.{HasReported}
-use Rattle.nv_runner.specs.Reports.{history_lines}
+use Rattle.nv_runner.specs.Reports.{Report, history_lines}
 use Rattle.nv_top.specs.Rounds.{OfRounds}
 use Rattle.nv_top.specs.Said.{Outcome}
 use Rattle.nv_top.specs.Stopping.{RestsWith}
@@ -71,6 +74,7 @@ use Rattle.nv_words.specs.declared.words.Command.TheVariants.{Run, Sched, Recove
 use Rattle.nv_words.specs.declared.words.RunOptions.{RunOptions}
 use Rattle.nv_top.proofs.CommandLemmas.{told_at}
 use Rattle.nv_top.proofs.LifeLemmas.{all_whole, one_image}
+use Rattle.nv_top.proofs.NextLemmas.{ended_quiet}
 use Rattle.nv_top.proofs.PoweredHomes.{powered_lines}
 
 -- what is so of each trace that is read so
@@ -110,7 +114,7 @@ blank_is : (parts : List Part) → is_blank parts ≡ true → IsBlank (row_word
 blank_is parts is = eqb-true (header_of (row_words parts)).magic 0 is
 
 -- a good region isn't blank
-not_blank : (parts : List Part) → IsGood parts → is_blank parts ≡ false
+pub not_blank : (parts : List Part) → IsGood parts → is_blank parts ≡ false
 not_blank parts good = go (is_blank parts) refl
   where
     go : (b : Bool) → is_blank parts ≡ b → b ≡ false
@@ -276,36 +280,10 @@ looked : (files : Bool) (old new : BenchState) (was here : Holding) → IsLooked
 looked false old new was here is told_was told_here = some_parts here was (sym told_here ∙ ap (λ (s : BenchState). s.told) is ∙ told_was)
 looked true old new was here is told_was told_here = some_parts here _ (sym told_here ∙ is.1.1 ∙ ap (told_by (names_until is.1.0)) told_was)
 
--- by the command
-module _ (one_so : QuietPartHasOneImage) (power_so : PowerLeavesAnImage) (given left : Option (List ℕ)) (before now : ℕ) (old new : BenchState) (shown : List PlacedCall) (result : Outcome) (was here : Holding)
-    (ready : IsReady old) (told_was : old.told ≡ Some was) (told_here : new.told ≡ Some here) (whole : AreWholeStores here) (sound : IsBlankOrGood was.parts) where
-  still_was : IsQuietHolding was
-  still_was = told_at old.told IsQuietHolding was told_was ready.at_home.quiet
-
-  by_command : (command : Command) → HasReported (Some command) given left before now old new shown result → IsAcceptedBehindPower (is_blank was.parts ≡ true) here
-  by_command (Run options) came = elim (told_at old.told (λ was. LeavesLife (Rose old.faults new.faults) (Run options) given was shown new.told) was told_was (came.life (Run options) refl)) [
-    | inl same ↦ same_told one_so power_so was sound still_was here new.told told_here same.1 whole
-    | inr run ↦ elim run [
-      | inl all ↦ trace_left one_so power_so was sound still_was here new.told told_here (TellsRounds (Rose old.faults new.faults) options.worker) options shown forms.Run given all whole
-      | inr rounds ↦ rounds_left one_so power_so was sound still_was here new.told told_here (TellsRounds (Rose old.faults new.faults) options.worker) options shown given rounds whole
-    ]
-  ]
-  by_command (Sched options) came = elim (told_at old.told (λ was. LeavesLife (Rose old.faults new.faults) (Sched options) given was shown new.told) was told_was (came.life (Sched options) refl)) [
-    | inl same ↦ same_told one_so power_so was sound still_was here new.told told_here same whole
-    | inr run ↦ trace_left one_so power_so was sound still_was here new.told told_here TellsNothing options [] forms.Sched given run whole
-  ]
-  by_command Recover came = recovered_left one_so power_so was sound still_was here new.told told_here (told_at old.told _ was told_was (came.life Recover refl)) whole
-  by_command (Look files) came = same_left one_so power_so was sound still_was here (looked files old new was here (came.back (Look files) refl) told_was told_here) whole
-  by_command (Gen load) came = run_left one_so power_so was sound still_was here new.told told_here load_options (generated load) [] (told_at old.told _ was told_was (came.life (Gen load) refl)) whole
-
-pub next_is_accepted : QuietPartHasOneImage → PowerLeavesAnImage → NextIsAccepted
-next_is_accepted one_so power_so command given left before now old new shown result was here came ready told_was told_here whole sound =
-    by_command one_so power_so given left before now old new shown result was here ready told_was told_here whole sound command came
-
 -- ---- what is made is good
 
 -- the words of parts are an image of them
-own_image : (parts : List Part) → IsRowImage parts (row_words parts)
+pub own_image : (parts : List Part) → IsRowImage parts (row_words parts)
 own_image parts = record { each = λ i. image_of_now (slice_index_or parts i []) }
 
 rest_good : (version : Version) (page entries next : ℕ) (names : List (List ℕ)) (parts : List Part) → IsAtRest (layout_of version) page entries names next parts → HasLines (layout_of version) page entries (rooms_of parts)
@@ -336,6 +314,63 @@ module _ (here : Holding) (told : Option Holding) (told_is : told ≡ Some here)
   rests_good : {version : Version} {page entries next many : ℕ} {names : List (List ℕ)} {files : Files} {others : List NamedStore} → RestsWith version page entries names next files many others told → IsGood here.parts
   rests_good {version} {page} {entries} {next} {many} {names} {files} {others} rests = same_parts rests.now here told rests.told_is told_is (rest_good version page entries next names rests.now.parts rests.rests.rest rests.long)
 
+-- lives that crashes ended left it so
+pub ended_good : (options : RunOptions) (trace : Traced) (life : TracedLife) (later : List TracedLife) (calls left : List TracedCall) (old new : BenchState) (was now : Holding) (reports : List Report)
+    → HaveEnded options trace (life ∷ later) calls left old new was now reports → IsGood now.parts
+ended_good options trace life [] calls left old new was now reports (behind, then_, held, rest, one, are, (calls_are, same, holds, none)) =
+    subst (λ (holding : Holding). IsGood holding.parts) (sym holds) (rests_good held then_.told one.tells one.followed.scheduled.left.lost.rests)
+ended_good options trace life (next ∷ later) calls left old new was now reports (behind, then_, held, rest, one, are, ended) =
+    ended_good options trace next later behind left then_ new held now rest ended
+
+-- by the command
+module _ (one_so : QuietPartHasOneImage) (power_so : PowerLeavesAnImage) (given left : Option (List ℕ)) (before now : ℕ) (old new : BenchState) (shown : List PlacedCall) (result : Outcome) (was here : Holding)
+    (ready : IsReady old) (told_was : old.told ≡ Some was) (told_here : new.told ≡ Some here) (whole : AreWholeStores here) (sound : IsBlankOrGood was.parts) where
+  still_was : IsQuietHolding was
+  still_was = told_at old.told IsQuietHolding was told_was ready.at_home.quiet
+
+  -- behind some lives that crashes ended the region is good, where there was one, and the next one leaves it so
+  lives_left : (options : RunOptions) (trace : Traced) → LeaveLives options old new was trace → IsAcceptedBehindPower (is_blank was.parts ≡ true) here
+  lives_left options trace leaves = by leaves.first leaves.ended
+    where
+      next : RunOptions
+      next = with_pick (pick_next options leaves.later) options
+
+      life : Traced
+      life = trace_of trace leaves.left (tokens_next trace leaves.later)
+
+      by : (first : List TracedLife) → HaveEnded options trace first trace.calls leaves.left old leaves.mid was leaves.here leaves.reports → IsAcceptedBehindPower (is_blank was.parts ≡ true) here
+      by [] (calls_are, same, holds, none) =
+          run_left one_so power_so was sound still_was here new.told told_here next life [] (subst (λ (one : Holding). LeavesRun TellsNothing next one life [] new.told) holds leaves.next) whole
+      by (one ∷ later) ended =
+          let good = ended_good options trace one later trace.calls leaves.left old leaves.mid was leaves.here leaves.reports ended in
+          let quiet = ended_quiet options trace (one ∷ later) trace.calls leaves.left old leaves.mid was leaves.here leaves.reports ended still_was in
+          λ pick. elim (run_left one_so power_so leaves.here (inr good) quiet here new.told told_here next life [] leaves.next whole pick) [
+            | inl stays ↦ inl stays
+            | inr blank ↦ absurd (true≢false (sym blank.1 ∙ not_blank leaves.here.parts good))
+          ]
+
+  by_command : (command : Command) → HasReported (Some command) given left before now old new shown result → IsAcceptedBehindPower (is_blank was.parts ≡ true) here
+  by_command (Run options) came = elim (told_at old.told (λ was. LeavesLife (Rose old.faults new.faults) (Run options) given old new was shown) was told_was (came.life (Run options) refl)) [
+    | inl same ↦ same_told one_so power_so was sound still_was here new.told told_here same.1 whole
+    | inr run ↦ elim run [
+      | inl all ↦ trace_left one_so power_so was sound still_was here new.told told_here (TellsRounds (Rose old.faults new.faults) options.worker) options shown forms.Run given all whole
+      | inr rounds ↦ rounds_left one_so power_so was sound still_was here new.told told_here (TellsRounds (Rose old.faults new.faults) options.worker) options shown given rounds whole
+    ]
+  ]
+  by_command (Sched options) came = elim (told_at old.told (λ was. LeavesLife (Rose old.faults new.faults) (Sched options) given old new was shown) was told_was (came.life (Sched options) refl)) [
+    | inl same ↦ same_told one_so power_so was sound still_was here new.told told_here same whole
+    | inr run ↦ of_read forms.Sched given _ (IsAcceptedBehindPower (is_blank was.parts ≡ true) here) (λ trace leaves. lives_left options trace leaves) run
+  ]
+  by_command Recover came = recovered_left one_so power_so was sound still_was here new.told told_here (told_at old.told _ was told_was (came.life Recover refl)) whole
+  by_command (Look files) came = same_left one_so power_so was sound still_was here (looked files old new was here (came.back (Look files) refl) told_was told_here) whole
+  by_command (Gen load) came = run_left one_so power_so was sound still_was here new.told told_here load_options (generated load) [] (told_at old.told _ was told_was (came.life (Gen load) refl)) whole
+
+pub next_is_accepted : QuietPartHasOneImage → PowerLeavesAnImage → NextIsAccepted
+next_is_accepted one_so power_so command given left before now old new shown result was here came ready told_was told_here whole sound =
+    by_command one_so power_so given left before now old new shown result was here ready told_was told_here whole sound command came
+
+-- ---- what is shown is good
+
 module _ (given left : Option (List ℕ)) (before now : ℕ) (old new : BenchState) (shown : List PlacedCall) (result : Outcome) (was here : Holding) (told_was : old.told ≡ Some was) (told_here : new.told ≡ Some here) where
   abbrev Came : Command → Type 0
   Came command = HasReported (Some command) given left before now old new shown result
@@ -359,7 +394,7 @@ module _ (given left : Option (List ℕ)) (before now : ℕ) (old new : BenchSta
   turns_good : (command : Command) → Came command → result ≡ Err Turns → IsGood here.parts
   turns_good command came is =
       let turns = came.turns is in
-      of_read forms.Sched given _ (IsGood here.parts) (λ trace used. rests_good here new.told told_here used.used.left.lost.rests)
+      of_read forms.Sched given _ (IsGood here.parts) (λ trace used. rests_good here new.told told_here used.next.used.left.lost.rests)
       (told_at old.told (UsesTurns turns.0 given old new) was told_was (came.turns_used is turns.0 turns.1))
 
   ok_or_turns : (command : Command) → Came command → HasMadeRegion command result → IsOk result ⊎ (result ≡ Err Turns) → IsGood here.parts

@@ -1,9 +1,9 @@
 -- In turn: each command has a life, and the files of a bench go on by these.
-use Rattle.std.proofs.Common.{◌≡◌, ℕ, Bool, true, false, List, [], ◌∷◌, ◌++◌, Option, None, Some, inl, inr, refl, sym, ap, subst, ◌∙◌}
+use Rattle.std.proofs.Common.{◌≡◌, ℕ, Bool, true, false, List, [], ◌∷◌, ◌++◌, Option, None, Some, inl, inr, refl, sym, ap, subst, ◌∙◌, append_assoc}
 use Rattle.std.proofs.lemmas.List.{append-nil}
 use Rattle.nv_plain.specs.Faults.{Rose}
 use Rattle.nv_plain.specs.Files.{Files}
-use Rattle.nv_plain.specs.Histories.{IsLegal, after}
+use Rattle.nv_plain.specs.Histories.{Answered, IsLegal, after}
 use Rattle.nv_plain.specs.Recovered.{region_files}
 use Rattle.nv_pmem.specs.Rows.{row_words}
 use Rattle.nv_store.specs.Store.{Store}
@@ -23,9 +23,14 @@ use Rattle.nv_trace.specs.declared.trace.Form.{Form}
 use Rattle.nv_trace.specs.declared.trace.Form.TheVariants as forms
 use Rattle.nv_load.specs.Generated.{generated}
 use Rattle.nv_top.specs.Commands.{HasRecovered, HasRunOn, IsBasis, IsLookedAt}
-use Rattle.nv_top.specs.Headline.{HasStopped, IsLeftBy, IsShown, IsShownOf, ShowsLives}
-use Rattle.nv_top.specs.InTurn.{EachHasALife, GoesOn, IsLifeOf, IsShownLife, Life, LivesGoOnInTurn, files_into}
-use Rattle.nv_top.specs.LifeLines.{IsTextOfLives}
+use Rattle.nv_top.specs.Followed.{HasFollowed}
+use Rattle.nv_top.specs.Headline.{HasStopped, IsLeftBy, IsShown, IsShownOf}
+use Rattle.nv_top.specs.LifeRows.{HaveEnded, ShowsLives, trace_of, with_pick}
+use Rattle.nv_trace.specs.Lives.{TracedLife}
+use Rattle.nv_trace.specs.declared.trace_call.TracedCall.{TracedCall}
+use Rattle.nv_plain.proofs.HistoryLemmas.{IsLegal-append, after-append}
+use Rattle.nv_top.proofs.RowNameLemmas.{none_new, same_names}
+use Rattle.nv_top.specs.InTurn.{EachHasALife, GoesOn, IsLifeOf, IsShownLife, Life, LivesGoOnInTurn, done_by_ended, done_by_lives, files_into}
 use Rattle.nv_top.specs.Loads.{load_options}
 use Rattle.nv_top.specs.NextCommands.{BeginsWith, FindsFiles, HasOwnNames, IsReportOf, done_by}
 use Rattle.nv_top.specs.Endings.{OfRead}
@@ -38,9 +43,9 @@ use Rattle.nv_words.specs.declared.words.RunOptions.{RunOptions}
 use Rattle.nv_top.proofs.FoundLemmas.{done_after, done_legal, next_finds_looked, next_finds_recovered, next_finds_run, next_finds_shown, next_finds_stopped, some_is}
 
 -- what a command comes to on such a bench
-abbrev HasLife : Command → (input : Option (List ℕ)) → (text : List ℕ) → (was now : Holding) → Type 0
-HasLife command input text was now =
-    (life : Life) × IsLifeOf command input was text life × ((names : List (List ℕ)) (files : Files) → FindsFiles names files was → GoesOn names files was life now)
+abbrev HasLife : Command → (input : Option (List ℕ)) → (old new : BenchState) → (text : List ℕ) → (was now : Holding) → Type 0
+HasLife command input old new text was now =
+    (life : Life) × IsLifeOf command input old new was text life × ((names : List (List ℕ)) (files : Files) → FindsFiles names files was → GoesOn names files was life now)
 
 -- the life of a report
 abbrev life_by : Basis → Traced → Report → Life
@@ -93,21 +98,6 @@ module _ (options : RunOptions) (was now : Holding) where
         faithful = inr (inl (stopped.last, stopped.faithful));
         shows = stopped.text_is;
         found = subst (FindsFiles run.basis.names (files_shown run.basis trace stopped.report)) same (next_finds_stopped options old new was trace text run (subst HasOwnNames (sym same) own));
-      }
-
-  scheduled_reported : (old new : BenchState) (trace : Traced) (text : List ℕ) → new.told ≡ Some now → HasOwnNames now → ShowsLives (Rose old.faults new.faults) options old.picked was new trace text
-      → Reported options was now trace (λ report. IsTextOfLives [] report text)
-  scheduled_reported old new trace text tells own run =
-      let last = run.last in
-      let scheduled = last.scheduled in
-      let rests = scheduled.left.lost.rests in
-      let same : rests.now ≡ now = some_is (sym rests.told_is ∙ tells) in record {
-        basis = last.basis;
-        report = scheduled.report;
-        begun = last.begun;
-        faithful = inr (inr (old.faults, new.faults, scheduled.faithful));
-        shows = run.text_is;
-        found = subst (FindsFiles last.basis.names (files_shown last.basis trace scheduled.report)) same (next_finds_shown options old new was trace last (subst HasOwnNames (sym same) own));
       }
 
   run_reported : (stop : Option ℕ) (old new : BenchState) (trace : Traced) (text : List ℕ) → new.told ≡ Some now → HasOwnNames now → IsShownOf stop options old new was trace text
@@ -187,18 +177,75 @@ looked_stays true old new was now told tells own left names files finds =
     λ options wanted basis is. next_finds_looked true old new was now left told tells own options wanted basis (subst (λ now. IsBasis options now wanted basis) (sym same) is) in
     stays names files was now (subst (FindsFiles names files) (sym same) (found_again was lent own names files finds as_before))
 
+-- ---- lives of one schedule
+
+-- a life, and then another that asks for the same names
+both : (names : List (List ℕ)) (files : Files) (was mid now : Holding) (wanted : List (List ℕ)) (one other : List Answered) → GoesOn names files was (record { wanted = wanted; done = one }) mid
+    → ((names : List (List ℕ)) (files : Files) → FindsFiles names files mid → GoesOn names files mid (record { wanted = wanted; done = other }) now) → GoesOn names files was (record { wanted = wanted; done = one ++ other }) now
+both names files was mid now wanted one other first second =
+    let begun = files_behind files (new_names names wanted) was.stores in
+    let here = after one begun in
+    let then_ = second (all_names names wanted) here first.finds in
+    let same : files_behind here (new_names (all_names names wanted) wanted) mid.stores ≡ here =
+    ap (λ new. files_behind here new mid.stores) (none_new names wanted) ∙ ap (λ (contents : List (List ℕ)). let files : Files = record { contents = contents } in files) (append-nil here.contents) in
+    record {
+      legal = IsLegal-append one other begun first.legal (subst (IsLegal other) same then_.legal);
+      finds = subst (λ names. FindsFiles names (after (one ++ other) begun) now) (same_names names wanted)
+          (subst (λ files. FindsFiles (all_names (all_names names wanted) wanted) files now) (ap (after other) same ∙ sym (after-append one other begun)) then_.finds);
+    }
+
+-- one of them
+followed_goes : (options : RunOptions) (old new : BenchState) (was now : Holding) (trace : Traced) → new.told ≡ Some now → HasOwnNames now → (run : HasFollowed (Rose old.faults new.faults) options old.picked was new trace)
+    → (names : List (List ℕ)) (files : Files) → FindsFiles names files was → GoesOn names files was (record { wanted = trace.names; done = done_by run.basis trace run.scheduled.report }) now
+followed_goes options old new was now trace tells own run names files finds =
+    let rests = run.scheduled.left.lost.rests in
+    let same : rests.now ≡ now = some_is (sym rests.told_is ∙ tells) in
+    let found = subst (FindsFiles run.basis.names (files_shown run.basis trace run.scheduled.report)) same (next_finds_shown options old new was trace run (subst HasOwnNames (sym same) own)) in
+    goes_on names files was now options.worker run.basis trace run.scheduled.report (inr (inr (old.faults, new.faults, run.scheduled.faithful))) (finds.begins options trace.names run.basis run.begun) found
+
+-- all of them
+rows_go : (options : RunOptions) (trace : Traced) (lives : List TracedLife) (calls left : List TracedCall) (old mid new : BenchState) (was here now : Holding) (reports : List Report)
+    → (ended : HaveEnded options trace lives calls left old mid was here reports) → new.told ≡ Some now → HasOwnNames now
+    → (last : HasFollowed (Rose mid.faults new.faults) options mid.picked here new (trace_of trace left trace.tokens)) → (names : List (List ℕ)) (files : Files) → FindsFiles names files was
+    → GoesOn names files was (record {
+      wanted = trace.names;
+      done = done_by_ended options trace lives calls left old mid was here reports ended ++ done_by last.basis (trace_of trace left trace.tokens) last.scheduled.report;
+    }) now
+rows_go options trace [] calls left old mid new was here now reports (calls_are, same, holds, none) tells own last names files finds =
+    let done = done_by last.basis (trace_of trace left trace.tokens) last.scheduled.report in
+    subst (λ (one : Holding). GoesOn names files one (record { wanted = trace.names; done = done }) now) holds
+    (followed_goes options mid new here now (trace_of trace left trace.tokens) tells own last names files (subst (FindsFiles names files) (sym holds) finds))
+rows_go options trace (life ∷ later) calls left old mid new was here now reports (behind, then_, held, rest, one, are, ended) tells own last names files finds =
+    let first = done_by one.followed.basis (trace_of trace calls life.tokens) one.followed.scheduled.report in
+    let others = done_by_ended options trace later behind left then_ mid held here rest ended in
+    let final = done_by last.basis (trace_of trace left trace.tokens) last.scheduled.report in
+    subst (λ (done : List Answered). GoesOn names files was (record { wanted = trace.names; done = done }) now) (sym (append_assoc first others final))
+    (both names files was held now trace.names first (others ++ final) (followed_goes (with_pick life.pick options) old then_ was held (trace_of trace calls life.tokens) one.tells one.own one.followed names files finds)
+    (λ names files finds. rows_go options trace later behind left then_ mid new held here now rest ended tells own last names files finds))
+
+rows_life : (options : RunOptions) (input : Option (List ℕ)) (old new : BenchState) (text : List ℕ) (was now : Holding) → new.told ≡ Some now → HasOwnNames now → IsShown (Sched options) input old new was text
+    → HasLife (Sched options) input old new text was now
+rows_life options input old new text was now tells own shown = by input shown
+  where
+    life_of_rows : (trace : Traced) → ShowsLives options old new was trace text → Life
+    life_of_rows trace shown = record { wanted = trace.names; done = done_by_lives options old new was trace text shown }
+
+    goes : (trace : Traced) (shown : ShowsLives options old new was trace text) (names : List (List ℕ)) (files : Files) → FindsFiles names files was → GoesOn names files was (life_of_rows trace shown) now
+    goes trace shown names files finds = rows_go options trace trace.lives trace.calls shown.left old shown.mid new was shown.here now shown.reports shown.ended tells own shown.last names files finds
+
+    by : (input : Option (List ℕ)) → IsShown (Sched options) input old new was text → HasLife (Sched options) input old new text was now
+    by None (trace, form_is, runnable, shown) = (life_of_rows trace shown, (trace, form_is, runnable, (shown, refl)), goes trace shown)
+    by (Some input) (trace, whole, shown) = (life_of_rows trace shown, (trace, whole, (shown, refl)), goes trace shown)
+
 -- ---- each command
 
 life_by_command : (command : Command) (input : Option (List ℕ)) (old new : BenchState) (text : List ℕ) (was now : Holding) → old.told ≡ Some was → new.told ≡ Some now → HasOwnNames was → HasOwnNames now
-    → IsLeftBy command old new → IsShown command input old new was text → HasLife command input text was now
+    → IsLeftBy command old new → IsShown command input old new was text → HasLife command input old new text was now
 life_by_command (Run options) input old new text was now told tells own own_now left shown =
     read_life options was now (λ report. text ≡ text_as shows.Report report) forms.Run input
     (of_read forms.Run input (λ trace. IsShownOf options.stop options old new was trace text) (λ trace. Reported options was now trace (λ report. text ≡ text_as shows.Report report))
     (λ trace is. run_reported options was now options.stop old new trace text tells own_now is) shown)
-life_by_command (Sched options) input old new text was now told tells own own_now left shown =
-    read_life options was now (λ report. IsTextOfLives [] report text) forms.Sched input
-    (of_read forms.Sched input (λ trace. ShowsLives (Rose old.faults new.faults) options old.picked was new trace text) (λ trace. Reported options was now trace (λ report. IsTextOfLives [] report text))
-    (λ trace is. scheduled_reported options was now old new trace text tells own_now is) shown)
+life_by_command (Sched options) input old new text was now told tells own own_now left shown = rows_life options input old new text was now tells own_now shown
 life_by_command Recover input old new text was now told tells own own_now left shown = (idle, refl, recovered_stays was now new.told text tells own_now shown)
 life_by_command (Look files) input old new text was now told tells own own_now left shown = (idle, refl, looked_stays files old new was now told tells own left)
 life_by_command (Gen load) input old new text was now told tells own own_now left shown =

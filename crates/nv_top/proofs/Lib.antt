@@ -31,8 +31,12 @@ pub mod AcceptedLemmas
 pub mod CompleteLemmas
 pub mod NextLemmas
 pub mod FoundLemmas
+pub mod LifeRowLemmas
+pub mod RowNameLemmas
 pub mod InTurnLemmas
 pub mod FollowedLemmas
 pub mod LifeLineLemmas
+pub mod CountLemmas
+pub mod LivesSoFar
 pub mod SchedulingLemmas
 pub mod ScheduleLifeLemmas

@@ -55,7 +55,9 @@ use Rattle.nv_runner.specs.Lives.{RecoversBehind}
 use Rattle.nv_runner.specs.ShownLives.{LeaveLifeBehind}
 use Rattle.nv_load.specs.Generated.{generated}
 use Rattle.nv_top.specs.Loads.{load_options}
-use Rattle.nv_top.specs.Lives.{AreLeftSo, HasLived, LeavesLife, LeavesRun, TellsNothing}
+use Rattle.nv_top.specs.Headline.{LeavesLife}
+use Rattle.nv_top.specs.LifeRows.{LeaveLives}
+use Rattle.nv_top.specs.Lives.{AreLeftSo, HasLived, LeavesRun, TellsNothing}
 use Rattle.nv_top.specs.Ready.{IsRunnable}
 use Rattle.nv_words.specs.declared.words.RunOptions.{RunOptions}
 use Rattle.nv_top.proofs.CommandLemmas.{if_told, told_at}
@@ -371,15 +373,15 @@ still_run Tells old new options trace one is quiet =
 -- ---- by the input
 
 -- a schedule of the trace that the whole input is
-pub schedule_from : (failed : Type 0) (options : RunOptions) (left : Option (List ℕ)) (old told : Option Holding) (trace : Traced) → trace.form ≡ forms.Sched → IsRunnable trace → IfSome left (λ input. ending_of forms.Sched input ≡ Whole trace) → IfSome old (λ was. LeavesRun TellsNothing options was trace [] told)
-    → IfSome old (λ was. LeavesLife failed (Sched options) left was [] told)
-schedule_from failed options left old told trace is_form runnable whole leaves =
-    if_told old (λ was. LeavesLife failed (Sched options) left was [] told) (λ was is. inr (of_read forms.Sched left trace (λ trace. LeavesRun TellsNothing options was trace [] told) is_form runnable whole (told_at old (λ was. LeavesRun TellsNothing options was trace [] told) was is leaves)))
+pub schedule_from : (failed : Type 0) (options : RunOptions) (left : Option (List ℕ)) (old new : BenchState) (trace : Traced) → trace.form ≡ forms.Sched → IsRunnable trace → IfSome left (λ input. ending_of forms.Sched input ≡ Whole trace) → IfSome old.told (λ was. LeaveLives options old new was trace)
+    → IfSome old.told (λ was. LeavesLife failed (Sched options) left old new was [])
+schedule_from failed options left old new trace is_form runnable whole leaves =
+    if_told old.told (λ was. LeavesLife failed (Sched options) left old new was []) (λ was is. inr (of_read forms.Sched left trace (λ trace. LeaveLives options old new was trace) is_form runnable whole (told_at old.told (λ was. LeaveLives options old new was trace) was is leaves)))
 
 -- a command whose bench wasn't opened
-pub life_unread : (failed : Type 0) (command : Command) (left : Option (List ℕ)) (old new : BenchState) → QuietPartHasOneImage → new ≡ with_faults new.faults old → IfSome old.told IsQuietHolding → IfSome old.told (λ was. LeavesLife failed command left was [] new.told)
-life_unread failed (Run options) left old new one is quiet = if_told old.told (λ was. LeavesLife failed (Run options) left was [] new.told) (λ was told. inl (refl, ap (λ (bench : BenchState). bench.told) is ∙ told))
-life_unread failed (Sched options) left old new one is quiet = if_told old.told (λ was. LeavesLife failed (Sched options) left was [] new.told) (λ was told. inl (ap (λ (bench : BenchState). bench.told) is ∙ told))
-life_unread failed Recover left old new one is quiet = if_told old.told (λ was. LeavesLife failed Recover left was [] new.told) (λ was told. record { stands = λ readable. still_stands old new was is told quiet readable; untouched = λ bad. still_untouched old new was is told })
-life_unread failed (Look files) left old new one is quiet = if_told old.told (λ was. LeavesLife failed (Look files) left was [] new.told) (λ was told. tt)
+pub life_unread : (failed : Type 0) (command : Command) (left : Option (List ℕ)) (old new : BenchState) → QuietPartHasOneImage → new ≡ with_faults new.faults old → IfSome old.told IsQuietHolding → IfSome old.told (λ was. LeavesLife failed command left old new was [])
+life_unread failed (Run options) left old new one is quiet = if_told old.told (λ was. LeavesLife failed (Run options) left old new was []) (λ was told. inl (refl, ap (λ (bench : BenchState). bench.told) is ∙ told))
+life_unread failed (Sched options) left old new one is quiet = if_told old.told (λ was. LeavesLife failed (Sched options) left old new was []) (λ was told. inl (ap (λ (bench : BenchState). bench.told) is ∙ told))
+life_unread failed Recover left old new one is quiet = if_told old.told (λ was. LeavesLife failed Recover left old new was []) (λ was told. record { stands = λ readable. still_stands old new was is told quiet readable; untouched = λ bad. still_untouched old new was is told })
+life_unread failed (Look files) left old new one is quiet = if_told old.told (λ was. LeavesLife failed (Look files) left old new was []) (λ was told. tt)
 life_unread failed (Gen load) left old new one is quiet = still_run TellsNothing old new load_options (generated load) one is quiet

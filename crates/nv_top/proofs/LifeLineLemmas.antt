@@ -1,15 +1,53 @@
 -- The lines of lives in turn: how each is put behind those before it, and the text of all.
-use Rattle.std.proofs.Common.{◌≡◌, ℕ, ◌+◌, Bool, true, false, List, [], ◌∷◌, ◌++◌, length, map, refl, sym, ap, subst, ◌∙◌, append_assoc, append-nil, arith}
-use Rattle.std.specs.List.{flat_map}
+use Rattle.std.proofs.Common.{◌≡◌, ◌≤◌, ℕ, ◌+◌, Bool, true, List, [], ◌∷◌, ◌++◌, length, map, refl, sym, ap, subst, ◌∙◌, append_assoc, append-nil, arith}
 use Rattle.std.specs.List.Sorted.{IsNonDecreasingBy, IsPermutation}
-use Rattle.std.proofs.lemmas.List.{length-map, map-append}
-use Rattle.nv_trace.specs.Report.{end_text}
-use Rattle.nv_runner.specs.Reports.{Report, ShownRefusal, history_lines, refused_lines}
-use Rattle.nv_top.specs.LifeLines.{AreByLine, AreKeptLives, AreLinesOf, IsTextOfLives, Numbered, line_kept, line_shown, texts_of}
+use Rattle.std.specs.Prelude.{codes, decimal}
+use Rattle.std.proofs.lemmas.List.{length-append, length-map, map-append}
+use Rattle.nv_trace.specs.Report.{call_fields, end_text, fate_text, history_text, line_text, open_text, reply_text, spaced}
+use Rattle.nv_runner.specs.Histories.{PlacedCall}
+use Rattle.nv_runner.specs.Reports.{OpenCall, Report, ShownRefusal, history_lines, refused_lines}
+use Rattle.nv_top.specs.LifeLines.{AreByLine, AreKeptLives, AreLinesOf, HaveALineEach, IsTextOfLives, KeepALineEach, Numbered, line_kept, line_shown, texts_of}
 use Rattle.nv_top.specs.Reports.{crash_text, ended_lines, file_lines, lives_text, open_in_lives, open_lines, placed_in_lives, refused_in_lives}
 use Rattle.nv_top.specs.declared.life.LifeLines.{LifeLines}
 use Rattle.nv_top.specs.declared.life.LivesShown.{LivesShown}
 use Rattle.nv_top.proofs.FollowedLemmas.{falls_before, ordered}
+
+-- ---- a line each
+
+line_some : (words : List (List ℕ)) → 1 ≤ length (line_text words)
+line_some words = omega (arith, length-append (spaced words) (10 ∷ []))
+
+history_each : (place : ℕ) (history : List PlacedCall) → length history ≤ length (history_lines place history)
+unfolding history_text
+history_each place [] = omega arith
+history_each place (first ∷ later) =
+    let text = history_text place first.call.thread first.call.call first.reply in
+    omega (arith, length-append text (history_lines (place + 1) later), line_some (decimal place ∷ decimal first.call.thread ∷ spaced (call_fields first.call.call) ∷ codes "=" ∷ reply_text first.reply ∷ []), history_each (place + 1) later)
+
+open_each : (open_calls : List OpenCall) → length open_calls ≤ length (open_lines open_calls)
+unfolding open_text
+open_each [] = omega arith
+open_each (first ∷ later) =
+    let text = open_text first.call.thread first.call.call first.fate in
+    omega (arith, length-append text (open_lines later), line_some (codes "open" ∷ decimal first.call.thread ∷ (spaced (call_fields first.call.call) ++ codes ":") ∷ fate_text first.fate ∷ []), open_each later)
+
+-- a life's lines are as many as the calls that it counts
+pub have_a_line_each : (place : ℕ) (last : Bool) (report : Report) (lines : LifeLines) → AreLinesOf place last report lines → HaveALineEach lines
+have_a_line_each place last report lines are = record {
+  placed = omega (arith, are.placed, ap length are.history, history_each place report.history);
+  opened = omega (arith, are.opened, ap length are.open_calls, open_each report.open_calls);
+}
+
+-- and so they are behind those that are kept
+pub keep_a_line_each : (kept more : LivesShown) (lines : LifeLines) → KeepALineEach kept → HaveALineEach lines → more.placed ≡ kept.placed + lines.placed → more.opened ≡ kept.opened + lines.opened
+    → more.text.items ≡ kept.text.items ++ lines.history.items ++ lines.open_lines.items ++ crash_text → KeepALineEach more
+keep_a_line_each kept more lines keep have placed opened text =
+    let long : length more.text.items ≡ length kept.text.items + (length lines.history.items + (length lines.open_lines.items + length crash_text)) =
+    ap length text
+    ∙ length-append (kept.text.items ++ lines.history.items ++ lines.open_lines.items) crash_text
+    ∙ ap (λ n. n + length crash_text) (length-append (kept.text.items ++ lines.history.items) lines.open_lines.items ∙ ap (λ n. n + length lines.open_lines.items) (length-append kept.text.items lines.history.items))
+    ∙ omega arith in
+    record { placed = omega (arith, long, placed, keep.placed, have.placed); opened = omega (arith, long, opened, keep.opened, have.opened) }
 
 -- ---- one more life
 

@@ -30,13 +30,17 @@ use Rattle.nv_recover.specs.Standing.{AreQuietStores}
 use Rattle.nv_top.specs.Commands.{IsBasis, IsGivenBack, IsLookedAt}
 use Rattle.nv_top.specs.Headline.{IsLeftAfter, IsShown, IsShownOf, expected_faults}
 use Rattle.nv_top.specs.Leaving.{Leaves}
+use Rattle.nv_top.specs.LifeRows.{HaveEnded}
 use Rattle.nv_top.specs.NextCommands.{BeginsAt, IsReady, NextBeginsBehind, NextBeginsBehindRecovery, NextBeginsBehindSchedule, NextBeginsBehindStop, NextIsReady}
 use Rattle.nv_top.specs.Stopping.{IsAllBack, IsPoweredBack, RestsWith, next_in}
 use Rattle.nv_words.specs.declared.words.Command.TheVariants.{Run, Sched, Recover, Look, Gen}
 use Rattle.nv_top.proofs.CommandLemmas.{told_at}
 use Rattle.nv_trace.specs.Traced.{Traced}
+use Rattle.nv_trace.specs.Lives.{TracedLife}
+use Rattle.nv_trace.specs.declared.trace_call.TracedCall.{TracedCall}
 use Rattle.nv_words.specs.declared.words.RunOptions.{RunOptions}
 use Rattle.nv_runner.specs.Faithful.{Basis}
+use Rattle.nv_runner.specs.Reports.{Report}
 
 abbrev Still : List NamedStore → Type 0
 Still stores = All (λ (named : NamedStore). IsQuietStore named.store) stores
@@ -63,7 +67,7 @@ left_quiet {version} {want} {names} {files} {was} {told} quiet leaves =
           (kept_in_all (λ (named : NamedStore). IsQuietStore named.store) names was.stores quiet.stores) leaves.left.synced;
     })
 
-rests_quiet : {version : _} {page entries next many : ℕ} {files : _} {told : Option Holding} (names : List (List ℕ)) (was : Holding) → IsQuietHolding was
+pub rests_quiet : {version : _} {page entries next many : ℕ} {files : _} {told : Option Holding} (names : List (List ℕ)) (was : Holding) → IsQuietHolding was
     → RestsWith version page entries names next files many (without_stores names was.stores) told → IfSome told IsQuietHolding
 rests_quiet {version} {page} {entries} {next} {many} {files} {told} names was quiet rests =
     told_quiet told rests.now rests.told_is (record {
@@ -135,6 +139,14 @@ run_ready None pick old new holding ready told room counts left quiet = given_re
 run_ready (Some k) pick old new holding ready told room counts (inl left, picked) quiet = powered_ready old new holding ready told room counts k left quiet
 run_ready (Some k) pick old new holding ready told room counts (inr left, picked) quiet = given_ready old new holding ready told room counts left quiet
 
+-- behind lives that crashes ended
+pub ended_quiet : (options : RunOptions) (trace : Traced) (lives : List TracedLife) (calls left : List TracedCall) (old new : BenchState) (was now : Holding) (reports : List Report)
+    → HaveEnded options trace lives calls left old new was now reports → IsQuietHolding was → IsQuietHolding now
+ended_quiet options trace [] calls left old new was now reports (calls_are, same, holds, none) quiet = subst IsQuietHolding (sym holds) quiet
+ended_quiet options trace (life ∷ later) calls left old new was now reports (behind, then_, held, rest, one, are, ended) quiet =
+    ended_quiet options trace later behind left then_ new held now rest ended
+    (told_at then_.told IsQuietHolding held one.tells (rests_quiet one.followed.basis.names was quiet one.followed.scheduled.left.lost.rests))
+
 pub next_is_ready : NextIsReady
 next_is_ready (Run options) input old new holding text ready told room has left counts shown =
     let Shown : Option (List ℕ) → Type 0 = λ input. IsShown (Run options) input old new holding text in
@@ -144,8 +156,10 @@ next_is_ready (Run options) input old new holding text ready told room has left 
 next_is_ready (Sched options) input old new holding text ready told room has left counts shown =
     let Shown : Option (List ℕ) → Type 0 = λ input. IsShown (Sched options) input old new holding text in
     let report = subst Shown has.1 shown in
-    schedule_ready old new holding ready told room counts left.0
-    (rests_quiet report.2.last.basis.names holding (told_at old.told IsQuietHolding holding told ready.quiet) report.2.last.scheduled.left.lost.rests)
+    let shown = report.2 in
+    let quiet = ended_quiet options report.0 report.0.lives report.0.calls shown.left old shown.mid holding shown.here shown.reports shown.ended (told_at old.told IsQuietHolding holding told ready.quiet) in
+    schedule_ready old new holding ready told room counts left
+    (rests_quiet shown.last.basis.names shown.here quiet shown.last.scheduled.left.lost.rests)
 next_is_ready Recover input old new holding text ready told room has left counts shown =
     given_ready old new holding ready told room counts left (left_quiet (told_at old.told IsQuietHolding holding told ready.quiet) shown.left)
 next_is_ready (Look files) input old new holding text ready told room has left counts shown = look_ready old new holding ready told room counts files left

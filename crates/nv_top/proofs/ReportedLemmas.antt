@@ -1,5 +1,5 @@
 -- What a command comes to, from what its parts say.
-use Rattle.std.proofs.Common.{◌≡◌, ◌≢◌, ◌⊎◌, ℕ, ◌≤◌, List, [], ◌∷◌, ◌++◌, Option, Some, None, Result, Ok, Err, inl, inr, refl, sym, ap, subst, ◌∙◌, arith}
+use Rattle.std.proofs.Common.{◌≡◌, ◌≢◌, ◌⊎◌, ℕ, ◌≤◌, List, [], ◌++◌, Option, Some, None, Result, Ok, Err, inl, inr, refl, sym, ap, subst, ◌∙◌, arith}
 use Rattle.std.specs.Prelude.{IfErr, IfOk, IfSome, OnOk, Bool, false, true, max}
 use Rattle.std.proofs.lemmas.List.{append-nil}
 use Rattle.std.specs.Result.{IsErrAnd}
@@ -35,8 +35,8 @@ use Rattle.nv_trace.specs.declared.trace.Form.{Form}
 use Rattle.nv_trace.specs.declared.trace.Form.TheVariants as forms
 use Rattle.nv_top.specs.Commands.{IsBasis, IsGivenBack, RestsNotRun}
 use Rattle.nv_top.specs.Endings.{IsTrace}
-use Rattle.nv_top.specs.Headline.{HasInput, HasRunRounds, IsArmedByAll, IsArmedBySome, IsCommandRefused, IsLeftAfter, IsLeftBy, IsRun, IsRunRefused, IsShown, IsUnhindered, UsesTurns, expected_faults, form_by, form_of}
-use Rattle.nv_top.specs.Lives.{HasMadeNoCall, LeavesLife, LeavesRun}
+use Rattle.nv_top.specs.Headline.{HasInput, HasRunRounds, IsArmedByAll, IsArmedBySome, IsCommandRefused, IsLeftAfter, IsLeftBy, IsPickedAtLast, IsPickedByAll, IsPickedBySome, IsRun, IsRunRefused, IsShown, IsUnhindered, IsWholeByInput, LeavesLife, UsesTurns, expected_faults, form_by, form_of}
+use Rattle.nv_top.specs.Lives.{HasMadeNoCall, LeavesRun}
 use Rattle.nv_top.specs.Ready.{IsAtHome, IsReady}
 use Rattle.nv_top.specs.Reported.{HasReported}
 use Rattle.nv_top.specs.Stopping.{IsAllBack, IsBackUnarmed, IsPoweredBack, IsSettledStop}
@@ -127,10 +127,10 @@ Takes Recover given left result = left ≡ given
 Takes (Look files) given left result = left ≡ given
 Takes (Gen load) given left result = left ≡ given
 
--- which cuts it arms its bench at
+-- which cuts it arms its bench at, and with which picks power goes off
 abbrev pub Arms : Command → (given : Option (List ℕ)) → (old new : BenchState) → Result (Vec ℕ) Stop → Type 0
 Arms (Run options) given old new result = Unit {0}
-Arms (Sched options) given old new result = IsArmedBySome given old new × OnOk result (IsArmedByAll given old new)
+Arms (Sched options) given old new result = IsArmedBySome given old new × OnOk result (IsArmedByAll given old new) × IsPickedBySome options given old new × OnOk result (IsPickedByAll options given old new) × OnOk result (IsWholeByInput given old new)
 Arms Recover given old new result = Unit {0}
 Arms (Look files) given old new result = Unit {0}
 Arms (Gen load) given old new result = Unit {0}
@@ -138,12 +138,12 @@ Arms (Gen load) given old new result = Unit {0}
 -- what a schedule leaves of which a token has used its advances up: with which pick power went off, and how far it was followed
 abbrev pub EndsInTurns : Command → (given : Option (List ℕ)) → (old new : BenchState) → Type 0
 EndsInTurns (Run options) given old new = ⊥
-EndsInTurns (Sched options) given old new = (new.picked ≡ options.image ∷ old.picked) × IfSome old.told (UsesTurns options given old new)
+EndsInTurns (Sched options) given old new = IsPickedAtLast options given old new × IfSome old.told (UsesTurns options given old new)
 EndsInTurns Recover given old new = ⊥
 EndsInTurns (Look files) given old new = ⊥
 EndsInTurns (Gen load) given old new = ⊥
 
-of_schedule : (command : Command) (given : Option (List ℕ)) (old new : BenchState) → EndsInTurns command given old new → (options : RunOptions) × (Some command ≡ Some (Sched options)) × (new.picked ≡ options.image ∷ old.picked)
+of_schedule : (command : Command) (given : Option (List ℕ)) (old new : BenchState) → EndsInTurns command given old new → (options : RunOptions) × (Some command ≡ Some (Sched options)) × IsPickedAtLast options given old new
 of_schedule (Run options) given old new used = absurd used
 of_schedule (Sched options) given old new used = (options, refl, used.0)
 of_schedule Recover given old new used = absurd used
@@ -166,7 +166,7 @@ looked_unmoved (Some holding) = sym (ap (λ stores. Some (record { parts = holdi
 
 unmoved : (command : Command) (bench : BenchState) → IsAtHome bench → IsLeftBy command bench bench
 unmoved (Run options) bench home = run_unmoved options.stop options bench
-unmoved (Sched options) bench home = (scheduled_unmoved bench home, inr refl)
+unmoved (Sched options) bench home = scheduled_unmoved bench home
 unmoved Recover bench home = refl
 unmoved (Look false) bench home = refl
 unmoved (Look true) bench home = (refl, (0, looked_unmoved bench.told))
@@ -191,7 +191,7 @@ module _ (command : Command) (given left : Option (List ℕ)) (before now : ℕ)
       → Takes command given left result → Arms command given old new result → (result ≡ Err Turns → EndsInTurns command given old new)
       → ((why : Refusal) → result ≡ Err (Region why) → IfSome old.told (λ holding. IsCommandRefused command given old new holding why))
       → ((why : Refusal) → result ≡ Err (Region why) → IfSome old.told (λ holding. (new.arms ≡ old.arms) × (shown ≡ [])))
-      → IfSome old.told (λ was. LeavesLife (Rose old.faults new.faults) command given was shown new.told)
+      → IfSome old.told (λ was. LeavesLife (Rose old.faults new.faults) command given old new was shown)
       → IfOk result (λ text. IfSome old.told (λ holding. IsShown command given old new holding (history_lines 0 shown ++ text.items)))
       → HasReported (Some command) given left before now old new shown result
   settled_shown early sound back cause grows takes arms turns refused unarmed life report =
@@ -203,6 +203,9 @@ module _ (command : Command) (given left : Option (List ℕ)) (before now : ℕ)
         back = for_it (λ command. IsLeftBy command old new) back;
         cuts = λ options is. (for_it (λ command. Arms command given old new result) arms (Sched options) is).0;
         all_cuts = λ options is. (for_it (λ command. Arms command given old new result) arms (Sched options) is).1;
+        picked = λ options is. (for_it (λ command. Arms command given old new result) arms (Sched options) is).2;
+        all_picked = λ options is. (for_it (λ command. Arms command given old new result) arms (Sched options) is).3;
+        uncut = λ options is. (for_it (λ command. Arms command given old new result) arms (Sched options) is).4;
         usage = λ is. absurd (subst Settled is cause);
         command = λ none. absurd (not_none command none);
         bad_line = settled_cause (form_of command) given settled new.faults result cause;
@@ -223,7 +226,7 @@ module _ (command : Command) (given left : Option (List ℕ)) (before now : ℕ)
             (settled_done command given old new (Rose before now) settled new.faults result cause refused);
         counts = settled_counts settled new.faults result cause;
         never_falls = grows;
-        life = for_it (λ command. IfSome old.told (λ was. LeavesLife (Rose old.faults new.faults) command given was shown new.told)) life;
+        life = for_it (λ command. IfSome old.told (λ was. LeavesLife (Rose old.faults new.faults) command given old new was shown)) life;
         stopped = settled_opened settled new.faults result
             (λ stop. ((new ≡ old) × (shown ≡ []) × (IsRun (Some command) → HasNoRounds stop given)) ⊎ ((options : RunOptions) × (Some command ≡ Some (Run options)) × IfSome old.told (HasRunRounds options stop given shown old new))) cause;
         report = shown_for result report;
@@ -240,7 +243,7 @@ module _ (command : Command) (given left : Option (List ℕ)) (faults : ℕ) (ol
       → Takes command given left result → Arms command given old new result → (result ≡ Err Turns → EndsInTurns command given old new)
       → ((why : Refusal) → result ≡ Err (Region why) → IfSome old.told (λ holding. IsCommandRefused command given old new holding why))
       → ((why : Refusal) → result ≡ Err (Region why) → IfSome old.told (λ holding. new.arms ≡ old.arms))
-      → IfSome old.told (λ was. LeavesLife (Rose old.faults new.faults) command given was [] new.told)
+      → IfSome old.told (λ was. LeavesLife (Rose old.faults new.faults) command given old new was [])
       → IfOk result (λ text. IfSome old.told (λ holding. IsShown command given old new holding text.items))
       → HasReported (Some command) given left faults faults old new [] result
   settled_reported back cause grows takes arms turns refused unarmed life report =
@@ -267,7 +270,7 @@ module _ (over : Option Command) (given left : Option (List ℕ)) (before now : 
       → (stop ≡ Read → Rose before now) → (stop ≢ Read → now ≡ before)
       → ((command : Command) → over ≡ Some command → Takes command given left (Err stop))
       → ((command : Command) → over ≡ Some command → (holding : Holding) → IsUnhindered command given holding (Rose before now) (Rose (expected_faults bench bench) bench.faults) → IsOwnStop stop)
-      → ((command : Command) → over ≡ Some command → IfSome bench.told (λ was. LeavesLife (Rose bench.faults bench.faults) command given was [] bench.told))
+      → ((command : Command) → over ≡ Some command → IfSome bench.told (λ was. LeavesLife (Rose bench.faults bench.faults) command given bench bench was []))
       → (ComesFromInput stop → IsRun over → HasNoRounds stop given)
       → HasReported over given left before now bench bench [] (Err stop)
   early_reported home early usage none cause fault sound takes own life unrun = record {
@@ -276,6 +279,9 @@ module _ (over : Option Command) (given left : Option (List ℕ)) (before now : 
     back = λ command is. unmoved command bench home;
     cuts = λ options is. inl refl;
     all_cuts = λ options is. tt;
+    picked = λ options is. inl refl;
+    all_picked = λ options is. tt;
+    uncut = λ options is. tt;
     usage = λ is. usage (same_stop stop Usage is);
     command = λ is. let both = none is in (elim both.0 [ inl same ↦ inl (ap Err same) | inr same ↦ inr (ap Err same) ], both.1, refl);
     bad_line = cause;
@@ -302,7 +308,7 @@ module _ (over : Option Command) (given left : Option (List ℕ)) (before now : 
 
 -- the words are none, or memory is wanting for them
 pub words_reported : (over : Option Command) (given : Option (List ℕ)) (faults : ℕ) (bench : BenchState) (error : WordsError) → IsAtHome bench → (error ≡ words_errors.Usage → over ≡ None)
-    → ((command : Command) → over ≡ Some command → IfSome bench.told (λ was. LeavesLife (Rose bench.faults bench.faults) command given was [] bench.told))
+    → ((command : Command) → over ≡ Some command → IfSome bench.told (λ was. LeavesLife (Rose bench.faults bench.faults) command given bench bench was []))
     → HasReported over given given faults faults bench bench [] (Err (stop_of_words error))
 words_reported over given faults bench words_errors.Usage home usage life =
     let none = usage refl in
@@ -384,7 +390,7 @@ module _ (command : Command) (given left : Option (List ℕ)) (before now : ℕ)
   pub read_reported : IsAtHome bench → (HasInput command given → (bytes : List ℕ) × (given ≡ Some bytes) × IsTrace (form_of command) bytes)
       → Takes command given left (Err (stop_of_read error))
       → IfSome given (IsRefusedAs (form_of command) error) → (error ≡ read_errors.Failed → Rose before now) → (error ≢ read_errors.Failed → now ≡ before)
-      → IfSome bench.told (λ was. LeavesLife (Rose bench.faults bench.faults) command given was [] bench.told) → (ComesFromInput (stop_of_read error) → IsRun (Some command) → HasNoRounds (stop_of_read error) given)
+      → IfSome bench.told (λ was. LeavesLife (Rose bench.faults bench.faults) command given bench bench was []) → (ComesFromInput (stop_of_read error) → IsRun (Some command) → HasNoRounds (stop_of_read error) given)
       → HasReported (Some command) given left before now bench bench [] (Err (stop_of_read error))
   read_reported home reads takes refused failed kept life unrun =
       early_reported (Some command) given left before now bench (stop_of_read error) home (early error) (λ is. absurd (not_usage error is)) (λ none. absurd (not_none command none)) (read_cause (form_of command) given error refused)
@@ -392,7 +398,7 @@ module _ (command : Command) (given left : Option (List ℕ)) (before now : ℕ)
       (λ other is. subst (λ command. Takes command given left (Err (stop_of_read error))) (same_some is) takes)
       (λ other is. subst (λ command. (holding : Holding) → IsUnhindered command given holding (Rose before now) (Rose (expected_faults bench bench) bench.faults) → IsOwnStop (stop_of_read error)) (same_some is)
       (λ holding free. read_own (form_of command) given before now error refused failed free.read (reads free.has_input)))
-      (λ other is. subst (λ command. IfSome bench.told (λ was. LeavesLife (Rose bench.faults bench.faults) command given was [] bench.told)) (same_some is) life) unrun
+      (λ other is. subst (λ command. IfSome bench.told (λ was. LeavesLife (Rose bench.faults bench.faults) command given bench bench was [])) (same_some is) life) unrun
     where
       early : (error : ReadError) → IsEarly (stop_of_read error)
       early (read_errors.Bad bad) = tt
@@ -421,7 +427,7 @@ module _ (command : Command) (given left : Option (List ℕ)) (faults : ℕ) (ol
   pub counted_reported : IsReady old → IsLeftBy command old new → new.settled ≡ old.settled → new.arms ≡ old.arms → CountHasCause old.faults new.faults result
       → Takes command given left result → Arms command given old new result
       → ((why : Refusal) → result ≡ Err (Region why) → IfSome old.told (λ holding. IsCommandRefused command given old new holding why))
-      → IfSome old.told (λ was. LeavesLife (Rose old.faults new.faults) command given was [] new.told)
+      → IfSome old.told (λ was. LeavesLife (Rose old.faults new.faults) command given old new was [])
       → IfOk result (λ text. IfSome old.told (λ holding. IsShown command given old new holding text.items))
       → HasReported (Some command) given left faults faults old new [] result
   counted_reported ready back settled arms cause takes cuts refused life shown =

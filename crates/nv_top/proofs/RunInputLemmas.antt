@@ -18,8 +18,8 @@ use Rattle.nv_trace.specs.Streams.{Appends}
 use Rattle.nv_runner.specs.declared.stream.StreamError.{StreamError}
 use Rattle.nv_runner.specs.declared.stream.StreamError.TheVariants as ends
 use Rattle.nv_top.specs.Endings.{IsTrace}
-use Rattle.nv_top.specs.Headline.{HasRunRounds, IsCommandRefused, IsLeftAfter, IsLeftBy, IsRunRefused, IsShown, IsShownOf, IsUnhindered, expected_faults, history_of_shown}
-use Rattle.nv_top.specs.Lives.{LeavesLife, LeavesRun}
+use Rattle.nv_top.specs.Headline.{HasRunRounds, IsCommandRefused, IsLeftAfter, IsLeftBy, IsRunRefused, IsShown, IsShownOf, IsUnhindered, LeavesLife, expected_faults, history_of_shown}
+use Rattle.nv_top.specs.Lives.{LeavesRun}
 use Rattle.nv_top.specs.Ran.{IsBegunOf, answer_of}
 use Rattle.nv_top.specs.Reported.{HasReported}
 use Rattle.nv_top.specs.RunInputs.{HasRunInput}
@@ -107,7 +107,7 @@ module _ (options : RunOptions) (given left : Option (List ℕ)) (before now : �
 
   streamed_reported : IsLeftAfter options.stop options.image old new → (stop ≡ Write → shown ≢ []) → IfSome given (IsCauseOf forms.Run stop) → (stop ≡ Read → Rose before now) → (stop ≢ Read → now ≡ before)
       → (stop ≢ Write → new.faults ≤ expected_faults old new) → ((holding : Holding) → IsUnhindered (Run options) given holding (Rose before now) (Rose (expected_faults old new) new.faults) → IsOwnStop stop)
-      → old.faults ≤ new.faults → IfSome old.told (λ was. LeavesLife (Rose old.faults new.faults) (Run options) given was shown new.told) → (ComesFromInput stop → IfSome old.told (HasRunRounds options stop given shown old new))
+      → old.faults ≤ new.faults → IfSome old.told (λ was. LeavesLife (Rose old.faults new.faults) (Run options) given old new was shown) → (ComesFromInput stop → IfSome old.told (HasRunRounds options stop given shown old new))
       → HasReported (Some (Run options)) given left before now old new shown (Err stop)
   streamed_reported back lines cause failed kept low own grows life rounds = record {
     early = inr (options, refl);
@@ -115,6 +115,9 @@ module _ (options : RunOptions) (given left : Option (List ℕ)) (before now : �
     back = λ command is. subst (λ command. IsLeftBy command old new) (same_some is) back;
     cuts = λ other is. cc;
     all_cuts = λ other is. tt;
+    picked = λ other is. cc;
+    all_picked = λ other is. tt;
+    uncut = λ other is. tt;
     usage = λ is. absurd (not_it Usage (λ no. no) is);
     command = λ none. absurd (not_none (Run options) none);
     bad_line = cause;
@@ -135,7 +138,7 @@ module _ (options : RunOptions) (given left : Option (List ℕ)) (before now : �
         (if_told old.told (λ holding. IsUnhindered (Run options) given holding (Rose before now) (Rose (expected_faults old new) new.faults) → IsOwnStop stop) (λ holding told. own holding));
     counts = tt;
     never_falls = grows;
-    life = λ command is. subst (λ command. IfSome old.told (λ was. LeavesLife (Rose old.faults new.faults) command given was shown new.told)) (same_some is) life;
+    life = λ command is. subst (λ command. IfSome old.told (λ was. LeavesLife (Rose old.faults new.faults) command given old new was shown)) (same_some is) life;
     stopped = λ first. inr (options, refl, rounds first);
     report = tt;
   }
@@ -165,9 +168,9 @@ module _ (options : RunOptions) (input : Input) (given mid left : Option (List �
   read : IfSome given (λ bytes. IsReadAs ran.ended bytes ran.all)
   read = was_all_read input mid ran.ended ran.all given begun ran.streamed.trace.1
 
-  life : IfSome old.told (λ was. LeavesLife (Rose old.faults new.faults) (Run options) given was ran.shown new.told)
+  life : IfSome old.told (λ was. LeavesLife (Rose old.faults new.faults) (Run options) given old new was ran.shown)
   life =
-      if_told old.told (λ was. LeavesLife (Rose old.faults new.faults) (Run options) given was ran.shown new.told) (λ was told.
+      if_told old.told (λ was. LeavesLife (Rose old.faults new.faults) (Run options) given old new was ran.shown) (λ was told.
       inr (read_so_far ran.all (λ trace. LeavesRun (TellsRounds (Rose old.faults new.faults) options.worker) options was trace ran.shown new.told) form ran.runnable (told_at old.told (λ was. LeavesRun (TellsRounds (Rose old.faults new.faults) options.worker) options was ran.all ran.shown new.told) was told ran.life) given ran.ended read))
 
   region_refused : (why : Refusal) → ran.told ≡ Err (Region why) → IfSome old.told (λ holding. IsCommandRefused (Run options) given old new holding why)

@@ -205,6 +205,22 @@ module _ (mount : MountState) (tokens : List Token) (calls : List TracedCall) (b
   armed_at_all (Ok told) is calls ok = (ap (λ (s : BenchState). s.arms) is.3, ap (λ (s : BenchState). s.armed) is.3)
   armed_at_all (Err error) is calls ok = cc
 
+-- without a cut it is as it was
+pub uncut_same : (mount : MountState) (tokens : List Token) (calls : List TracedCall) (batch : ℕ) (zero : PassState) (old armed : BenchState) (outcome : Result ScheduledCalls ScheduleError) → HasTold mount tokens calls batch zero old armed outcome
+    → (told : ScheduledCalls) → outcome ≡ Ok told → cuts_of tokens ≡ [] → armed ≡ old
+uncut_same mount tokens calls batch zero old armed (Ok told) is calls_too ok none = is.3 ∙ ap (λ cuts. armed_by cuts old) none
+uncut_same mount tokens calls batch zero old armed (Err error) is calls_too ok none = cc
+
+-- so its devices have failed no more
+pub uncut_low : (cut : Bool) (start armed home : BenchState) (before : ℕ) → CutTells cut start armed → armed ≡ start → (cut ≡ false → home.faults ≤ before) → start.settled ≤ before → home.faults ≤ 2 ^ 64 - 1 → home.faults ≤ before
+uncut_low false start armed home before tells same low settled most = low refl
+uncut_low true start armed home before tells same low settled most = omega (arith, tells, ap (λ (s : BenchState). s.settled) same, settled, most)
+
+-- what is so of a value, and of a count that is settled with it
+pub ok_settled : {T A B : Type 0} (result : Result T Stop) (settled now : ℕ) → OnOk result A → IsSettledStop settled now result → (A → now ≡ settled → B) → OnOk result B
+ok_settled (Ok value) settled now holds cause on = on holds cause
+ok_settled (Err stop) settled now holds cause on = tt
+
 -- what is done of a bench that isn't armed again
 pub still_some : (tokens : List Token) (old mid new : BenchState) → IsArmedAtSome tokens old mid → new.arms ≡ mid.arms → new.armed ≡ mid.armed → IsArmedAtSome tokens old new
 still_some tokens old mid new is arms armed = (is.0, is.1, is.2, (arms ∙ is.3.0, armed ∙ is.3.1))
@@ -216,11 +232,11 @@ still_all tokens old mid new is arms armed = (arms ∙ is.0, armed ∙ is.1)
 pub armed_none : (tokens : List Token) (old new : BenchState) → new.arms ≡ old.arms → new.armed ≡ old.armed → IsArmedAtSome tokens old new
 armed_none tokens old new arms armed = ([], tokens, refl, (arms, armed))
 
-same_arms : (numbers : List ℕ) (one other : BenchState) → one.arms ≡ other.arms → (armed_by numbers one).arms ≡ (armed_by numbers other).arms
+pub same_arms : (numbers : List ℕ) (one other : BenchState) → one.arms ≡ other.arms → (armed_by numbers one).arms ≡ (armed_by numbers other).arms
 same_arms [] one other same = same
 same_arms (number ∷ later) one other same = same_arms later (armed_with number one) (armed_with number other) (ap (λ arms. arms + 1) same)
 
-same_armed : (numbers : List ℕ) (one other : BenchState) → one.armed ≡ other.armed → (armed_by numbers one).armed ≡ (armed_by numbers other).armed
+pub same_armed : (numbers : List ℕ) (one other : BenchState) → one.armed ≡ other.armed → (armed_by numbers one).armed ≡ (armed_by numbers other).armed
 same_armed [] one other same = same
 same_armed (number ∷ later) one other same = same_armed later (armed_with number one) (armed_with number other) refl
 

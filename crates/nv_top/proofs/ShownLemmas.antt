@@ -1,5 +1,5 @@
 -- What is shown of a region: it isn't refused.
-use Rattle.std.proofs.Common.{◌≡◌, ℕ, ◌≤◌, Bool, true, false, List, [], Option, Some, None, length, refl, sym, ap, subst, ◌∙◌, arith, slice_index_or}
+use Rattle.std.proofs.Common.{◌∷◌, ◌≡◌, ℕ, ◌≤◌, Bool, true, false, List, [], Option, Some, None, length, refl, sym, ap, subst, ◌∙◌, arith, slice_index_or}
 use Rattle.std.specs.List.{range_with_len}
 use Rattle.std.proofs.lemmas.List.{length-map}
 use Rattle.std.proofs.lemmas.List.FromFn.{length-range_with_len}
@@ -27,10 +27,15 @@ use Rattle.nv_open.specs.declared.error.Refusal.{Refusal}
 use Rattle.nv_open.specs.declared.error.Refusal.TheVariants.{Truncated, BadMagic, BadVersion, BadGeometry, BadName, BadEntry, TooManyFiles}
 use Rattle.nv_trace.specs.Reading.{Whole}
 use Rattle.nv_trace.specs.Traced.{Traced}
+use Rattle.nv_trace.specs.Lives.{TracedLife}
+use Rattle.nv_trace.specs.declared.trace_call.TracedCall.{TracedCall}
 use Rattle.nv_runner.specs.Faithful.{Basis}
 use Rattle.nv_load.specs.Generated.{generated}
 use Rattle.nv_top.specs.Commands.{HasLooked, HasRunOn, IsBasis, IsNotRun, IsNotShown}
-use Rattle.nv_top.specs.Headline.{HasFollowed, HasRefusal, IsShown, IsShownOf, ShownIsNotRefused}
+use Rattle.nv_top.specs.Followed.{HasFollowed}
+use Rattle.nv_top.specs.LifeRows.{HaveEnded, trace_of, with_pick}
+use Rattle.nv_runner.specs.Reports.{Report as AnyReport}
+use Rattle.nv_top.specs.Headline.{HasRefusal, IsShown, IsShownOf, ShownIsNotRefused}
 use Rattle.nv_top.specs.Loads.{load_options}
 use Rattle.nv_top.specs.Stopping.{next_in}
 use Rattle.nv_top.specs.declared.show.Show.{Show}
@@ -46,7 +51,7 @@ unfolding first_names
 first_many image count = length-map (range_with_len 0 count) (name_of mount_layout image) ∙ length-range_with_len 0 count
 
 -- a region at rest has no more names than a header may have
-rested_few : (page entries next : ℕ) (names : List (List ℕ)) (parts : List Part) → IsAtRest mount_layout page entries names next parts → length names ≤ mount_layout.file_limit
+pub rested_few : (page entries next : ℕ) (names : List (List ℕ)) (parts : List Part) → IsAtRest mount_layout page entries names next parts → length names ≤ mount_layout.file_limit
 rested_few page entries next names parts rest =
     let image = row_words parts in
     let empty = rest.empty image (record { each = λ i. image_of_now (slice_index_or parts i []) }) in
@@ -114,6 +119,16 @@ module _ (good_so : FittingHasNoBad) (read_so : HeadIsNotUnread) where
       begun_allowed options holding trace.names basis shown.begun
       (rested_few basis.sizes.page basis.sizes.entries (next_in shown.scheduled.left.lost.power.parts basis.files) basis.names rests.now.parts rests.rests.rest)
 
+  -- nor were lives in turn
+  lives_allowed : (options : RunOptions) (trace : Traced) (lives : List TracedLife) (calls left : List TracedCall) (old mid new : BenchState) (was here : Holding) (reports : List AnyReport)
+      → HaveEnded options trace lives calls left old mid was here reports → HasFollowed (Rose mid.faults new.faults) options mid.picked here new (trace_of trace left trace.tokens)
+      → (why : Refusal) → ¬ (IsNotRun options was trace.names why)
+  lives_allowed options trace [] calls left old mid new was here reports (calls_are, same, holds, none) last why refused =
+      followed_allowed (Rose mid.faults new.faults) options mid.picked here new (trace_of trace left trace.tokens) last why (subst (λ (holding : Holding). IsNotRun options holding trace.names why) (sym holds) refused)
+  lives_allowed options trace (life ∷ later) calls left old mid new was here reports (behind, then_, held, rest, one, are, ended) last why refused =
+      followed_allowed (Rose old.faults then_.faults) (with_pick life.pick options) old.picked was then_ (trace_of trace calls life.tokens) one.followed why
+      (record { geometry = refused.geometry; page_is = refused.page_is; entries_are = refused.entries_are; not_opened = refused.not_opened })
+
   -- ---- a look
 
   -- the header of a region that is shown can be read, as one of its own version
@@ -142,7 +157,8 @@ module _ (good_so : FittingHasNoBad) (read_so : HeadIsNotUnread) where
       let report = subst Shown has.1 shown in
       let cause = subst Refused has.1 refused in
       let same : cause.0 ≡ report.0 = one_trace (sym cause.1 ∙ report.1) in
-      followed_allowed (Rose old.faults new.faults) options old.picked holding new report.0 report.2.last why (subst (λ (trace : Traced). IsNotRun options holding trace.names why) same cause.2)
+      let all = report.2 in
+      lives_allowed options report.0 report.0.lives report.0.calls all.left old all.mid new holding all.here all.reports all.ended all.last why (subst (λ (trace : Traced). IsNotRun options holding trace.names why) same cause.2)
   shown_is_not_refused Recover input old new holding text has shown why refused = region_allowed read_so holding.parts shown.readable shown.long good_so shown.fits why refused
   shown_is_not_refused (Look files) input old new holding text has shown why refused = look_allowed files holding text shown why refused
   shown_is_not_refused (Gen load) input old new holding text has shown why refused = ran_allowed (Summary load) load_options holding new.told (generated load) text shown.ran why refused

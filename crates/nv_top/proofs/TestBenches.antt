@@ -63,7 +63,7 @@ module _ (schedules : Bool) (old new : BenchState) (closed : old.is_open ≡ fal
 
   left : (command : Command) → ((options : RunOptions) → command ≡ Sched options → schedules ≡ true) → IsLeftBy command old new → IsFree schedules old new
   left (Run options) only is = left_after options.stop options.image is
-  left (Sched options) only is = back_powered (only options refl) is.0
+  left (Sched options) only is = back_powered (only options refl) is
   left Recover only is = given is
   left (Look false) only is = given (unchanged is)
   left (Look true) only is = given is.0

@@ -22,14 +22,15 @@ use Rattle.nv_top.specs.Commands.{HasLooked, HasRecovered, HasRunOn, IsBasis, Is
 use Rattle.nv_runner.specs.Faithful.{Basis}
 use Rattle.nv_runner.specs.Histories.{PlacedCall}
 use Rattle.nv_load.specs.Generated.{generated}
-use Rattle.nv_top.specs.LifeLines.{AreLinesOf, IsTextOfLives}
+use Rattle.nv_top.specs.LifeRows.{ArePickedAll, ArePickedSome, IsPickedLast, IsUncutWhole, LeaveLives, ShowsLives, UseTurns, all_tokens, picks_of}
+use Rattle.nv_top.specs.Lives.{LeavesRecovery, LeavesRun, TellsNothing}
 use Rattle.nv_top.specs.Loads.{HasGenerated, load_options}
-use Rattle.nv_top.specs.declared.life.LifeLines.{LifeLines}
 use Rattle.nv_top.specs.declared.show.Show.TheVariants.{Report}
 use Rattle.nv_top.specs.Endings.{IsTrace, OfRead}
+use Rattle.nv_runner.specs.ToldRounds.{TellsRounds}
 use Rattle.nv_top.specs.Rounds.{OfReadSoFar, OfRunRounds}
 use Rattle.nv_top.specs.declared.ending.Stop.{Stop}
-use Rattle.nv_top.specs.Scheduling.{HasScheduledOn, HasUsedTurns, IsArmedAt, IsArmedAtSome}
+use Rattle.nv_top.specs.Scheduling.{IsArmedAt, IsArmedAtSome}
 use Rattle.nv_top.specs.Stopped.{HasStoppedOn}
 use Rattle.nv_top.specs.Stopping.{IsAllBack, IsPickedOnce, IsPoweredBack}
 use Rattle.nv_words.specs.Words.{command_of}
@@ -77,16 +78,32 @@ IsLeftAfter (Some k) pick old new = (IsPoweredBack k old new ⊎ IsGivenBack old
 
 -- a schedule armed it at some first cuts of the trace that it read, one after another; or there is no such trace, and it armed nothing
 abbrev pub IsArmedBySome : (input : Option (List ℕ)) → (old new : BenchState) → Type 0
-IsArmedBySome input old new = (new.arms ≡ old.arms) ⊎ OfRead forms.Sched input (λ trace. IsArmedAtSome trace.tokens old new)
+IsArmedBySome input old new = (new.arms ≡ old.arms) ⊎ OfRead forms.Sched input (λ trace. IsArmedAtSome (all_tokens trace) old new)
 
 -- at all of them
 abbrev pub IsArmedByAll : (input : Option (List ℕ)) → (old new : BenchState) → Type 0
-IsArmedByAll input old new = OfRead forms.Sched input (λ trace. IsArmedAt trace.tokens old new)
+IsArmedByAll input old new = OfRead forms.Sched input (λ trace. IsArmedAt (all_tokens trace) old new)
+
+-- power went off with some first ones of the picks of its lives in turn
+abbrev pub IsPickedBySome : RunOptions → (input : Option (List ℕ)) → (old new : BenchState) → Type 0
+IsPickedBySome options input old new = (new.picked ≡ old.picked) ⊎ OfRead forms.Sched input (λ trace. ArePickedSome (picks_of options trace) old new)
+
+-- with all of them
+abbrev pub IsPickedByAll : RunOptions → (input : Option (List ℕ)) → (old new : BenchState) → Type 0
+IsPickedByAll options input old new = OfRead forms.Sched input (λ trace. ArePickedAll (picks_of options trace) old new)
+
+-- no device has failed in it where no token is a cut
+abbrev pub IsWholeByInput : (input : Option (List ℕ)) → (old new : BenchState) → Type 0
+IsWholeByInput input old new = OfRead forms.Sched input (λ trace. IsUncutWhole trace old new)
+
+-- and of one life at least
+abbrev pub IsPickedAtLast : RunOptions → (input : Option (List ℕ)) → (old new : BenchState) → Type 0
+IsPickedAtLast options input old new = OfRead forms.Sched input (λ trace. IsPickedLast (picks_of options trace) old new)
 
 -- how a command leaves it
 abbrev pub IsLeftBy : Command → (old new : BenchState) → Type 0
 IsLeftBy (Run options) old new = IsLeftAfter options.stop options.image old new
-IsLeftBy (Sched options) old new = IsAllBack new × IsPickedOnce options.image old new
+IsLeftBy (Sched options) old new = IsAllBack new
 IsLeftBy Recover old new = IsGivenBack old new
 IsLeftBy (Look files) old new = IsLookedAt files old new
 IsLeftBy (Gen load) old new = IsGivenBack old new
@@ -121,36 +138,14 @@ abbrev pub HasRunRounds : RunOptions → Stop → (input : Option (List ℕ)) �
 HasRunRounds options stop input shown old new holding =
     OfRunRounds stop input (λ trace. (text : List ℕ) × (run : IsShownOf options.stop options old new holding trace text) × (history_of_shown options.stop options old new holding trace text run ≡ shown))
 
--- A life of a schedule: that of a trace was followed on a bench that held this, and had lost power with those picks, and is that now. Its parts and its other stores are as behind a stop.
-pub record HasFollowed (failed : Type 0) (options : RunOptions) (before : List Pick) (holding : Holding) (bench : BenchState) (trace : Traced) : Type 0 where
-  pub basis : Basis
-  pub begun : IsBasis options holding trace.names basis
-  pub scheduled : HasScheduledOn failed options before basis trace (length (opened (Some begun.geometry) holding.parts)) (without_stores basis.names holding.stores) bench
-
--- and the lines are those of its report
-abbrev pub ShowsFollowed : (failed : Type 0) (options : RunOptions) (before : List Pick) (holding : Holding) (bench : BenchState) (trace : Traced) (place : ℕ) (last : Bool) (lines : LifeLines) → Type 0
-ShowsFollowed failed options before holding bench trace place last lines = (life : HasFollowed failed options before holding bench trace) × AreLinesOf place last life.scheduled.report lines
-
--- The text is that of the report of a life of a schedule: of the last one, and no other.
-pub record ShowsLives (failed : Type 0) (options : RunOptions) (before : List Pick) (holding : Holding) (bench : BenchState) (trace : Traced) (text : List ℕ) : Type 0 where
-  pub last : HasFollowed failed options before holding bench trace
-  pub text_is : IsTextOfLives [] last.scheduled.report text
-
--- The schedule of a trace was followed up to a token that has used its advances up, on a bench that held this, and is that now: it was armed at the cuts before that token, and lost power behind that run. Its parts and its other stores
--- are as behind a stop.
-pub record HasUsedTurnsOn (options : RunOptions) (old new : BenchState) (holding : Holding) (trace : Traced) : Type 0 where
-  pub basis : Basis
-  pub begun : IsBasis options holding trace.names basis
-  pub used : HasUsedTurns (Rose old.faults new.faults) options basis trace (length (opened (Some begun.geometry) holding.parts)) (without_stores basis.names holding.stores) old new
-
 -- so was that of the trace that was read
 abbrev pub UsesTurns : RunOptions → (input : Option (List ℕ)) → (old new : BenchState) → Holding → Type 0
-UsesTurns options input old new holding = OfRead forms.Sched input (HasUsedTurnsOn options old new holding)
+UsesTurns options input old new holding = OfRead forms.Sched input (UseTurns options old new holding)
 
 -- what the report of a command shows of a bench that held this, and of the input that it had
 abbrev pub IsShown : Command → (input : Option (List ℕ)) → (old new : BenchState) → Holding → (text : List ℕ) → Type 0
 IsShown (Run options) input old new holding text = OfRead forms.Run input (λ trace. IsShownOf options.stop options old new holding trace text)
-IsShown (Sched options) input old new holding text = OfRead forms.Sched input (λ trace. ShowsLives (Rose old.faults new.faults) options old.picked holding new trace text)
+IsShown (Sched options) input old new holding text = OfRead forms.Sched input (λ trace. ShowsLives options old new holding trace text)
 IsShown Recover input old new holding text = HasRecovered holding new.told text
 IsShown (Look files) input old new holding text = HasLooked files holding text
 IsShown (Gen load) input old new holding text = HasGenerated load holding new.told text
@@ -215,3 +210,12 @@ IsCommandRefused (Sched options) input old new holding why = OfRead forms.Sched 
 IsCommandRefused Recover input old new holding why = IsRefusedFor holding.parts why × IsRegionUnwritten old.told new.told why
 IsCommandRefused (Look files) input old new holding why = IsNotShown files holding why
 IsCommandRefused (Gen load) input old new holding why = IsRunRefused load_options holding (generated load).names old new why
+
+-- What a command leaves of a bench that had an input, and held this, where its devices failed only if this says so: of a run, unless the bench is as it was, what one of the trace does that was read; of a schedule the same, life by life, which shows
+-- no call before its end; and of a look its frame says all.
+abbrev pub LeavesLife : (failed : Type 0) → Command → (input : Option (List ℕ)) → (old new : BenchState) → (was : Holding) → (shown : List PlacedCall) → Type 0
+LeavesLife failed (Run options) input old new was shown = ((shown ≡ []) × (new.told ≡ Some was)) ⊎ OfReadSoFar input (λ trace. LeavesRun (TellsRounds failed options.worker) options was trace shown new.told)
+LeavesLife failed (Sched options) input old new was shown = (new.told ≡ Some was) ⊎ OfRead forms.Sched input (λ trace. LeaveLives options old new was trace)
+LeavesLife failed Recover input old new was shown = LeavesRecovery was new.told
+LeavesLife failed (Look files) input old new was shown = Unit {0}
+LeavesLife failed (Gen load) input old new was shown = LeavesRun TellsNothing load_options was (generated load) [] new.told

@@ -1,5 +1,5 @@
 -- In turn: the files of a bench over commands that follow one another on it.
-use Rattle.std.specs.Prelude.{◌≡◌, ℕ, List, [], ◌∷◌, Option, Some}
+use Rattle.std.specs.Prelude.{◌≡◌, ℕ, List, [], ◌∷◌, ◌++◌, Option, Some}
 use Rattle.std.specs.List.{AllZip}
 use Rattle.nv_plain.specs.Files.{Files}
 use Rattle.nv_plain.specs.Histories.{Answered, IsLegal, after}
@@ -10,12 +10,14 @@ use Rattle.nv_open.specs.Begun.{files_behind}
 use Rattle.nv_load.specs.Generated.{generated}
 use Rattle.nv_runner.specs.Faithful.{Basis}
 use Rattle.nv_runner.specs.Reports.{Report}
+use Rattle.nv_trace.specs.Lives.{TracedLife}
 use Rattle.nv_trace.specs.Traced.{Traced}
+use Rattle.nv_trace.specs.declared.trace_call.TracedCall.{TracedCall}
 use Rattle.nv_trace.specs.declared.trace.Form.TheVariants as forms
 use Rattle.nv_top.specs.Commands.{IsBasis}
 use Rattle.nv_top.specs.Endings.{OfRead}
 use Rattle.nv_top.specs.Headline.{IsLeftBy, IsShown}
-use Rattle.nv_top.specs.LifeLines.{IsTextOfLives}
+use Rattle.nv_top.specs.LifeRows.{HaveEnded, ShowsLives, trace_of}
 use Rattle.nv_top.specs.Loads.{load_options}
 use Rattle.nv_top.specs.NextCommands.{FindsFiles, HasOwnNames, IsReportOf, done_by}
 use Rattle.nv_top.specs.Shows.{text_as}
@@ -57,13 +59,26 @@ pub record IsShownLife (IsShownSo : Report → Type 0) (options : RunOptions) (w
   pub wanted_are : life.wanted ≡ trace.names
   pub done_is : life.done ≡ done_by basis trace report
 
+-- what lives that crashes ended did to files: each its own history and kept writes, one behind the other
+abbrev pub done_by_ended : (options : RunOptions) (trace : Traced) (lives : List TracedLife) (calls left : List TracedCall) (old new : BenchState) (was now : Holding) (reports : List Report)
+    → HaveEnded options trace lives calls left old new was now reports → List Answered
+done_by_ended options trace [] calls left old new was now reports ended = []
+done_by_ended options trace (life ∷ later) calls left old new was now reports (behind, then_, held, rest, one, are, ended) =
+    done_by one.followed.basis (trace_of trace calls life.tokens) one.followed.scheduled.report ++ done_by_ended options trace later behind left then_ new held now rest ended
+
+-- and with them the last one
+abbrev pub done_by_lives : (options : RunOptions) (old new : BenchState) (was : Holding) (trace : Traced) (text : List ℕ) → ShowsLives options old new was trace text → List Answered
+done_by_lives options old new was trace text shown =
+    done_by_ended options trace trace.lives trace.calls shown.left old shown.mid was shown.here shown.reports shown.ended
+    ++ done_by shown.last.basis (trace_of trace shown.left trace.tokens) shown.last.scheduled.report
+
 -- The life of a command is the one that its text shows; a recovery and a look do nothing to files.
-abbrev pub IsLifeOf : Command → (input : Option (List ℕ)) → (was : Holding) → (text : List ℕ) → Life → Type 0
-IsLifeOf (Run options) input was text life = OfRead forms.Run input (λ trace. IsShownLife (λ report. text ≡ text_as shows.Report report) options was trace life)
-IsLifeOf (Sched options) input was text life = OfRead forms.Sched input (λ trace. IsShownLife (λ report. IsTextOfLives [] report text) options was trace life)
-IsLifeOf Recover input was text life = life ≡ record { wanted = []; done = [] }
-IsLifeOf (Look files) input was text life = life ≡ record { wanted = []; done = [] }
-IsLifeOf (Gen load) input was text life = IsShownLife (λ report. text ≡ text_as (shows.Summary load) report) load_options was (generated load) life
+abbrev pub IsLifeOf : Command → (input : Option (List ℕ)) → (old new : BenchState) → (was : Holding) → (text : List ℕ) → Life → Type 0
+IsLifeOf (Run options) input old new was text life = OfRead forms.Run input (λ trace. IsShownLife (λ report. text ≡ text_as shows.Report report) options was trace life)
+IsLifeOf (Sched options) input old new was text life = OfRead forms.Sched input (λ trace. (shown : ShowsLives options old new was trace text) × (life ≡ record { wanted = trace.names; done = done_by_lives options old new was trace text shown }))
+IsLifeOf Recover input old new was text life = life ≡ record { wanted = []; done = [] }
+IsLifeOf (Look files) input old new was text life = life ≡ record { wanted = []; done = [] }
+IsLifeOf (Gen load) input old new was text life = IsShownLife (λ report. text ≡ text_as (shows.Summary load) report) load_options was (generated load) life
 
 -- the files that a life begins with, on a bench that held this and stood for those: behind them the new ones, with what their stores held
 abbrev pub files_into : (names : List (List ℕ)) → Files → Holding → Life → Files
@@ -78,7 +93,7 @@ AreInTurn was (one ∷ others) now = (one.was ≡ was) × AreInTurn one.now othe
 
 -- these are the lives of commands
 abbrev pub AreLivesOf : List Followed → List Life → Type 0
-AreLivesOf all lives = AllZip (λ (one : Followed) (life : Life). IsLifeOf one.command one.input one.was one.text life) all lives
+AreLivesOf all lives = AllZip (λ (one : Followed) (life : Life). IsLifeOf one.command one.input one.old one.new one.was one.text life) all lives
 
 -- The names, and the files, after lives in turn: each begins with the files of the one before it, and leaves those after its calls.
 abbrev pub names_in_turn : (names : List (List ℕ)) → List Life → List (List ℕ)
@@ -105,7 +120,7 @@ pub record GoesOn (names : List (List ℕ)) (files : Files) (was : Holding) (lif
 abbrev pub EachHasALife : Type 0
 EachHasALife =
     (one : Followed)
-    → (life : Life) × IsLifeOf one.command one.input one.was one.text life × ((names : List (List ℕ)) (files : Files) → FindsFiles names files one.was → GoesOn names files one.was life one.now)
+    → (life : Life) × IsLifeOf one.command one.input one.old one.new one.was one.text life × ((names : List (List ℕ)) (files : Files) → FindsFiles names files one.was → GoesOn names files one.was life one.now)
 
 -- So it is with any commands in turn: their lives are legal one behind the other, and the bench stands for the files after all of them. A write that one of them lost is in no later one.
 abbrev pub LivesGoOnInTurn : Type 0

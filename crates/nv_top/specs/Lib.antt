@@ -13,6 +13,8 @@ pub mod Outcomes
 pub mod Stopping
 pub mod Behind
 pub mod LifeLines
+pub mod LifeRows
+pub mod Followed
 pub mod Stopped
 pub mod Tied
 pub mod Stops
@@ -21,6 +23,7 @@ pub mod Scheduling
 pub mod Commands
 pub mod Loads
 pub mod Headline
+pub mod LifeOver
 pub mod Lives
 pub mod Reported
 pub mod RunInputs

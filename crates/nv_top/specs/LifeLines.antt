@@ -1,13 +1,17 @@
 -- Life lines: what a life of a schedule shows, and the text of lives in turn.
-use Rattle.std.specs.Prelude.{◌≡◌, ℕ, Bool, true, List, ◌++◌, length, map, IsPermutation, Option}
+use Rattle.std.specs.Prelude.{◌≡◌, ℕ, ◌≤◌, Bool, true, List, ◌++◌, length, map, slice_index_or, IsPermutation, Option}
 use Rattle.std.specs.List.{flat_map}
 use Rattle.std.specs.List.Sorted.{IsNonDecreasingBy}
+use Rattle.nv_plain.specs.Faults.{saturated}
 use Rattle.nv_plain.specs.Files.{Files}
 use Rattle.nv_bench.specs.Holding.{Holding}
 use Rattle.nv_recover.specs.declared.recovering.Recovered as recover
 use Rattle.nv_trace.specs.Report.{refused_text}
+use Rattle.nv_trace.specs.Grammar.{last_thread}
 use Rattle.nv_trace.specs.declared.trace_call.TracedCall.{TracedCall}
+use Rattle.nv_runner.specs.Faithful.{listed_calls}
 use Rattle.nv_runner.specs.Reports.{OpenCall, Report, ShownRefusal, history_lines}
+use Rattle.nv_runner.specs.Shifts.{calls_of_thread}
 use Rattle.nv_runner.specs.declared.sorted.SortedCalls.{SortedCalls}
 use Rattle.nv_top.specs.Fates.{AreShownOpen}
 use Rattle.nv_top.specs.Outcomes.{shown_report}
@@ -41,14 +45,24 @@ pub record AreByLine (lines sorted : List Numbered) : Type 0 where
 
 -- ---- one life
 
--- The lines that a life shows are those of its report, the first place being this; with those of the files, where it is the last.
+-- So many calls of each thread are among some, by its number; a count stands still at 2^64 - 1.
+abbrev pub AreCounts : (calls : List TracedCall) → (counts : List ℕ) → Type 0
+AreCounts calls counts = (thread : ℕ) → thread ≤ last_thread → slice_index_or counts thread 0 ≡ saturated (length (calls_of_thread thread calls))
+
+-- The lines that a life shows are those of its report, the first place being this; with those of the files, where it is the last. So many calls of each thread it lists.
 pub record AreLinesOf (place : ℕ) (last : Bool) (report : Report) (lines : LifeLines) : Type 0 where
   pub placed : lines.placed ≡ length report.history
   pub history : lines.history.items ≡ history_lines place report.history
   pub refused : map line_kept lines.refused.items ≡ map line_shown report.refused
   pub opened : lines.opened ≡ length report.open_calls
   pub open_calls : lines.open_lines.items ≡ open_lines report.open_calls
+  pub listed : AreCounts (listed_calls report) lines.listed
   pub files : last ≡ true → lines.files.items ≡ file_lines report.files
+
+-- Each call that it counts has a line of its own.
+pub record HaveALineEach (lines : LifeLines) : Type 0 where
+  pub placed : lines.placed ≤ length lines.history.items
+  pub opened : lines.opened ≤ length lines.open_lines.items
 
 -- They are those of the report of sorted calls, and of those that were begun beside them, with what a recovery made of them, and with these files.
 pub record ShowsLines (place : ℕ) (last : Bool) (sorted : SortedCalls) (begun : List TracedCall) (lines : LifeLines) (found : recover.Recovered) (names : List (List ℕ)) (files : Files) : Type 0 where
@@ -68,6 +82,11 @@ pub record AreKeptLives (kept : LivesShown) (ended : List Report) : Type 0 where
   pub text : kept.text.items ≡ ended_lines 0 ended
   pub refused : map line_kept kept.refused.items ≡ map line_shown (refused_in_lives ended)
   pub opened : kept.opened ≡ open_in_lives ended
+
+-- and each call that is counted has a line of its own
+pub record KeepALineEach (kept : LivesShown) : Type 0 where
+  pub placed : kept.placed ≤ length kept.text.items
+  pub opened : kept.opened ≤ length kept.text.items
 
 -- The text is that of the report of lives in turn, of which crashes ended these, and then the last one: the refused calls of all of them stand in the order of their lines.
 pub record IsTextOfLives (ended : List Report) (last : Report) (text : List ℕ) : Type 0 where

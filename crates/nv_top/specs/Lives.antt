@@ -14,17 +14,10 @@ use Rattle.nv_runner.specs.Histories.{PlacedCall}
 use Rattle.nv_runner.specs.Lives.{IsHistoryOf, RecoversBehind}
 use Rattle.nv_runner.specs.ShownLives.{LeaveLifeBehind}
 use Rattle.nv_runner.specs.ToldRounds.{TellsRounds}
-use Rattle.nv_load.specs.Generated.{generated}
-use Rattle.nv_trace.specs.declared.trace.Form.TheVariants as forms
 use Rattle.nv_trace.specs.Traced.{Traced}
 use Rattle.nv_top.specs.Commands.{IsBasis}
-use Rattle.nv_top.specs.Endings.{OfRead}
-use Rattle.nv_top.specs.Loads.{load_options}
-use Rattle.nv_top.specs.Rounds.{OfReadSoFar}
 use Rattle.nv_top.specs.declared.show.Show.{Show}
 use Rattle.nv_top.specs.declared.show.Show.TheVariants.{Report, Summary}
-use Rattle.nv_words.specs.declared.words.Command.{Command}
-use Rattle.nv_words.specs.declared.words.Command.TheVariants.{Run, Sched, Recover, Look, Gen}
 use Rattle.nv_words.specs.declared.words.RunOptions.{RunOptions}
 
 -- ---- what is told of rounds
@@ -83,15 +76,6 @@ pub record LeavesRun (Tells : Basis → Traced → (shown later : List PlacedCal
 pub record LeavesRecovery (was : Holding) (told : Option Holding) : Type 0 where
   pub stands : HasHeader was.parts → TellsOf (StandsAsBefore was) told
   pub untouched : ¬ (IsGood was.parts) → TellsOf (IsUntouched was) told
-
--- What a command leaves of a bench that had an input, and held this, where its devices failed only if this says so: of a run, unless the bench is as it was, what one of the trace does that was read; of a schedule the same, which shows
--- no call before its end; and of a look its frame says all.
-abbrev pub LeavesLife : (failed : Type 0) → Command → (input : Option (List ℕ)) → (was : Holding) → (shown : List PlacedCall) → (told : Option Holding) → Type 0
-LeavesLife failed (Run options) input was shown told = ((shown ≡ []) × (told ≡ Some was)) ⊎ OfReadSoFar input (λ trace. LeavesRun (TellsRounds failed options.worker) options was trace shown told)
-LeavesLife failed (Sched options) input was shown told = (told ≡ Some was) ⊎ OfRead forms.Sched input (λ trace. LeavesRun TellsNothing options was trace [] told)
-LeavesLife failed Recover input was shown told = LeavesRecovery was told
-LeavesLife failed (Look files) input was shown told = Unit {0}
-LeavesLife failed (Gen load) input was shown told = LeavesRun TellsNothing load_options was (generated load) [] told
 
 -- Parts and stores tell, and were left so by a run, or a schedule, of a trace from a basis, whose history begins with these calls and tells so of its rounds. The parts have so many lines each.
 pub record AreLeftSo {X Y : Type 0} (Tells : Basis → Traced → (shown later : List PlacedCall) → Type 0) (history : X → lines.PartHistory) (held : Y → stores.StoreHistory) (basis : Basis) (trace : Traced) (shown : List PlacedCall) (counts : List ℕ) (parts : List X) (backing : List Y) : Type 0 where

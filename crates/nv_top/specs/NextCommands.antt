@@ -26,7 +26,8 @@ use Rattle.nv_trace.specs.declared.trace_call.TraceCall.TheVariants.{Pread, Pwri
 use Rattle.nv_trace.specs.Shape.{IsWellFormed}
 use Rattle.nv_trace.specs.Traced.{Traced}
 use Rattle.nv_top.specs.Commands.{HasRecovered, HasRunOn, IsBasis, IsLookedAt, recovery_of}
-use Rattle.nv_top.specs.Headline.{HasFollowed, HasInput, HasStopped, IsLeftBy, IsShown, expected_faults}
+use Rattle.nv_top.specs.Followed.{HasFollowed}
+use Rattle.nv_top.specs.Headline.{HasInput, HasStopped, IsLeftBy, IsShown, expected_faults}
 use Rattle.nv_top.specs.Runs.{next_behind}
 use Rattle.nv_top.specs.Stopping.{next_in}
 use Rattle.nv_top.specs.declared.show.Show.{Show}

@@ -49,6 +49,16 @@ IsBackUnarmed old new = new ≡ record (all_back old) { told = new.told; faults 
 abbrev pub IsPickedOnce : Pick → (old new : BenchState) → Type 0
 IsPickedOnce pick old new = (new.picked ≡ pick ∷ old.picked) ⊎ (new.picked ≡ old.picked)
 
+-- Power went off once more, with this pick, and what it left is kept beside that.
+pub record IsOff (pick : Pick) (old new : BenchState) : Type 0 where
+  pub picked : new.picked ≡ pick ∷ old.picked
+  pub power : Option Holding
+  pub lefts : new.lefts ≡ power ∷ old.lefts
+
+-- or it didn't
+abbrev pub IsOffOnce : Pick → (old new : BenchState) → Type 0
+IsOffOnce pick old new = IsOff pick old new ⊎ ((new.picked ≡ old.picked) × (new.lefts ≡ old.lefts))
+
 -- What a stop says of the count of faults and of what it was when power went off: only after that a device's fault stops the run.
 abbrev pub StopSettles : (settled now : ℕ) → Stop → Type 0
 StopSettles settled now Usage = ⊥

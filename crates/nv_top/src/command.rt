@@ -157,7 +157,7 @@ fn schedule_input<I: Source, B: Bench>(
 {
     images_follow_calls();
     let trace = read_trace(alloc, Form::Sched, src)?;
-    schedule(alloc, bench, options, &trace)
+    schedule(alloc, bench, options, trace)
 }
 
 // The report of a run of the rounds of an input, which may be stopped.

@@ -1,5 +1,5 @@
 //! What a life of a schedule shows, once its region is recovered, and the text of lives in turn.
-ghost use Rattle.std.specs.Prelude.{◌≡◌, ◌≢◌, ◌+◌, ◌^◌, ◌<◌, ◌≤◌, ◌++◌, [], ◌∷◌, Bool, List, ℕ, length, map, sum_by, true, false, Err, IfOk, IfSome, OnOk};
+ghost use Rattle.std.specs.Prelude.{◌≡◌, ◌≢◌, ◌+◌, ◌^◌, ◌<◌, ◌≤◌, ◌++◌, [], ◌∷◌, Bool, List, ℕ, length, map, sum_by, true, false, None, Err, IfOk, IfSome, OnOk};
 ghost use Rattle.nv_plain.specs.Files.{Files};
 ghost use Rattle.nv_pmem.specs.RowStates.{AreNow};
 ghost use Rattle.nv_store.specs.Store.{Store};
@@ -7,11 +7,10 @@ ghost use Rattle.nv_open.specs.Refusals.{IsRefusedFor};
 ghost use Rattle.nv_open.specs.Unopened.{HasHeader, StandsAsBefore, TellsOf};
 ghost use Rattle.nv_recover.specs.Standing.{files_of};
 ghost use Rattle.nv_runner.specs.Faithful.{named};
-ghost use Rattle.nv_runner.specs.FaithfulRuns.{shown_call, shown_refusals};
+ghost use Rattle.nv_runner.specs.FaithfulRuns.{shown_call};
 ghost use Rattle.nv_runner.specs.Reports.{Report};
-ghost use Rattle.nv_runner.specs.Sorted.{refused_call};
 ghost use Rattle.nv_top.specs.Commands.{IsGivenBack};
-ghost use Rattle.nv_top.specs.LifeLines.{AreByLine, AreKeptLives, AreLinesOf, IsTextOfLives, ShowsLife, ShowsLines, line_kept, line_shown, texts_of};
+ghost use Rattle.nv_top.specs.LifeLines.{AreByLine, AreCounts, AreKeptLives, AreLinesOf, HaveALineEach, IsTextOfLives, KeepALineEach, ShowsLife, ShowsLines, line_kept, line_shown, texts_of};
 ghost use Rattle.nv_top.specs.Ready.{IsAtHome};
 ghost use Rattle.nv_top.specs.Reports.{file_lines};
 ghost use Rattle.nv_top.specs.Stops.{CountHasCause};
@@ -20,6 +19,7 @@ ghost use Rattle.nv_top.specs.declared.ending.Stop.TheVariants as stops;
 use crate::ending::Stop;
 use crate::fates::life_fates;
 use crate::files::read_files;
+use crate::outcome::Fated;
 use crate::recovery::parts_have_lines;
 use crate::text::{push, push_files, push_open};
 use nv_bench::Bench;
@@ -28,7 +28,7 @@ use nv_open::{Restored, recover_region};
 use nv_plain::{Bytes, NoMemory};
 use nv_pmem::images_follow_calls;
 use nv_recover::{Recovered, images_stand_for_files};
-use nv_runner::{Refused, Shown, SortedCalls, push_history, show_refusals};
+use nv_runner::{Placed, Shown, SortedCalls, push_history, show_refusals};
 use nv_store::Backing;
 use nv_trace::{TracedCall, end_line, refused_line};
 use std::alloc::Global;
@@ -53,6 +53,8 @@ pub(crate) struct LifeLines {
     pub(crate) opened: u64,
     /// Their lines.
     pub(crate) open_lines: Vec<u8>,
+    /// How many calls of each thread all these lines are of; at most 2^64 - 1.
+    pub(crate) listed: [u64; 8],
     /// Those of the files; none where another life follows, which begins with them.
     pub(crate) files: Vec<u8>,
 }
@@ -71,7 +73,9 @@ pub(crate) fn show_life<T: Bench>(
     ensures back { IsGivenBack (T.state bench.old) (T.state bench.new) }
     ensures shown { IfOk result (λ lines. IfSome (T.state bench.old).told (λ holding. ShowsLife place last holding sorted.entry (map (λ call. call.now) begun.now) (T.state bench.new).told lines)) }
     ensures refused { (why : _) → result ≡ Err (stops.Region why) → IfSome (T.state bench.old).told (λ holding. IsRefusedFor holding.parts why) }
+    ensures each { IfOk result HaveALineEach }
     ensures standing { IfSome (T.state bench.old).told (λ was. HasHeader was.parts → TellsOf (StandsAsBefore was) (T.state bench.new).told) }
+    ensures silent { OnOk result ((T.state bench.old).told ≡ None → (T.state bench.new).told ≡ None) }
     ensures cause { CountHasCause (T.state bench.old).faults (T.state bench.new).faults result }
     ensures turns { result ≢ Err stops.Turns }
     ensures never_falls { (T.state bench.old).faults ≤ (T.state bench.new).faults }
@@ -115,6 +119,7 @@ fn life_lines<B: Backing>(
     requires places { place + length sorted.placed.items < 2 ^ 64 }
     ensures lines { IfOk result (λ lines. (now : List Store) → AreNow (map B.history stores.old.items) now
         → ShowsLines place last sorted.entry (map (λ call. call.now) begun.now) lines found.now names.now (files_of now)) }
+    ensures each { IfOk result HaveALineEach }
     ensures histories { map B.history stores.new.items ≡ map B.history stores.old.items }
     ensures never { (why : _) → ¬ (result ≡ Err (stops.Region why)) }
     ensures cause { CountHasCause (sum_by B.fault_count stores.old.items) (sum_by B.fault_count stores.new.items) result }
@@ -155,8 +160,9 @@ fn calls_lines(
     place: u64,
 ) -> Result<LifeLines, NoMemory>
     requires places { place + length sorted.placed.items < 2 ^ 64 }
-    ensures { IfOk result (λ lines. (last : Bool) (names : List (List ℕ)) (shown : Files) → (last ≡ true → files.items ≡ file_lines (named names shown))
+    ensures lines { IfOk result (λ lines. (last : Bool) (names : List (List ℕ)) (shown : Files) → (last ≡ true → files.items ≡ file_lines (named names shown))
         → ShowsLines place last sorted.entry (map (λ call. call.now) begun.now) lines found.now names shown) }
+    ensures each { IfOk result HaveALineEach }
 {
     let SortedCalls {
         placed,
@@ -165,7 +171,8 @@ fn calls_lines(
     } = sorted;
     let mut history = Vec::new(alloc);
     push_history(alloc, &mut history, place, &placed)?;
-    let refused = refused_texts(alloc, refused)?;
+    let shown = show_refusals(alloc, refused)?;
+    let refused = shown_texts(alloc, &shown)?;
     let fated = life_fates(alloc, &open_calls, begun, found)?;
     let mut open_lines = Vec::new(alloc);
     push_open(alloc, &mut open_lines, &fated)?;
@@ -175,19 +182,39 @@ fn calls_lines(
         refused,
         opened: fated.len() as u64,
         open_lines,
+        listed: count_listed(&placed, &shown, &fated),
         files,
     })
 }
 
-// The lines of refused calls, in their order, each with the number of its call's.
-fn refused_texts(alloc: Global, refused: Vec<Refused<'_>>) -> Result<Vec<RefusedLine>, NoMemory>
-    ensures { IfOk result (λ lines. map line_kept lines.items ≡ map line_shown (shown_refusals (map refused_call refused.entry.items))) }
+// How many calls of each thread are among those that a report lists.
+fn count_listed(placed: &[Placed<'_>], refused: &[Shown<'_>], left: &[Fated<'_>]) -> [u64; 8]
+    ensures { AreCounts (map (λ p. p.call.now) placed.now ++ map (λ r. r.call.now) refused.now ++ map (λ o. o.call.now) left.now) result }
 {
-    let shown = show_refusals(alloc, refused)?;
-    shown_texts(alloc, &shown)
+    let mut counts = [0; 8];
+    for p in placed {
+        count(&mut counts, p.call);
+    }
+    for r in refused {
+        count(&mut counts, r.call);
+    }
+    for o in left {
+        count(&mut counts, o.call);
+    }
+    counts
 }
 
-// The same of refusals that are shown.
+// Counts a call more.
+fn count(counts: &mut [u64; 8], call: &TracedCall)
+    ensures { (calls : List TracedCall) → AreCounts calls counts.old → AreCounts (calls ++ call.now ∷ []) counts.new }
+{
+    let thread = call.thread as usize;
+    if thread < counts.len() {
+        counts[thread] = counts[thread].saturating_add(1);
+    }
+}
+
+// The lines of refusals that are shown, in their order, each with the number of its call's.
 fn shown_texts(alloc: Global, shown: &[Shown<'_>]) -> Result<Vec<RefusedLine>, NoMemory>
     ensures { IfOk result (λ lines. map line_kept lines.items ≡ map line_shown (map shown_call shown.now)) }
 {
@@ -218,7 +245,8 @@ pub(crate) struct LivesShown {
 impl LivesShown {
     /// What is shown before the first life: nothing. Takes no memory.
     pub(crate) fn new(alloc: Global) -> Self
-        ensures { AreKeptLives result [] }
+        ensures none { AreKeptLives result [] }
+        ensures each { KeepALineEach result }
     {
         LivesShown {
             text: Vec::new(alloc),
@@ -230,9 +258,10 @@ impl LivesShown {
 
     /// Takes one more life, which a crash ended.
     pub(crate) fn end_life(&mut self, life: LifeLines) -> Result<(), NoMemory>
-        requires places { self.old.placed + life.placed < 2 ^ 64 }
-        requires opened { self.old.opened + life.opened < 2 ^ 64 }
-        ensures { OnOk result ((ended : List Report) (report : Report) → AreKeptLives self.old ended → AreLinesOf self.old.placed false report life → AreKeptLives self.new (ended ++ report ∷ [])) }
+        requires kept { KeepALineEach self.old }
+        requires each { HaveALineEach life }
+        ensures each { OnOk result (KeepALineEach self.new) }
+        ensures more { OnOk result ((ended : List Report) (report : Report) → AreKeptLives self.old ended → AreLinesOf self.old.placed false report life → AreKeptLives self.new (ended ++ report ∷ [])) }
     {
         self.text.extend_from_slice(&life.history)?;
         self.text.extend_from_slice(&life.open_lines)?;
@@ -245,8 +274,8 @@ impl LivesShown {
 
     /// The text of the report of all lives, with the last one.
     pub(crate) fn text_with(mut self, alloc: Global, last: LifeLines) -> Result<Vec<u8>, NoMemory>
-        requires places { self.placed + last.placed < 2 ^ 64 }
-        requires opened { self.opened + last.opened < 2 ^ 64 }
+        requires kept { KeepALineEach self }
+        requires each { HaveALineEach last }
         ensures { IfOk result (λ text. (ended : List Report) (report : Report) → AreKeptLives self ended → AreLinesOf self.placed true report last → IsTextOfLives ended report text.items) }
     {
         self.text.extend_from_slice(&last.history)?;

@@ -1,5 +1,5 @@
 //! A schedule of a trace, the loss of power behind it, and the recovery.
-ghost use Rattle.std.specs.Prelude.{◌≡◌, ℕ, ◌+◌, ◌^◌, ◌<◌, ◌≤◌, max, [], ◌∷◌, List, None, ◌≢◌, true, false, length, map, sum_by, All, Ok, Err, IfOk, IfSome, OnOk};
+ghost use Rattle.std.specs.Prelude.{◌≡◌, ℕ, ◌+◌, ◌^◌, ◌<◌, ◌≤◌, max, [], ◌∷◌, List, None, ◌≢◌, true, false, length, map, sum_by, All, Ok, Err, IfOk, IfErr, IfSome, OnOk};
 ghost use Rattle.nv_plain.specs.Faults.{Rose, saturated};
 ghost use Rattle.nv_plain.specs.Layouts.{mount_layout};
 ghost use Rattle.nv_pmem.specs.Moments.{Tells};
@@ -17,22 +17,31 @@ ghost use Rattle.nv_table.specs.state.Views.{first_view};
 ghost use Rattle.nv_mount.specs.RisenCounts.{failed_before};
 ghost use Rattle.nv_mount.specs.Telling.{mounted_lines};
 ghost use Rattle.nv_trace.specs.Forms.{has_rounds};
+ghost use Rattle.nv_trace.specs.Reading.{largest_input};
 ghost use Rattle.nv_trace.specs.Said.{said_place};
+ghost use Rattle.nv_trace.specs.Shape.{IsTokenWithin};
+ghost use Rattle.nv_trace.specs.Traced.{token_count};
 ghost use Rattle.nv_runner.specs.Faithful.{Basis};
+ghost use Rattle.nv_schedule.specs.Cuts.{cuts_of};
 ghost use Rattle.nv_schedule.specs.declared.schedule_error.ScheduleError.TheVariants as schedule_errors;
 ghost use Rattle.nv_schedule.specs.declared.scheduled.ScheduledCalls.{ScheduledCalls as AnyCalls};
 ghost use Rattle.nv_top.specs.Commands.{HasRecovered, IsGivenBack};
-ghost use Rattle.nv_top.specs.Headline.{HasUsedTurnsOn, IsRunRefused, ShowsFollowed, ShowsLives, expected_faults};
+ghost use Rattle.nv_top.specs.Followed.{HasUsedTurnsOn, ShowsFollowed};
+ghost use Rattle.nv_top.specs.Headline.{IsRunRefused, expected_faults};
+ghost use Rattle.nv_top.specs.LifeLines.{HaveALineEach, KeepALineEach};
+ghost use Rattle.nv_top.specs.LifeOver.{AreLivesOver, IsLifeEnded, IsLifeStopped};
+ghost use Rattle.nv_top.specs.LifeRows.{trace_of, with_pick};
 ghost use Rattle.nv_top.specs.Lives.{HasLived, LeavesRun, TellsNothing};
 ghost use Rattle.nv_top.specs.Runs.{BeginsMount, HasCache, basis_over};
 ghost use Rattle.nv_top.specs.Scheduling.{HasUsedTurns, IsArmedAt, IsArmedAtSome, ShowsOutcome, ShowsScheduled};
-ghost use Rattle.nv_top.specs.Stopping.{IsAllBack, IsAway, IsPickedOnce, IsSettledStop};
+ghost use Rattle.nv_top.specs.Stopping.{IsAllBack, IsAway, IsOff, IsOffOnce, IsSettledStop};
 ghost use Rattle.nv_top.specs.Stops.{CountHasCause};
 ghost use Rattle.nv_top.specs.Ready.{IsAtHome, IsReady, IsRunnable};
 ghost use Rattle.nv_words.specs.Words.{AreInLimits};
 ghost use Rattle.nv_top.specs.declared.ending.Stop.TheVariants as stops;
 
 use crate::ending::Stop;
+use crate::laws::a_refused_region_shows_nothing;
 use crate::life::{LifeLines, LivesShown, show_life};
 use crate::mounting::{Unmounted, mount_over};
 use crate::names::copy_names;
@@ -49,41 +58,67 @@ use nv_schedule::{
     schedules_are_told, schedules_begin_in_order, schedules_leave_lives, schedules_run_in_the_core,
 };
 use nv_table::Pass;
-use nv_trace::Trace;
+use nv_trace::{EndedLife, Trace};
 use nv_words::RunOptions;
 use std::alloc::Global;
 
-/// Follows the schedule of a trace over a bench, power failing behind it. The text of its report.
+/// Follows the lives of a trace over a bench, each a schedule behind which power fails: those that crashes end, and then the last one. The text of their report.
 pub(crate) fn schedule<T: Bench>(
     alloc: Global,
     bench: &mut T,
     options: RunOptions,
-    trace: &Trace,
+    mut trace: Trace,
 ) -> Result<Vec<u8>, Stop>
     requires ready { IsReady (T.state bench.old) }
     requires images { T.can_lose_power ≡ true }
     requires limits { AreInLimits options }
-    requires trace { IsRunnable trace.now }
-    requires no_rounds { has_rounds trace.now.form ≡ false }
-    ensures runnable { IsRunnable trace.now }
-    ensures back { IsAllBack (T.state bench.new) }
-    ensures cuts { IsArmedAtSome trace.now.tokens (T.state bench.old) (T.state bench.new) }
-    ensures all_cuts { OnOk result (IsArmedAt trace.now.tokens (T.state bench.old) (T.state bench.new)) }
-    ensures picked { IsPickedOnce options.image (T.state bench.old) (T.state bench.new) }
-    ensures cause { IsSettledStop (expected_faults (T.state bench.old) (T.state bench.new)) (T.state bench.new).faults result }
-    ensures turns { result ≡ Err stops.Turns → (T.state bench.new).picked ≡ options.image ∷ (T.state bench.old).picked }
-    ensures used { result ≡ Err stops.Turns → IfSome (T.state bench.old).told (λ holding. HasUsedTurnsOn options (T.state bench.old) (T.state bench.new) holding trace.now) }
-    ensures never_falls { (T.state bench.old).faults ≤ (T.state bench.new).faults }
-    ensures life { IfSome (T.state bench.old).told (λ was. LeavesRun TellsNothing options was trace.now [] (T.state bench.new).told) }
-    ensures followed { IfOk result (λ text. IfSome (T.state bench.old).told (λ holding.
-        ShowsLives (Rose (T.state bench.old).faults (T.state bench.new).faults) options (T.state bench.old).picked holding (T.state bench.new) trace.now text.items)) }
-    ensures refused { (why : _) → result ≡ Err (stops.Region why) → IfSome (T.state bench.old).told (λ holding. IsRunRefused options holding trace.now.names (T.state bench.old) (T.state bench.new) why
-        × ((T.state bench.new).picked ≡ (T.state bench.old).picked)) }
-    ensures unarmed { (why : _) → result ≡ Err (stops.Region why) → IfSome (T.state bench.old).told (λ holding. (T.state bench.new).arms ≡ (T.state bench.old).arms) }
+    requires trace { IsRunnable trace }
+    requires no_rounds { has_rounds trace.form ≡ false }
+    requires few { token_count trace + length trace.lives ≤ largest_input }
+    ensures { AreLivesOver options trace (T.state bench.old) (T.state bench.new) result }
 {
-    let shown = LivesShown::new(alloc);
-    let last = follow_life(alloc, bench, options, trace, shown.placed, true)?;
+    a_refused_region_shows_nothing();
+    let lives = trace.take_lives();
+    let mut shown = LivesShown::new(alloc);
+    for life in lives {
+        end_life(alloc, bench, options, life, &mut trace, &mut shown)?;
+    }
+    let last = follow_life(alloc, bench, options, &trace, shown.placed, true)?;
     Ok(shown.text_with(alloc, last)?)
+}
+
+// Follows a life of a trace that a crash ends over a bench, and keeps its lines; of the calls those that it has begun are dropped then.
+fn end_life<T: Bench>(
+    alloc: Global,
+    bench: &mut T,
+    options: RunOptions,
+    mut life: EndedLife,
+    trace: &mut Trace,
+    shown: &mut LivesShown,
+) -> Result<(), Stop>
+    requires at_home { IsAtHome (T.state bench.old) }
+    requires arms { (T.state bench.old).arms + length life.tokens < 2 ^ 64 }
+    requires settled { (T.state bench.old).settled ≤ (T.state bench.old).faults }
+    requires images { T.can_lose_power ≡ true }
+    requires limits { AreInLimits options }
+    requires trace { IsRunnable trace.old }
+    requires one { trace.old.lives ≡ [] }
+    requires no_rounds { has_rounds trace.old.form ≡ false }
+    requires within { All IsTokenWithin life.tokens }
+    requires kept { KeepALineEach shown.old }
+    ensures stopped { IfErr result (IsLifeStopped (with_pick life.pick options) (trace_of trace.old trace.old.calls life.tokens) (T.state bench.old) (T.state bench.new)) }
+    ensures ended { OnOk result (IsLifeEnded options trace.old life trace.new (T.state bench.old) (T.state bench.new) shown.old shown.new) }
+{
+    let options = RunOptions {
+        image: life.pick(),
+        ..options
+    };
+    trace.swap_tokens(&mut life);
+    let lines = follow_life(alloc, bench, options, trace, shown.placed, false)?;
+    trace.swap_tokens(&mut life);
+    trace.drop_begun(lines.listed);
+    shown.end_life(lines)?;
+    Ok(())
 }
 
 // Follows the schedule of a trace over a bench: opens its region, of these sizes where it is blank, with the files of the trace, lets callers follow the tokens over a mount of them, gives all back, powers
@@ -97,7 +132,9 @@ fn follow_life<T: Bench>(
     last: bool,
 ) -> Result<LifeLines, Stop>
     requires place { place < 2 ^ 63 }
-    requires ready { IsReady (T.state bench.old) }
+    requires at_home { IsAtHome (T.state bench.old) }
+    requires arms { (T.state bench.old).arms + length trace.now.tokens < 2 ^ 64 }
+    requires settled { (T.state bench.old).settled ≤ (T.state bench.old).faults }
     requires images { T.can_lose_power ≡ true }
     requires limits { AreInLimits options }
     requires trace { IsRunnable trace.now }
@@ -106,7 +143,12 @@ fn follow_life<T: Bench>(
     ensures back { IsAllBack (T.state bench.new) }
     ensures cuts { IsArmedAtSome trace.now.tokens (T.state bench.old) (T.state bench.new) }
     ensures all_cuts { OnOk result (IsArmedAt trace.now.tokens (T.state bench.old) (T.state bench.new)) }
-    ensures picked { IsPickedOnce options.image (T.state bench.old) (T.state bench.new) }
+    ensures power { IsOffOnce options.image (T.state bench.old) (T.state bench.new) }
+    ensures off { OnOk result (IsOff options.image (T.state bench.old) (T.state bench.new)) }
+    ensures uncut { OnOk result (cuts_of trace.now.tokens ≡ [] → (T.state bench.new).faults ≡ (T.state bench.old).faults) }
+    ensures settles { (T.state bench.old).settled ≤ (T.state bench.new).settled }
+    ensures silent { OnOk result ((T.state bench.old).told ≡ None → (T.state bench.new).told ≡ None) }
+    ensures each { IfOk result HaveALineEach }
     ensures cause { IsSettledStop (expected_faults (T.state bench.old) (T.state bench.new)) (T.state bench.new).faults result }
     ensures turns { result ≡ Err stops.Turns → (T.state bench.new).picked ≡ options.image ∷ (T.state bench.old).picked }
     ensures used { result ≡ Err stops.Turns → IfSome (T.state bench.old).told (λ holding. HasUsedTurnsOn options (T.state bench.old) (T.state bench.new) holding trace.now) }
@@ -143,7 +185,7 @@ fn schedule_region<T: Bench>(
     requires place { place < 2 ^ 63 }
     requires images { T.can_lose_power ≡ true }
     requires limits { AreInLimits options }
-    requires arms { (T.state bench.old).arms < 2 ^ 63 }
+    requires arms { (T.state bench.old).arms + length trace.now.tokens < 2 ^ 64 }
     requires open { (T.state bench.old).is_open ≡ true }
     requires lent { (T.state bench.old).lent ≡ opened.region.names }
     requires quiet { IfSome (T.state bench.old).told IsQuietHolding }
@@ -158,7 +200,12 @@ fn schedule_region<T: Bench>(
     ensures back { IsAllBack (T.state bench.new) }
     ensures cuts { IsArmedAtSome trace.now.tokens (T.state bench.old) (T.state bench.new) }
     ensures all_cuts { OnOk result (IsArmedAt trace.now.tokens (T.state bench.old) (T.state bench.new)) }
-    ensures picked { IsPickedOnce options.image (T.state bench.old) (T.state bench.new) }
+    ensures power { IsOffOnce options.image (T.state bench.old) (T.state bench.new) }
+    ensures off { OnOk result (IsOff options.image (T.state bench.old) (T.state bench.new)) }
+    ensures uncut { OnOk result (cuts_of trace.now.tokens ≡ [] → (T.state bench.new).faults ≤ before) }
+    ensures settles { (T.state bench.old).settled ≤ (T.state bench.new).settled }
+    ensures silent { OnOk result ((T.state bench.old).told ≡ None → (T.state bench.new).told ≡ None) }
+    ensures each { IfOk result HaveALineEach }
     ensures cause { IsSettledStop (max before (T.state bench.new).settled) (T.state bench.new).faults result }
     ensures never_falls { before ≤ (T.state bench.new).faults }
     ensures never { (why : _) → result ≡ Err (stops.Region why) → (parts : List Part) (now : List Store)
@@ -214,7 +261,7 @@ fn schedule_mount<T: Bench>(
     requires place { place < 2 ^ 63 }
     requires cache { HasCache options.cache mount }
     requires images { T.can_lose_power ≡ true }
-    requires arms { (T.state bench.old).arms < 2 ^ 63 }
+    requires arms { (T.state bench.old).arms + length trace.now.tokens < 2 ^ 64 }
     requires open { (T.state bench.old).is_open ≡ true }
     requires quiet { IfSome (T.state bench.old).told IsQuietHolding }
     requires board { IsOf mount.board pass }
@@ -229,7 +276,12 @@ fn schedule_mount<T: Bench>(
     ensures back { IsAllBack (T.state bench.new) }
     ensures cuts { IsArmedAtSome trace.now.tokens (T.state bench.old) (T.state bench.new) }
     ensures all_cuts { OnOk result (IsArmedAt trace.now.tokens (T.state bench.old) (T.state bench.new)) }
-    ensures picked { IsPickedOnce options.image (T.state bench.old) (T.state bench.new) }
+    ensures power { IsOffOnce options.image (T.state bench.old) (T.state bench.new) }
+    ensures off { OnOk result (IsOff options.image (T.state bench.old) (T.state bench.new)) }
+    ensures uncut { OnOk result (cuts_of trace.now.tokens ≡ [] → (T.state bench.new).faults ≤ before) }
+    ensures settles { (T.state bench.old).settled ≤ (T.state bench.new).settled }
+    ensures silent { OnOk result ((T.state bench.old).told ≡ None → (T.state bench.new).told ≡ None) }
+    ensures each { IfOk result HaveALineEach }
     ensures cause { IsSettledStop (max before (T.state bench.new).settled) (T.state bench.new).faults result }
     ensures never_falls { before ≤ (T.state bench.new).faults }
     ensures never { (why : _) → result ≡ Err (stops.Region why) → (basis : Basis) → BeginsMount basis trace.now mount pass
@@ -303,7 +355,9 @@ fn show_outcome<T: Bench>(
     ensures used { result ≡ Err stops.Turns → outcome.entry ≡ Err schedule_errors.TurnsUsed }
     ensures recovered { result ≡ Err stops.Turns → IfSome (T.state bench.old).told (λ holding. (text : List ℕ) × HasRecovered holding (T.state bench.new).told text) }
     ensures shown { IfOk result (λ lines. IfSome (T.state bench.old).told (λ holding. ShowsOutcome place last holding outcome.entry (T.state bench.new).told lines)) }
+    ensures each { IfOk result HaveALineEach }
     ensures standing { IfSome (T.state bench.old).told (λ was. HasHeader was.parts → TellsOf (StandsAsBefore was) (T.state bench.new).told) }
+    ensures silent { OnOk result ((T.state bench.old).told ≡ None → (T.state bench.new).told ≡ None) }
     ensures cause { IsSettledStop (T.state bench.old).faults (T.state bench.new).faults result }
     ensures never_falls { (T.state bench.old).faults ≤ (T.state bench.new).faults }
 {

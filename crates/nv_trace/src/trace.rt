@@ -210,6 +210,7 @@ impl Trace {
         requires within { All IsTokenWithin life.old.tokens }
         ensures trace { self.new ≡ record self.old { tokens = life.old.tokens } }
         ensures life { life.new ≡ record life.old { tokens = self.old.tokens } }
+        ensures well_formed { IsWellFormed self.new }
     {
         mem::swap(&mut self.lives.tokens, &mut life.tokens);
     }
@@ -222,6 +223,7 @@ impl Trace {
             ≡ drop (slice_index_or begun thread 0) (filter (λ traced. traced.thread == thread) self.old.calls) }
         ensures fewer { length self.new.calls ≤ length self.old.calls }
         ensures lines { IsStrictlyIncreasing (lines_in self.old) → IsStrictlyIncreasing (lines_in self.new) }
+        ensures well_formed { IsWellFormed self.new }
     {
         drop_first(&mut self.calls, begun);
     }

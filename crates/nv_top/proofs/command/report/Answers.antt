@@ -2,8 +2,7 @@ use Rattle.std.proofs.Common.{◌∙◌, ℕ, [], Err, Option, Some, map, refl, 
 use Rattle.std.specs.Prelude.{string_bytes}
 use Rattle.nv_plain.specs.Faults.{Rose}
 use Rattle.nv_bench.specs.Benches.{BenchState}
-use Rattle.nv_top.specs.Headline.{command_over}
-use Rattle.nv_top.specs.Lives.{LeavesLife}
+use Rattle.nv_top.specs.Headline.{LeavesLife, command_over}
 use Rattle.nv_top.specs.Reported.{HasReported}
 use Rattle.nv_top.specs.Stops.{stop_of_words}
 use Rattle.nv_words.specs.declared.words.Command.{Command}
@@ -75,7 +74,7 @@ returns-in-Recover g c =
     (subst (λ over. HasReported over given given faults faults old new [] c.recover.result) (sym (c.in_ok-command.ensures.command ∙ ap Some c.in-Recover.is))
     (counted_reported Recover given given faults old new c.recover.result c.requires.ready made.back (ap (λ (state : BenchState). state.settled) made.back) (ap (λ (state : BenchState). state.arms) made.back) made.cause
     refl tt (λ why is. recovery_refused given old new why (made.refused why is) (made.unwritten why is))
-    (if_told old.told (λ was. LeavesLife (Rose old.faults new.faults) Recover given was [] new.told) (λ was told. record {
+    (if_told old.told (λ was. LeavesLife (Rose old.faults new.faults) Recover given old new was []) (λ was told. record {
       stands = told_at old.told (λ was. HasHeader was.parts → TellsOf (StandsAsBefore was) new.told) was told made.standing;
       untouched = told_at old.told (λ was. ¬ (IsGood was.parts) → TellsOf (IsUntouched was) new.told) was told made.untouched;
     }))
@@ -92,7 +91,7 @@ returns-in-Look g c =
     shown_none _ given given faults faults old new c.look.result _ _
     (subst (λ over. HasReported over given given faults faults old new [] c.look.result) (sym (c.in_ok-command.ensures.command ∙ ap Some c.in-Look.is))
     (counted_reported (Look files) given given faults old new c.look.result c.requires.ready made.left (look_settled files old new made.left) (look_unarmed files old new made.left) made.cause
-    refl tt made.refused (if_told old.told (λ was. LeavesLife (Rose old.faults new.faults) (Look files) given was [] new.told) (λ was told. tt)) made.shown))
+    refl tt made.refused (if_told old.told (λ was. LeavesLife (Rose old.faults new.faults) (Look files) given old new was []) (λ was told. tt)) made.shown))
 
 pub returns-in-Gen : goal.returns-in-Gen
 returns-in-Gen g c =

@@ -4,7 +4,8 @@ use Rattle.std.proofs.lemmas.Result.{IfOk-weaker, on_ok_weaker}
 use Rattle.nv_plain.specs.Faults.{Rose}
 use Rattle.nv_trace.specs.Forms.{has_rounds}
 use Rattle.nv_trace.specs.declared.trace.Form.TheVariants as forms
-use Rattle.nv_top.specs.Headline.{HasUsedTurnsOn, IsShown, ShowsLives}
+use Rattle.nv_top.specs.Headline.{IsShown}
+use Rattle.nv_top.specs.LifeRows.{ArePickedAll, ArePickedSome, IsPickedLast, IsUncutWhole, ShowsLives, UseTurns, all_tokens, picks_of}
 use Rattle.nv_top.specs.Reported.{HasReported}
 use Rattle.nv_top.specs.Scheduling.{IsArmedAt, IsArmedAtSome}
 use Rattle.nv_top.specs.Stops.{stop_of_read}
@@ -43,17 +44,28 @@ returns g c =
     let read = c.in_ok-trace.ensures in
     let made = c.schedule.ensures in
     let result = c.schedule.result in
-    let cuts = inr (of_read forms.Sched given trace (λ trace. IsArmedAtSome trace.tokens old new) read.form made.runnable read.whole made.cuts) in
+    let cuts = inr (of_read forms.Sched given trace (λ trace. IsArmedAtSome (all_tokens trace) old new) read.form made.runnable read.whole made.cuts) in
     let all = on_ok_weaker result
-    (λ (all : IsArmedAt trace.tokens old new). of_read forms.Sched given trace (λ trace. IsArmedAt trace.tokens old new) read.form made.runnable read.whole all)
+    (λ (all : IsArmedAt (all_tokens trace) old new). of_read forms.Sched given trace (λ trace. IsArmedAt (all_tokens trace) old new) read.form made.runnable read.whole all)
     made.all_cuts in
+    let picks = inr (of_read forms.Sched given trace (λ trace. ArePickedSome (picks_of options trace) old new) read.form made.runnable read.whole made.picked) in
+    let all_picks = on_ok_weaker result
+    (λ (all : ArePickedAll (picks_of options trace) old new). of_read forms.Sched given trace (λ trace. ArePickedAll (picks_of options trace) old new) read.form made.runnable read.whole all)
+    made.all_picked in
+    let uncut = on_ok_weaker result
+    (λ (uncut : IsUncutWhole trace old new). of_read forms.Sched given trace (λ trace. IsUncutWhole trace old new) read.form made.runnable read.whole uncut)
+    made.uncut in
     subst (λ now. HasReported (Some (Sched options)) given left faults now old new [] result) (sym (read.kept (λ is. cc)))
-    (settled_reported (Sched options) given left faults old new result (made.back, made.picked) made.cause made.never_falls (λ followed. was_read forms.Sched given left trace read.whole read.at_end) (cuts, all) (λ is. (made.turns is, of_held forms.Sched given old.told trace (λ holding. HasUsedTurnsOn options old new holding) read.form made.runnable read.whole (made.used is)))
+    (settled_reported (Sched options) given left faults old new result made.back made.cause made.never_falls (λ followed. was_read forms.Sched given left trace read.whole read.at_end) (cuts, all, picks, all_picks, uncut)
+    (λ is. (
+      of_read forms.Sched given trace (λ trace. IsPickedLast (picks_of options trace) old new) read.form made.runnable read.whole (made.turns is),
+      of_held forms.Sched given old.told trace (λ holding. UseTurns options old new holding) read.form made.runnable read.whole (made.used is),
+    ))
     (λ why is. schedule_refused options given old new trace why read.form made.runnable read.whole (made.refused why is))
     made.unarmed
-    (schedule_from (Rose old.faults new.faults) options given old.told new.told trace read.form made.runnable read.whole made.life)
+    (schedule_from (Rose old.faults new.faults) options given old new trace read.form made.runnable read.whole made.life)
     (IfOk-weaker result
-    (λ text. IfSome old.told (λ holding. ShowsLives (Rose old.faults new.faults) options old.picked holding new trace text.items))
+    (λ text. IfSome old.told (λ holding. ShowsLives options old new holding trace text.items))
     (λ text. IfSome old.told (λ holding. IsShown (Sched options) given old new holding text.items))
-    (λ text ran. of_held forms.Sched given old.told trace (λ holding trace. ShowsLives (Rose old.faults new.faults) options old.picked holding new trace text.items) read.form made.runnable read.whole ran)
+    (λ text ran. of_held forms.Sched given old.told trace (λ holding trace. ShowsLives options old new holding trace text.items) read.form made.runnable read.whole ran)
     made.followed))

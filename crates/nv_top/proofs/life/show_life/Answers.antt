@@ -1,4 +1,4 @@
-use Rattle.std.proofs.Common.{◌≡◌, ℕ, List, IfSome, map, sym, ap, subst}
+use Rattle.std.proofs.Common.{◌≡◌, List, IfSome, map, sym, ap, subst}
 use Rattle.std.proofs.lemmas.Result.{IfOk-weaker}
 use Rattle.nv_pmem.specs.RowStates.{AreNow}
 use Rattle.nv_store.specs.Steps as stores
@@ -6,7 +6,7 @@ use Rattle.nv_store.specs.Store.{Store}
 use Rattle.nv_recover.specs.Standing.{files_of}
 use Rattle.nv_recover.specs.Telling.{AllTell}
 use Rattle.nv_open.specs.Held.{HoldFiles, IsRecovered, files_named}
-use Rattle.nv_bench.specs.Holding.{Holding, named_stores}
+use Rattle.nv_bench.specs.Holding.{named_stores}
 use Rattle.nv_top.specs.LifeLines.{ShowsLife, ShowsLines}
 use Rattle.nv_top.proofs.StoppingLemmas.{at_some, if_some, shows}
 use Rattle.std.proofs.Common.{◌∙◌, ◌++◌, ◌<◌, All, length}

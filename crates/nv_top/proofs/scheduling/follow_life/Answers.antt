@@ -15,7 +15,8 @@ use Rattle.nv_open.specs.declared.error.OpenError.TheVariants.{Refused}
 use Rattle.nv_open.proofs.Homes.{all_away}
 use Rattle.nv_recover.specs.Standing.{files_of}
 use Rattle.nv_trace.specs.Said.{said_place}
-use Rattle.nv_top.specs.Headline.{HasUsedTurnsOn, IsRunRefused, ShowsFollowed}
+use Rattle.nv_top.specs.Followed.{HasUsedTurnsOn, ShowsFollowed}
+use Rattle.nv_top.specs.Headline.{IsRunRefused}
 use Rattle.nv_top.specs.Runs.{basis_over}
 use Rattle.nv_top.specs.Scheduling.{HasUsedTurns, ShowsScheduled}
 use Rattle.nv_top.specs.Stopping.{IsAway}
@@ -43,7 +44,7 @@ pub schedule_region-requires-clause-quiet : goal.schedule_region-requires-clause
 schedule_region-requires-clause-quiet g c κs within =
     let old = g.T.Bench.state c.args.bench.now in
     let With : BenchState → Type 0 = λ bench. IfSome bench.told IsQuietHolding in
-    subst With (sym c.in_ok-opened.ensures.lent) (quiet_left c.images_follow_calls.ensures.blank c.in_ok-opened.opened.region.names old.told c.requires.ready.at_home.quiet)
+    subst With (sym c.in_ok-opened.ensures.lent) (quiet_left c.images_follow_calls.ensures.blank c.in_ok-opened.opened.region.names old.told c.requires.at_home.quiet)
 
 pub schedule_region-requires-clause-known : goal.schedule_region-requires-clause-known
 schedule_region-requires-clause-known g c κs within =
@@ -83,9 +84,9 @@ returns-clause-followed g c =
     let scheduled =
     subst (λ many. Over old.faults old.picked many left.stores) parts_made (subst (λ before. Over old.faults before (length region.parts.items) left.stores) (ap (λ (state : BenchState). state.picked) made.lent)
     (subst (λ count. Over count mid.picked (length region.parts.items) left.stores) same
-    (told_at mid.told (λ left. IsAway region.names left → Over lent mid.picked (length region.parts.items) left.stores) left (mid_told old mid region.names holding made.lent c.requires.ready.at_home.home told)
+    (told_at mid.told (λ left. IsAway region.names left → Over lent mid.picked (length region.parts.items) left.stores) left (mid_told old mid region.names holding made.lent c.requires.at_home.home told)
     (ran parts.states opened.files.held parts.are opened.files.are)
-    (all_away region.names holding.stores (home_distinct old holding (g.met.T.Bench.named c.args.bench.now) told c.requires.ready.at_home.home))))) in
+    (all_away region.names holding.stores (home_distinct old holding (g.met.T.Bench.named c.args.bench.now) told c.requires.at_home.home))))) in
     (record { basis = basis; begun = opened_basis options holding _ _ trace.names _ _ _ _ _ opened refl refl (c.in_ok-wanted.ensures ∙ c.names.ensures); scheduled = scheduled.0 }, scheduled.1)))
     c.schedule_region.ensures.scheduled
 
@@ -100,7 +101,7 @@ returns-clause-refused g c why is =
     if_told old.told (λ holding. IsRunRefused c.args.options holding names old new why × (new.picked ≡ old.picked)) (λ holding told.
     let opened = told_at old.told _ holding told made.opened in
     let parts = present (map g.T.Part.Lines.history region.parts.items) (told_at old.told _ holding told made.tell) in
-    let some = mid_told old mid region.names holding made.lent c.requires.ready.at_home.home told in
+    let some = mid_told old mid region.names holding made.lent c.requires.at_home.home told in
     let none = c.schedule_region.ensures.never why is parts.states opened.files.held parts.are opened.files.are in
     absurd (not_both (sym some ∙ none)))
 
@@ -114,7 +115,7 @@ returns-clause-unarmed g c why is =
     if_told old.told (λ holding. new.arms ≡ old.arms) (λ holding told.
     let opened = told_at old.told _ holding told made.opened in
     let parts = present (map g.T.Part.Lines.history region.parts.items) (told_at old.told _ holding told made.tell) in
-    let some = mid_told old mid region.names holding made.lent c.requires.ready.at_home.home told in
+    let some = mid_told old mid region.names holding made.lent c.requires.at_home.home told in
     absurd (not_both (sym some ∙ c.schedule_region.ensures.never why is parts.states opened.files.held parts.are opened.files.are)))
 
 pub returns-in_err-opened-clause-unarmed : goal.returns-in_err-opened-clause-unarmed
@@ -163,7 +164,7 @@ returns-clause-all_cuts g c =
 pub returns-in_err-wanted-clause-life : goal.returns-in_err-wanted-clause-life
 returns-in_err-wanted-clause-life g c =
     let old = g.T.Bench.state c.args.bench.now in
-    still_run _ old old c.args.options c.args.trace.now c.images_follow_calls.ensures.quiet refl c.requires.ready.at_home.quiet
+    still_run _ old old c.args.options c.args.trace.now c.images_follow_calls.ensures.quiet refl c.requires.at_home.quiet
 
 pub returns-clause-life : goal.returns-clause-life
 returns-clause-life g c =
@@ -187,9 +188,9 @@ returns-clause-life g c =
         begun = begun;
         lived = lived_on basis trace (line_counts parts.states) (line_counts (opened_parts (Some begun.geometry) holding.parts)) holding.stores new.told
             (row_tells_at (map history region.parts.items) (λ now. line_counts now ≡ line_counts (opened_parts (Some begun.geometry) holding.parts)) parts.states parts.are (told_at old.told _ holding told made.lines))
-            (told_at mid.told (λ left. IsAway region.names left → HasLived TellsNothing basis trace [] (line_counts parts.states) left.stores new.told) left (mid_told old mid region.names holding made.lent c.requires.ready.at_home.home told)
+            (told_at mid.told (λ left. IsAway region.names left → HasLived TellsNothing basis trace [] (line_counts parts.states) left.stores new.told) left (mid_told old mid region.names holding made.lent c.requires.at_home.home told)
             (c.schedule_region.ensures.life parts.states opened.files.held parts.are opened.files.are)
-            (all_away region.names holding.stores (home_distinct old holding (g.met.T.Bench.named c.args.bench.now) told c.requires.ready.at_home.home)));
+            (all_away region.names holding.stores (home_distinct old holding (g.met.T.Bench.named c.args.bench.now) told c.requires.at_home.home)));
       });
     })
 
@@ -211,9 +212,9 @@ returns-clause-used g c is =
     let left : Holding = record { parts = []; stores = without_stores region.names holding.stores } in
     let Over : ℕ → ℕ → List NamedStore → BenchState → Type 0 = λ count many others bench. HasUsedTurns (Rose count new.faults) options basis trace many others bench new in
     let same : lent ≡ old.faults = omega (arith, made.counts) in
-    let used = told_at mid.told (λ left. IsAway region.names left → Over lent (length region.parts.items) left.stores mid) left (mid_told old mid region.names holding made.lent c.requires.ready.at_home.home told)
+    let used = told_at mid.told (λ left. IsAway region.names left → Over lent (length region.parts.items) left.stores mid) left (mid_told old mid region.names holding made.lent c.requires.at_home.home told)
     (c.schedule_region.ensures.used is parts.states opened.files.held parts.are opened.files.are)
-    (all_away region.names holding.stores (home_distinct old holding (g.met.T.Bench.named c.args.bench.now) told c.requires.ready.at_home.home)) in
+    (all_away region.names holding.stores (home_distinct old holding (g.met.T.Bench.named c.args.bench.now) told c.requires.at_home.home)) in
     record {
       basis = basis;
       begun = opened_basis options holding _ _ trace.names _ _ _ _ _ opened refl refl (c.in_ok-wanted.ensures ∙ c.names.ensures);

@@ -18,8 +18,8 @@ use Rattle.nv_schedule.specs.CoreRuns.{HasRunInCore}
 use Rattle.nv_schedule.specs.declared.scheduled.ScheduledCalls.{ScheduledCalls}
 use Rattle.nv_top.specs.Commands.{HasRecovered}
 use Rattle.nv_top.specs.Scheduling.{HasUsedTurns, ShowsOutcome, ShowsScheduled}
-use Rattle.nv_top.specs.Stopping.{IsAway, IsSettledStop}
-use Rattle.nv_top.proofs.SchedulingLemmas.{armed_at_all, armed_at_some, failed_cut, has_scheduled, has_used, of_trace, settled_memory, still_all, still_some}
+use Rattle.nv_top.specs.Stopping.{IsAway, IsOff, IsSettledStop}
+use Rattle.nv_top.proofs.SchedulingLemmas.{armed_at_all, armed_at_some, failed_cut, has_scheduled, has_used, of_trace, ok_settled, on_any, settled_memory, still_all, still_some, uncut_low, uncut_same}
 use Rattle.nv_top.proofs.PoweredHomes.{part_shown, parts_counted, store_shown}
 use Rattle.nv_top.proofs.StoppingLemmas.{HasClosedOver, at_some, failed_same, home_with, if_some, left_behind, none_unless, quiet_after, rose_home}
 use Rattle.nv_top.proofs.UnrefusedLemmas.{never_refused}
@@ -386,3 +386,35 @@ returns-clause-used g c is basis begins named =
     (ap (λ (s : BenchState). s.arms) c.show_outcome.ensures.back ∙ ap (λ (s : BenchState). s.arms) c.in_ok-power.ensures.off ∙ ap (λ (s : BenchState). s.arms) c.give_back.ensures.taken)
     (ap (λ (s : BenchState). s.armed) c.show_outcome.ensures.back ∙ ap (λ (s : BenchState). s.armed) c.in_ok-power.ensures.off ∙ ap (λ (s : BenchState). s.armed) c.give_back.ensures.taken)
     behind.whole)
+
+pub returns-clause-off : goal.returns-clause-off
+returns-clause-off g c =
+    let state = g.T.Bench.state in
+    let options = c.args.options in
+    let off : IsOff options.image (state c.args.bench.now) (state c.show_outcome.new.bench) = record {
+      picked = ap (λ (s : BenchState). s.picked) c.show_outcome.ensures.back ∙ ap (λ (s : BenchState). s.picked) c.in_ok-power.ensures.off
+          ∙ ap (λ (s : BenchState). options.image ∷ s.picked) c.give_back.ensures.taken ∙ ap (λ (s : BenchState). options.image ∷ s.picked) c.run_schedule-closed.ensures.armed;
+      power = option_map (powered options.image) (state c.give_back.new.self).told;
+      lefts = ap (λ (s : BenchState). s.lefts) c.show_outcome.ensures.back ∙ ap (λ (s : BenchState). s.lefts) c.in_ok-power.ensures.off
+          ∙ ap (λ (s : BenchState). option_map (powered options.image) (state c.give_back.new.self).told ∷ s.lefts) c.give_back.ensures.taken
+          ∙ ap (λ (s : BenchState). option_map (powered options.image) (state c.give_back.new.self).told ∷ s.lefts) c.run_schedule-closed.ensures.armed;
+    } in
+    on_any c.show_outcome.result off
+
+pub returns-clause-uncut : goal.returns-clause-uncut
+returns-clause-uncut g c =
+    let state = g.T.Bench.state in
+    let tokens = c.args.trace.now.tokens in
+    let start = state c.args.bench.now in
+    let armed = state c.run_schedule-closed.new.bench in
+    let home = state c.give_back.new.self in
+    let off = state c.power.new.self in
+    let last = state c.show_outcome.new.bench in
+    let outcome = c.run_schedule-closed.result.outcome in
+    let ran = c.run_schedule-closed.ensures.ran in
+    let most : home.faults ≤ 2 ^ 64 - 1 = (let is = ap (λ (s : BenchState). s.faults) c.give_back.ensures.taken in omega (arith, is)) in
+    ok_settled c.show_outcome.result off.faults last.faults c.show_outcome.ensures.followed c.show_outcome.ensures.cause (λ followed same none.
+    let as_before = uncut_same c.args.mount tokens c.args.trace.now.calls c.args.options.batch ran.0 start armed outcome
+    (of_trace c.args.mount c.args.trace.now c.args.options.batch c.args.pass ran.0 start armed outcome c.tokens.result.now c.calls.result.now c.tokens.ensures.tokens c.calls.ensures.calls ran.1).told followed.0 followed.1 none in
+    let low = uncut_low c.run_schedule-closed.result.cut start armed home c.args.before c.run_schedule-closed.ensures.cut as_before (c.has_failed.ensures.sound c.if-has_failed.false) c.requires.settled most in
+    omega (arith, low, same, ap (λ (s : BenchState). s.faults) c.in_ok-power.ensures.off))

@@ -27,3 +27,8 @@ returns-clause-lines c =
     let trace : Traced = record { form = c.self.inside.form; names = c.self.inside.names.items; descriptors = c.self.inside.descriptors.items; calls = c.self.inside.calls.items; rounds = c.self.inside.rounds; lives = c.self.inside.lives.ended; tokens = c.self.inside.lives.tokens } in
     λ rise. subst (λ (calls : List TracedCall). IsStrictlyIncreasing (lines_in (record trace { calls = calls }))) (sym c.drop_first.ensures)
     (lines_behind trace c.args.begun (subst (λ (trace : Traced). IsStrictlyIncreasing (lines_in trace)) (sym c.self.view_is) rise))
+
+pub returns-clause-well_formed : goal.returns-clause-well_formed
+returns-clause-well_formed c =
+    let trace : Traced = record { form = c.self.inside.form; names = c.self.inside.names.items; descriptors = c.self.inside.descriptors.items; calls = c.self.inside.calls.items; rounds = c.self.inside.rounds; lives = c.self.inside.lives.ended; tokens = c.self.inside.lives.tokens } in
+    subst (λ (calls : List TracedCall). IsWellFormed (record trace { calls = calls })) (sym c.drop_first.ensures) (formed_behind trace c.args.begun c.self.invariant)
