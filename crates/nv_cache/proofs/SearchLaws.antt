@@ -1,13 +1,13 @@
 -- Searches: the steps of a search for a buffer are the core's.
-use Rattle.std.proofs.Common.{◌≡◌, ◌≢◌, ℕ, ◌+◌, ◌*◌, ◌%◌, ◌<◌, ◌≤◌, ◌==◌, ◌&&◌, nat_lt, Bool, true, false, if◌then◌else◌, List, [], inl, refl, sym, ap, ap₂, subst, ◌∙◌, arith}
+use Rattle.std.proofs.Common.{◌≡◌, ◌≢◌, ℕ, ◌+◌, ◌*◌, ◌%◌, ◌<◌, ◌≤◌, ◌==◌, ◌&&◌, nat_lt, Bool, true, false, if◌then◌else◌, List, [], inl, refl, sym, ap, ap₂, subst, ◌∙◌, arith, ◌++◌}
 use Rattle.std.specs.Prelude.{Option, Some, None}
 use Rattle.std.proofs.lemmas.Bool.{lt-ltb, ltb-true, ltb-false}
 use Rattle.std.proofs.lemmas.Nat.{mod_below}
 use Rattle.nv_plain.specs.Histories.{Answered}
 use Rattle.nv_core.specs.invariant.InvariantLaws.{RunsAreSound}
-use Rattle.nv_core.specs.invariant.Ownership.{is_among}
+use Rattle.nv_core.specs.invariant.Ownership.{is_among, one_if}
 use Rattle.nv_core.specs.state.Core.{values_given, values_stepped, with_value}
-use Rattle.nv_core.specs.state.Passes.{Pass, Searching, end_page, end_read, first_page, times}
+use Rattle.nv_core.specs.state.Passes.{Pass, Searching, end_page, end_read, first_page, times, pages_of}
 use Rattle.nv_core.specs.state.Passes as core
 use Rattle.nv_core.specs.state.Values.{lacks_buffer, received}
 use Rattle.nv_core.specs.state.Words.{Sizes, Word, HINT, PAGE, DIRTY, page_total}
@@ -18,7 +18,7 @@ use Rattle.nv_core.specs.steps.PassSteps.{stepped, pages_after}
 use Rattle.nv_core.specs.steps.StepKinds.{JustNow}
 use Rattle.nv_core.proofs.state.Changes.{word_here, word_else}
 use Rattle.nv_core.proofs.steps.NextSteps.{steps_are_next}
-use Rattle.nv_table.specs.state.Opened.{Opened, mount_of}
+use Rattle.nv_table.specs.state.Opened.{Opened, mount_of, IsRunOf}
 use Rattle.nv_table.specs.state.States.{PassState}
 use Rattle.nv_table.specs.state.Views.{PassView, OwnsSlots, pass_of, values_of, still_owned}
 use Rattle.nv_table.specs.steps.CallSteps.{Precondition}
@@ -40,7 +40,12 @@ use Rattle.nv_cache.specs.declared.search.SearchMachine.{SearchMachine}
 use Rattle.nv_cache.specs.Searches.{Fits, FitsAt, IsInCall, IsOpen, IsSameBut, IsUnderWay, IsVictim, KnowsAt, LacksAt, again, locks, search_after_at, search_call_of, search_control_at, search_mirror_at, search_op_at, search_owned_at, turned, values_moved_at}
 use Rattle.nv_cache.specs.Tries.{plain_step}
 use Rattle.nv_cache.proofs.SearchFacts.{lacking_invalid, lacks_no_more, page_once, page_once_still, victim_apart}
-use Rattle.nv_cache.proofs.StepLaws.{call_on, history_before, kept_there, opened_there, pass_there, taken_there}
+use Rattle.nv_cache.proofs.StepLaws.{call_on, history_before, kept_there, opened_there, pass_there, taken_there, call_here}
+use Rattle.nv_core.specs.invariant.CleanerOwnership.{count_in}
+use Rattle.nv_core.specs.invariant.ControlFacts.{ControlFacts, PagesAt}
+use Rattle.nv_core.specs.steps.ControlSteps.{hinted}
+use Rattle.nv_core.proofs.invariant.PageLists.{pages_among}
+use Rattle.nv_table.specs.steps.SeatSteps.{events, act_of}
 
 -- its operations say nothing of the pass
 pub search_fits : (sizes : Sizes) (pass : Pass) (m : SearchMachine) (control : SearchControl) → OpFits sizes None pass (search_op_at m control)
@@ -240,11 +245,11 @@ module _ (m : SearchMachine) (start now before new : PassState) (found : ℕ) (f
   -- ---- the HINT of a buffer
 
   module _ (buffer : ℕ) (low : buffer < sizes_now.buffers) (lacks : lacks_buffer (values_now (PAGE m.page)) ≡ true) (called : IsInCall m (searches.LoadHint buffer) start now) (step : Postcondition before None (Load (HINT buffer)) found new) where
-    hint_then : (search : core.Search) → (if is_among (first_page sizes_now (search_call_of m)) (end_page sizes_now (search_call_of m)) found then core.NotFound else core.TakeVictim buffer found) ≡ search
+    hint_then : (search : core.Search) → (if count_in (pass_of now.view).pages found == 0 then core.TakeVictim buffer found else core.NotFound) ≡ search
         → InCall control_mirror (search_call_of m) None (record (search_mirror_at m (searches.LoadHint buffer)) { control = Searching m.page m.tries search }) None None start new
     hint_then search is =
-        call_on now before new (Load (HINT buffer)) found between step (is_open_free m start now fits (searches.LoadHint buffer) tt called) (search_call_of m) (search_mirror_at m (searches.LoadHint buffer)) _ start called
-        (λ pass number history. ap (λ s. record (search_mirror_at m (searches.LoadHint buffer)) { control = Searching m.page m.tries s }) is)
+        call_here now before new (Load (HINT buffer)) found between step (is_open_free m start now fits (searches.LoadHint buffer) tt called) (search_call_of m) (search_mirror_at m (searches.LoadHint buffer)) _ start called
+        (λ number history. ap (λ s. record (search_mirror_at m (searches.LoadHint buffer)) { control = Searching m.page m.tries s }) is)
         (λ pass. refl) refl refl refl (λ sizes number history pass. refl) (λ pass number. refl)
 
     -- it names a page of the mount
@@ -254,12 +259,28 @@ module _ (m : SearchMachine) (start now before new : PassState) (found : ℕ) (f
         subst (λ (v : PassView). found < page_total v.opened.sizes) between.view
         (subst (λ n. n < page_total before.view.opened.sizes) at.word_is (at.sound.searches.hints buffer (subst (λ (v : PassView). buffer < v.opened.sizes.buffers) (sym between.view) low)))
 
+    -- the pass has taken all pages of its call
+    hint_pages : RunsAreSound → IsMount (mount_of before.view.opened) → (pass_of now.view).pages ≡ pages_of sizes_now (search_call_of m)
+    hint_pages sound mount =
+        let run : IsRunOf before.view.opened (step.steps.run ++ events before.view.number step.works (act_of None (Load (HINT buffer)) found)) = step.steps.is_run in
+        let facts : ControlFacts before.view.opened.sizes (pass_of new.view) =
+        subst (λ (v : PassView). ControlFacts before.view.opened.sizes (pass_of v)) (sym step.steps.is) ((sound (mount_of before.view.opened) (step.steps.run ++ events before.view.number step.works (act_of None (Load (HINT buffer)) found)) mount run).control_facts before.view.number) in
+        let there = subst (λ p. PagesAt before.view.opened.sizes p p.control) (pass_there now before new (Load (HINT buffer)) found between step (is_open_free m start now fits (searches.LoadHint buffer) tt called)) facts.pages in
+        let stands = ap (λ (c : MirroredControl). c.control) called.mirrors in
+        let all = subst (λ c. PagesAt before.view.opened.sizes (stepped now.view.opened.sizes before.view.number (history_before now before new (Load (HINT buffer)) found between step (is_open_free m start now fits (searches.LoadHint buffer) tt called)) (Load (HINT buffer)) found (pass_of now.view)) (hinted (pass_of now.view).pages buffer found c)) stands there in
+        all ∙ ap₂ pages_of (ap (λ (v : PassView). v.opened.sizes) between.view) (ap (λ (c : MirroredControl). c.call) called.mirrors)
+
     hint_on : RunsAreSound → IsMount (mount_of before.view.opened) → (own : Bool) → is_among m.first (m.first + m.pages) found ≡ own → IsUnderWay (if own then again sizes_now m None else record m { control = searches.TakeVictim buffer found }) start new
     hint_on sound mount own is =
         let page = moves_page (searches.LoadHint buffer) tt low called step in
         let among : is_among (first_page sizes_now (search_call_of m)) (end_page sizes_now (search_call_of m)) found ≡ own = sym (ap₂ (λ first pages. is_among first (first + pages) found) fits.first fits.pages) ∙ is in
-        by own is (hint_then _ (ap (λ b. if b then core.NotFound else core.TakeVictim buffer found) among)) (ap lacks_buffer page ∙ lacks)
+        let counted : count_in (pass_of now.view).pages found ≡ one_if own = pages_among sizes_now (search_call_of m) (pass_of now.view).pages (hint_pages sound mount) found ∙ ap one_if among in
+        by own is (hint_then _ (ap (λ n. if n == 0 then core.TakeVictim buffer found else core.NotFound) counted ∙ choice own)) (ap lacks_buffer page ∙ lacks)
       where
+        choice : (own : Bool) → (if one_if own == 0 then core.TakeVictim buffer found else core.NotFound) ≡ (if own then core.NotFound else core.TakeVictim buffer found)
+        choice true = refl
+        choice false = refl
+
         by : (own : Bool) → is_among m.first (m.first + m.pages) found ≡ own
             → InCall control_mirror (search_call_of m) None (record (search_mirror_at m (searches.LoadHint buffer)) { control = Searching m.page m.tries (if own then core.NotFound else core.TakeVictim buffer found) }) None None start new
             → lacks_buffer (values_of new.view (PAGE m.page)) ≡ true → IsUnderWay (if own then again sizes_now m None else record m { control = searches.TakeVictim buffer found }) start new

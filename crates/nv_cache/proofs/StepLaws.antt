@@ -56,18 +56,26 @@ module _ (now before new : PassState) (op : Op) (found : ℕ) (between : IsBetwe
   pub taken_there : HasTaken (plain_step op found) now new
   taken_there = record { before = before; between = between; stepped = step; works_are = none }
 
-  -- and its call goes on, where its machine goes on with the core
+  -- and its call goes on, where its machine goes on with the core from the pass as it is
+  pub call_here : (call : FileCall) (is then_is : MirroredControl) (start : PassState) (called : InCall control_mirror call None is None None start now)
+      → ((number : ℕ) (history : List Answered) → mirrored_control (stepped now.view.opened.sizes number history op found (with_mirrored_control is (pass_of now.view))) ≡ then_is)
+      → ((pass : Pass) → left_after pass op ≡ pass.left) → refused_by now.view.opened.sizes call (head_in called.steps) [] op found ≡ None → place_by op found ≡ None → is_own call None op ≡ true
+      → ((sizes : Sizes) (number : ℕ) (history : List Answered) (pass : Pass) → (stepped sizes number history op found pass).seen ≡ pass.seen) → ((pass : Pass) (number : ℕ) → mine_after number pass op ≡ pass.mine)
+      → InCall control_mirror call None then_is None None start new
+  call_here call is then_is start called goes leaves refuses places may seen mine =
+      worked_on control_mirror call is None None start now before called between op found new step then_is None None
+      (λ number history mirrors.
+      ap (λ works. mirrored_control (stepped before.view.opened.sizes number history op found (pass_worked before.view.opened.sizes works (pass_of before.view)))) none
+      ∙ ap (λ c. mirrored_control (stepped before.view.opened.sizes number history op found (with_mirrored_control c (pass_of before.view)))) mirrors
+      ∙ ap (λ (v : PassView). mirrored_control (stepped v.opened.sizes number history op found (with_mirrored_control is (pass_of v)))) between.view
+      ∙ goes number history)
+      leaves (ap (λ works. refused_by now.view.opened.sizes call (head_in called.steps) works op found) none ∙ refuses) places may
+      (worked_told control_mirror call is None None start now before called between op found new step seen mine)
+
+  -- so it does where the machine goes on from any pass that it mirrors
   pub call_on : (call : FileCall) (is then_is : MirroredControl) (start : PassState) (called : InCall control_mirror call None is None None start now)
       → ((pass : Pass) (number : ℕ) (history : List Answered) → mirrored_control (stepped now.view.opened.sizes number history op found (with_mirrored_control is pass)) ≡ then_is)
       → ((pass : Pass) → left_after pass op ≡ pass.left) → refused_by now.view.opened.sizes call (head_in called.steps) [] op found ≡ None → place_by op found ≡ None → is_own call None op ≡ true
       → ((sizes : Sizes) (number : ℕ) (history : List Answered) (pass : Pass) → (stepped sizes number history op found pass).seen ≡ pass.seen) → ((pass : Pass) (number : ℕ) → mine_after number pass op ≡ pass.mine)
       → InCall control_mirror call None then_is None None start new
-  call_on call is then_is start called goes leaves refuses places may seen mine =
-      worked_on control_mirror call is None None start now before called between op found new step then_is None None
-      (λ number history mirrors.
-      ap (λ works. mirrored_control (stepped before.view.opened.sizes number history op found (pass_worked before.view.opened.sizes works (pass_of before.view)))) none
-      ∙ ap (λ c. mirrored_control (stepped before.view.opened.sizes number history op found (with_mirrored_control c (pass_of before.view)))) mirrors
-      ∙ ap (λ (v : PassView). mirrored_control (stepped v.opened.sizes number history op found (with_mirrored_control is (pass_of before.view)))) between.view
-      ∙ goes (pass_of before.view) number history)
-      leaves (ap (λ works. refused_by now.view.opened.sizes call (head_in called.steps) works op found) none ∙ refuses) places may
-      (worked_told control_mirror call is None None start now before called between op found new step seen mine)
+  call_on call is then_is start called goes = call_here call is then_is start called (goes (pass_of now.view))

@@ -24,7 +24,7 @@ has_loaded m room start now at way content mount run = record {
       let nothing : Log = record { group = λ number. record { call = Sync 0; first = 0; entries = 0 }; calls = λ number. 0 } in
       let right = content (mount_of now.view.opened) files tail nothing (λ number. false) now.view.run mount log opens run in
       let At : MirroredControl → Type 0 = λ c.
-      GatheredAt now.view.opened.sizes (page_now now.view.opened.sizes files (state_of now.view.opened now.view.run)) (values_of now.view) c.call (pass_of now.view).fetched c.control in
+      GatheredAt now.view.opened.sizes (page_now now.view.opened.sizes files (state_of now.view.opened now.view.run)) (values_of now.view) c.call (pass_of now.view).pages (pass_of now.view).fetched c.control in
       let less : m.page < m.page + 1 = omega arith in
       sym (load_had m room start now at way) ∙ subst At (load_reads m room start now at way).mirrors (right.buffers.gathered now.view.number) m.page way.0.own (inl less);
 }

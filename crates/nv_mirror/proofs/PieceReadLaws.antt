@@ -56,7 +56,7 @@ module _ (sound : RunsAreSound) (fit : HeldPiecesFit) (now : PassState) (page nu
   pub readable : IsReadable now.view.opened.sizes (values_of now.view (ENTRY (slot_of_entry now.view.opened.sizes number)))
   readable =
       let looks : InWindow core number × (is_entry_of held page (entry_word_at now.view.opened.sizes core number) ≡ true) =
-      subst (LooksSound now.view.opened.sizes core) stands (core_sound.loaded.looks now.view.number) in (
+      subst (LooksSound now.view.opened.sizes core (pass_of now.view).pages) stands (core_sound.loaded.looks now.view.number) in (
         core_sound.rooms.ready (slot_of_entry now.view.opened.sizes number) (mod_below number now.view.opened.sizes.entries some_entry) (held_readied page (entry_word_at now.view.opened.sizes core number) looks.1),
         fit (mount_of now.view.opened) now.view.run now.view.number page number mount some_byte run stands,
       )

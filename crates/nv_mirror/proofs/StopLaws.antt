@@ -68,7 +68,7 @@ module _ (sizes : Sizes) (pass : Pass) where
   look_calm found (LoadEntry page number) calm = if_both IsCalm _ (HoldEntry page number) (scanning pass page (number + 1)) (λ _ fails. fails) (λ _. scanning_calm page (number + 1))
   look_calm found control calm = calm
 
-  hint_calm : (buffer victim : ℕ) (control : Control) → IsCalm control → IsCalm (hinted sizes pass.call buffer victim control)
+  hint_calm : (buffer victim : ℕ) (control : Control) → IsCalm control → IsCalm (hinted pass.pages buffer victim control)
   hint_calm buffer victim (Searching page tries search) calm = λ fails. fails
   hint_calm buffer victim control calm = calm
 

@@ -85,13 +85,13 @@ told_received : (other value : Value) → parts_told (received other value) ≡ 
 told_received (ABuffer (Some buffer)) (ABuffer None) = refl
 told_received other value = refl
 
-told_robbed : (control : Control) (values : Values) (cell : Word) → parts_told (values_robbed control values cell) ≡ parts_told (values cell)
-told_robbed (Searching page tries (GiveVictim buffer victim)) values =
+told_robbed : (pages : List ℕ) (control : Control) (values : Values) (cell : Word) → parts_told (values_robbed pages control values cell) ≡ parts_told (values cell)
+told_robbed pages (Searching page tries (GiveVictim buffer victim)) values =
     by_word (λ other v. parts_told v ≡ parts_told (values other)) (with_value values (PAGE page) (received (values (PAGE victim)) (values (PAGE page)))) (PAGE victim) (emptied (values (PAGE victim)))
     (told_emptied (values (PAGE victim)))
     (λ other ne. by_word (λ other v. parts_told v ≡ parts_told (values other)) values (PAGE page) (received (values (PAGE victim)) (values (PAGE page)))
     (told_received (values (PAGE victim)) (values (PAGE page))) (λ other ne. refl) other)
-told_robbed control values = λ cell. refl
+told_robbed pages control values = λ cell. refl
 
 told_stepped : (sizes : Sizes) (pass : Pass) (op : Op) (values : Values) (cell : Word) → parts_told (values_stepped sizes pass op values cell) ≡ parts_told (values cell)
 told_stepped = steady_stepped parts_told told_steady told_robbed

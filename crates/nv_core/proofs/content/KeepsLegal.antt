@@ -158,14 +158,14 @@ reply_is sizes first opening by core reply sound lengths buffers may = go (core.
     go : (control : Control) → (core.passes by).control ≡ control → MayPlace sizes core.values (core.passes by) reply control → reply ≡ reply_of (core.passes by).call (files_now opening core)
     go TakePlace at placed =
         placed ∙ plain_is (core.passes by).call (files_now opening core) ((sound.control_facts by).allowed (step_idle sizes core.values (core.passes by) (Place reply) may)).plain
-        (subst (GatheredAt sizes (page_now sizes opening core) core.values (core.passes by).call (core.passes by).fetched) at (buffers.gathered by))
+        (subst (GatheredAt sizes (page_now sizes opening core) core.values (core.passes by).call (core.passes by).pages (core.passes by).fetched) at (buffers.gathered by))
     go (VisitPage next) at placed =
         let stands : FactsAt sizes (core.passes by) (VisitPage next) = subst (FactsAt sizes (core.passes by)) at (sound.control_facts by).at in
         let allowed = (sound.control_facts by).allowed (step_idle sizes core.values (core.passes by) (Place reply) may) in
         let measured = place_measured sizes core.values (core.passes by) reply (core.passes by).control may in
         let grows = place_growing sizes core.values (core.passes by) reply may in
-        let right : Gathered sizes (page_now sizes opening core) core.values (core.passes by).call (core.passes by).fetched next =
-        subst (GatheredAt sizes (page_now sizes opening core) core.values (core.passes by).call (core.passes by).fetched) at (buffers.gathered by) in
+        let right : Gathered sizes (page_now sizes opening core) core.values (core.passes by).call (core.passes by).pages (core.passes by).fetched next =
+        subst (GatheredAt sizes (page_now sizes opening core) core.values (core.passes by).call (core.passes by).pages (core.passes by).fetched) at (buffers.gathered by) in
         placed.1
         ∙ ap Bytes (read_is sizes (files_now opening core) core.values (core.passes by).call (core.passes by).length (core.passes by).fetched stands.0 allowed
         (loaded_low sizes first opening by core sound lengths measured grows allowed.known) (loaded_all sizes first opening by core sound lengths measured grows allowed.known stands.0)

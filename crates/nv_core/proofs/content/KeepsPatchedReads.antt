@@ -14,7 +14,7 @@ use Rattle.nv_core.specs.state.Values.{Value, Bare, APart, AStore, ABuffer, Page
 use Rattle.nv_core.specs.state.Passes.{Control, Idle, TakePage, LoadLength, TakeSize, LoadStop, LoadOrder, VisitPage, TakeCleanup, TakeStore, ReadStore, GiveStore, ReadLoadHead, ReadLoadTail, LoadEntry, HoldEntry, ReadPiece, ReturnEntry, GiveCleanup, WriteLoadHead, WriteLoadTail, DrawNumbers, SeizeEntry, CommitGroup, PledgePage, ReadyEntry, TakePlace, GrowLength, GiveSize, GivePage, GiveBack, SetStopAfterRead, SetStopAfterPiece, SetStopAfterCommit, BreakEntry, Pass, fetched_bytes, IsHeldEntry, file_of, is_write, is_read, page_count, first_page, end_page, without, times, Searching, Cleaning, IsHeldByCleaner, plain_call}
 use Rattle.nv_core.specs.steps.Ops.{Op, Load, Take, Give, Place, Stop, Draw, Seize, Pledge, Ready, Grow, Break, Hold, Return, Split, PutBack, Join, Turn, Hint, ByCleaner, cleaner_move, moved}
 use Rattle.nv_core.specs.steps.ControlSteps.{control_after, after_load, after_give, after_stop, after_head, after_tail, after_look, after_hold, after_return, scanning, leaving, giving, ending, ordered, copying, exceeds}
-use Rattle.nv_core.specs.steps.PassSteps.{head_after, begun}
+use Rattle.nv_core.specs.steps.PassSteps.{head_after, begun, pages_after}
 use Rattle.nv_core.specs.steps.Order.{Values, Work, CallEnabled, IsFailing, CallDue, IsPageRead, IsPieceRead, SaysPiece, SaysPieceOf, page_start, commit_steps, CallMayLeave}
 use Rattle.nv_core.specs.steps.StepKinds.{MayTake, EnabledByKind}
 use Rattle.nv_core.specs.state.Core.{Core, changes, changed_pass, after_step, after_begin, after_work, worked, control_worked, fetched_worked}
@@ -111,7 +111,7 @@ module _ (sizes : Sizes) (first : Values) (log : Log) (opening : Files) (core : 
   no_entry page slot = differ (CLEANUP page) (ENTRY slot) refl
 
   -- so it is of every pass
-  writes_back : (n : ℕ) (control : Control) → (core.passes n).control ≡ control → PatchedAt sizes log opening core (core.passes n).fetched (core.passes n).head control
+  writes_back : (n : ℕ) (control : Control) → (core.passes n).control ≡ control → PatchedAt sizes log opening core (core.passes n).pages (core.passes n).fetched (core.passes n).head control
       → WritesBack sizes log opening core (core.passes n) (core.passes n).fetched (core.passes n).head control
   writes_back n (GiveStore page true) at was = (reading_at n (GiveStore page true) tt at page (subst (FactsAt sizes (core.passes n)) at (sound.control_facts n).at) (λ held. held (CLEANUP page) (no_entry page)), was)
   writes_back n (ReadLoadHead page) at was = (reading_at n (ReadLoadHead page) tt at page (subst (FactsAt sizes (core.passes n)) at (sound.control_facts n).at) (λ held. held (CLEANUP page) (no_entry page)), was)
@@ -166,11 +166,11 @@ module _ (sizes : Sizes) (first : Values) (core : Core) (sound : Sound sizes fir
 
   held_of : (m other : ℕ) (control : Control) → (core.passes m).control ≡ control → IsHeldEntry control other → HasCleanup m other
   held_of m other (ReadPiece next one) control is =
-      let looks : LooksSound sizes core (ReadPiece next one) = subst (LooksSound sizes core) control (sound.loaded.looks m) in read_cleanup m next one other (ReadPiece next one) control (λ held. held (CLEANUP next) (λ slot. differ (CLEANUP next) (ENTRY slot) refl)) looks.1 is
+      let looks : LooksSound sizes core (core.passes m).pages (ReadPiece next one) = subst (LooksSound sizes core (core.passes m).pages) control (sound.loaded.looks m) in read_cleanup m next one other (ReadPiece next one) control (λ held. held (CLEANUP next) (λ slot. differ (CLEANUP next) (ENTRY slot) refl)) looks.1 is
   held_of m other (ReturnEntry next one failed) control is =
-      let looks : LooksSound sizes core (ReturnEntry next one failed) = subst (LooksSound sizes core) control (sound.loaded.looks m) in read_cleanup m next one other (ReturnEntry next one failed) control (λ held. held (CLEANUP next) (λ slot. differ (CLEANUP next) (ENTRY slot) refl)) looks.1 is
+      let looks : LooksSound sizes core (core.passes m).pages (ReturnEntry next one failed) = subst (LooksSound sizes core (core.passes m).pages) control (sound.loaded.looks m) in read_cleanup m next one other (ReturnEntry next one failed) control (λ held. held (CLEANUP next) (λ slot. differ (CLEANUP next) (ENTRY slot) refl)) looks.1 is
   held_of m other (SetStopAfterPiece next one) control is =
-      let looks : LooksSound sizes core (SetStopAfterPiece next one) = subst (LooksSound sizes core) control (sound.loaded.looks m) in read_cleanup m next one other (SetStopAfterPiece next one) control (λ held. held (CLEANUP next) (λ slot. differ (CLEANUP next) (ENTRY slot) refl)) looks.1 is
+      let looks : LooksSound sizes core (core.passes m).pages (SetStopAfterPiece next one) = subst (LooksSound sizes core (core.passes m).pages) control (sound.loaded.looks m) in read_cleanup m next one other (SetStopAfterPiece next one) control (λ held. held (CLEANUP next) (λ slot. differ (CLEANUP next) (ENTRY slot) refl)) looks.1 is
   held_of m other (Cleaning batch inner) control is =
       let stands : CleanerFactsAt batch (core.passes m).owned inner = subst (FactsAt sizes (core.passes m)) control (sound.control_facts m).at in
       let place = of_cleaner_place batch (core.passes m).owned inner other stands is in
@@ -416,16 +416,16 @@ module _ (plain : PlainLaws) (sizes : Sizes) (first : Values) (opening : Files) 
     kept_stores : (page : ℕ) → HasStores sizes core fetched page → HasStores sizes now fetched page
     kept_stores page has = has ∙ sym (ap (λ f. page_in sizes f page) stores_now)
 
-    written_back : (control : Control) → WritesBack sizes log opening core (core.passes n) fetched head control → PatchedAt sizes later opening now fetched head control
-    written_back (GiveStore page true) is = kept_stores page is.1
-    written_back (ReadLoadHead page) is = kept_stores page is.1
-    written_back (ReadLoadTail page) is = kept_lacks page 0 is.0 is.1 is.2
-    written_back (LoadEntry page number) is = kept_lacks page number is.0 is.1 is.2
-    written_back (HoldEntry page number) is = kept_lacks page number is.0 is.1 is.2
-    written_back (ReadPiece page number) is = kept_lacks page number is.0 is.1 is.2
-    written_back (ReturnEntry page number false) is = kept_lacks page (number + 1) is.0 is.1 is.2
-    written_back (GiveCleanup page) is = is.1 ∙ sym (kept_page page is.0)
-    written_back control is = tt
+    written_back : (pages : List ℕ) (control : Control) → WritesBack sizes log opening core (core.passes n) fetched head control → PatchedAt sizes later opening now pages fetched head control
+    written_back pages (GiveStore page true) is = kept_stores page is.1
+    written_back pages (ReadLoadHead page) is = kept_stores page is.1
+    written_back pages (ReadLoadTail page) is = kept_lacks page 0 is.0 is.1 is.2
+    written_back pages (LoadEntry page number) is = kept_lacks page number is.0 is.1 is.2
+    written_back pages (HoldEntry page number) is = kept_lacks page number is.0 is.1 is.2
+    written_back pages (ReadPiece page number) is = kept_lacks page number is.0 is.1 is.2
+    written_back pages (ReturnEntry page number false) is = kept_lacks page (number + 1) is.0 is.1 is.2
+    written_back pages (GiveCleanup page) is = is.1 ∙ sym (kept_page page is.0)
+    written_back pages control is = tt
 
   before : (n : ℕ) → WritesBack sizes log opening core (core.passes n) (core.passes n).fetched (core.passes n).head (core.passes n).control
   before n = writes_back sizes first log opening core sound n (core.passes n).control refl (was.each n)
@@ -434,9 +434,9 @@ pub patched_step : (plain : PlainLaws) (sizes : Sizes) (first : Values) (opening
     → Sound sizes first core → LogContent sizes first opening tails log placed core → PatchedReads sizes log opening core → FoundEnabledByKind sizes by core op found
     → PatchedReads sizes (log_stepped sizes (core.passes by) op found log) opening (after_step sizes by op found core)
 patched_step plain sizes first opening tails log placed core by op found count sound content was may = record {
-  each = by_number (λ n (p : Pass). PatchedAt sizes (log_stepped sizes (core.passes by) op found log) opening (after_step sizes by op found core) p.fetched p.head p.control) core.passes (changes by core.made op) (changed_pass sizes by core op found)
+  each = by_number (λ n (p : Pass). PatchedAt sizes (log_stepped sizes (core.passes by) op found log) opening (after_step sizes by op found core) p.pages p.fetched p.head p.control) core.passes (changes by core.made op) (changed_pass sizes by core op found)
       (here op may)
-      (λ n ne. written_back plain sizes first opening tails log placed core by op found count sound content was may n (moves op n ne) (core.passes n).fetched (core.passes n).head (core.passes n).control (before plain sizes first opening tails log placed core by op found count sound content was may n));
+      (λ n ne. written_back plain sizes first opening tails log placed core by op found count sound content was may n (moves op n ne) (core.passes n).fetched (core.passes n).head (core.passes n).pages (core.passes n).control (before plain sizes first opening tails log placed core by op found count sound content was may n));
 }
   where
     moves : (op : Op) (n : ℕ) → n ≢ changes by core.made op → (n ≢ by) ⊎ IsMild op
@@ -445,20 +445,20 @@ patched_step plain sizes first opening tails log placed core by op found count s
     moves op n ne = inr tt
 
     own : (op : Op) → IsMild op → FoundEnabledByKind sizes by core op found → EnabledByKind sizes core.values (core.passes by) op
-        → PatchedAt sizes (log_stepped sizes (core.passes by) op found log) opening (after_step sizes by op found core) (core.passes by).fetched (head_after sizes (core.passes by) op found) (control_after sizes (core.passes by) op found)
-    own op mild may step = written_back plain sizes first opening tails log placed core by op found count sound content was may by (inr mild) (core.passes by).fetched (head_after sizes (core.passes by) op found) (control_after sizes (core.passes by) op found)
+        → PatchedAt sizes (log_stepped sizes (core.passes by) op found log) opening (after_step sizes by op found core) (pages_after (core.passes by) op found (core.passes by).control) (core.passes by).fetched (head_after sizes (core.passes by) op found) (control_after sizes (core.passes by) op found)
+    own op mild may step = written_back plain sizes first opening tails log placed core by op found count sound content was may by (inr mild) (core.passes by).fetched (head_after sizes (core.passes by) op found) (pages_after (core.passes by) op found (core.passes by).control) (control_after sizes (core.passes by) op found)
         (c_step plain sizes first opening tails log placed core by sound content was op found (mild_unplaced op mild) may step (writes_back sizes first log opening core sound by (core.passes by).control refl (was.each by)))
 
     here : (op : Op) → FoundEnabledByKind sizes by core op found
-        → PatchedAt sizes (log_stepped sizes (core.passes by) op found log) opening (after_step sizes by op found core) (changed_pass sizes by core op found).fetched (changed_pass sizes by core op found).head (changed_pass sizes by core op found).control
+        → PatchedAt sizes (log_stepped sizes (core.passes by) op found log) opening (after_step sizes by op found core) (changed_pass sizes by core op found).pages (changed_pass sizes by core op found).fetched (changed_pass sizes by core op found).head (changed_pass sizes by core op found).control
     here Split may = tt
-    here (PutBack cell) may = written_back plain sizes first opening tails log placed core by (PutBack cell) found count sound content was may by (inr tt) (core.passes by).fetched (core.passes by).head (core.passes by).control (before plain sizes first opening tails log placed core by (PutBack cell) found count sound content was may by)
-    here (Join number) may = written_back plain sizes first opening tails log placed core by (Join number) found count sound content was may by (inr tt) (core.passes by).fetched (core.passes by).head (core.passes by).control (before plain sizes first opening tails log placed core by (Join number) found count sound content was may by)
+    here (PutBack cell) may = written_back plain sizes first opening tails log placed core by (PutBack cell) found count sound content was may by (inr tt) (core.passes by).fetched (core.passes by).head (core.passes by).pages (core.passes by).control (before plain sizes first opening tails log placed core by (PutBack cell) found count sound content was may by)
+    here (Join number) may = written_back plain sizes first opening tails log placed core by (Join number) found count sound content was may by (inr tt) (core.passes by).fetched (core.passes by).head (core.passes by).pages (core.passes by).control (before plain sizes first opening tails log placed core by (Join number) found count sound content was may by)
     here (Place reply) may =
-        if_both (PatchedAt sizes log opening (after_step sizes by (Place reply) found core) (core.passes by).fetched (core.passes by).head) (is_write (core.passes by).call && exceeds (core.passes by) (core.passes by).length) GrowLength (ending sizes (core.passes by))
-        (λ _. tt) (λ _. if_both (PatchedAt sizes log opening (after_step sizes by (Place reply) found core) (core.passes by).fetched (core.passes by).head) (core.passes by).sized GiveSize (giving sizes (core.passes by).call)
-        (λ _. tt) (λ _. if_both (PatchedAt sizes log opening (after_step sizes by (Place reply) found core) (core.passes by).fetched (core.passes by).head) (page_count sizes (core.passes by).call == 0) Idle (GivePage (first_page sizes (core.passes by).call)) (λ _. tt) (λ _. tt)))
-    here (ByCleaner cleaner_op) may = tended_to (PatchedAt sizes (log_stepped sizes (core.passes by) (ByCleaner cleaner_op) found log) opening (after_step sizes by (ByCleaner cleaner_op) found core) (core.passes by).fetched (head_after sizes (core.passes by) (ByCleaner cleaner_op) found)) tt (λ _ _. tt)
+        if_both (PatchedAt sizes log opening (after_step sizes by (Place reply) found core) (core.passes by).pages (core.passes by).fetched (core.passes by).head) (is_write (core.passes by).call && exceeds (core.passes by) (core.passes by).length) GrowLength (ending sizes (core.passes by))
+        (λ _. tt) (λ _. if_both (PatchedAt sizes log opening (after_step sizes by (Place reply) found core) (core.passes by).pages (core.passes by).fetched (core.passes by).head) (core.passes by).sized GiveSize (giving sizes (core.passes by).call)
+        (λ _. tt) (λ _. if_both (PatchedAt sizes log opening (after_step sizes by (Place reply) found core) (core.passes by).pages (core.passes by).fetched (core.passes by).head) (page_count sizes (core.passes by).call == 0) Idle (GivePage (first_page sizes (core.passes by).call)) (λ _. tt) (λ _. tt)))
+    here (ByCleaner cleaner_op) may = tended_to (PatchedAt sizes (log_stepped sizes (core.passes by) (ByCleaner cleaner_op) found log) opening (after_step sizes by (ByCleaner cleaner_op) found core) (core.passes by).pages (core.passes by).fetched (head_after sizes (core.passes by) (ByCleaner cleaner_op) found)) tt (λ _ _. tt)
         sizes (core.passes by) (moved (cleaner_move sizes cleaner_op found) (core.passes by).owned) cleaner_op found (core.passes by).control may.may
     here (Load word) may = own (Load word) tt may may.may
     here (Take cell) may = own (Take cell) tt may may.may
@@ -493,22 +493,22 @@ module _ (sizes : Sizes) (opening : Files) (log later : Log) (core now : Core) (
       (λ n low high. (ap₂ (λ w g. is_fresh w && page_of_number sizes g n == page) (words (ENTRY (slot_of_entry sizes n))) (groups n), groups n))
       ∙ is ∙ sym (page_same page)
 
-  patched_same : (fetched : List (ℕ × List ℕ)) (head : ℕ) (control : Control) → Stores control → PatchedAt sizes log opening core fetched head control → PatchedAt sizes later opening now fetched head control
-  patched_same fetched head (GiveStore page true) stores is = is ∙ sym stores
-  patched_same fetched head (ReadLoadHead page) stores is = is ∙ sym stores
-  patched_same fetched head (ReadLoadTail page) stores is = lacks_same fetched head page 0 is
-  patched_same fetched head (LoadEntry page number) stores is = lacks_same fetched head page number is
-  patched_same fetched head (HoldEntry page number) stores is = lacks_same fetched head page number is
-  patched_same fetched head (ReadPiece page number) stores is = lacks_same fetched head page number is
-  patched_same fetched head (ReturnEntry page number false) stores is = lacks_same fetched head page (number + 1) is
-  patched_same fetched head (GiveCleanup page) stores is = is ∙ sym (page_same page)
-  patched_same fetched head control stores is = tt
+  patched_same : (pages : List ℕ) (fetched : List (ℕ × List ℕ)) (head : ℕ) (control : Control) → Stores control → PatchedAt sizes log opening core pages fetched head control → PatchedAt sizes later opening now pages fetched head control
+  patched_same pages fetched head (GiveStore page true) stores is = is ∙ sym stores
+  patched_same pages fetched head (ReadLoadHead page) stores is = is ∙ sym stores
+  patched_same pages fetched head (ReadLoadTail page) stores is = lacks_same fetched head page 0 is
+  patched_same pages fetched head (LoadEntry page number) stores is = lacks_same fetched head page number is
+  patched_same pages fetched head (HoldEntry page number) stores is = lacks_same fetched head page number is
+  patched_same pages fetched head (ReadPiece page number) stores is = lacks_same fetched head page number is
+  patched_same pages fetched head (ReturnEntry page number false) stores is = lacks_same fetched head page (number + 1) is
+  patched_same pages fetched head (GiveCleanup page) stores is = is ∙ sym (page_same page)
+  patched_same pages fetched head control stores is = tt
 
 pub patched_begin : (sizes : Sizes) (log : Log) (opening : Files) (core : Core) (by : ℕ) (call : FileCall) → PatchedReads sizes log opening core → PatchedReads sizes log opening (after_begin sizes by call core)
 patched_begin sizes log opening core by call was = record {
-  each = by_number (λ n (p : Pass). PatchedAt sizes log opening (after_begin sizes by call core) p.fetched p.head p.control) core.passes by (begun sizes call (core.passes by))
-      (if_both (PatchedAt sizes log opening (after_begin sizes by call core) [] (core.passes by).head) (page_count sizes (plain_call call) == 0) LoadStop (TakePage (first_page sizes (plain_call call))) (λ _. tt) (λ _. tt))
-      (λ n ne. patched_same sizes opening log log core (after_begin sizes by call core) (λ word. refl) (λ m. refl) (λ page. refl) (core.passes n).fetched (core.passes n).head (core.passes n).control (begun_stores (core.passes n).control) (was.each n));
+  each = by_number (λ n (p : Pass). PatchedAt sizes log opening (after_begin sizes by call core) p.pages p.fetched p.head p.control) core.passes by (begun sizes call (core.passes by))
+      (if_both (PatchedAt sizes log opening (after_begin sizes by call core) [] [] (core.passes by).head) (page_count sizes (plain_call call) == 0) LoadStop (TakePage (first_page sizes (plain_call call))) (λ _. tt) (λ _. tt))
+      (λ n ne. patched_same sizes opening log log core (after_begin sizes by call core) (λ word. refl) (λ m. refl) (λ page. refl) (core.passes n).pages (core.passes n).fetched (core.passes n).head (core.passes n).control (begun_stores (core.passes n).control) (was.each n));
 }
   where
     begun_stores : (control : Control) → Stores sizes opening log log core (after_begin sizes by call core) (λ word. refl) (λ m. refl) (λ page. refl) control
@@ -574,7 +574,7 @@ module _ (plain : PlainLaws) (loads : LoadsAreAnImage) (becomes : GroupsBecomeWh
       → LacksFrom sizes worked_log opening worked_now fetched_now (core.passes by).head page (number + 1)
   fetched_piece page number at how due =
       let stands : FactsAt sizes (core.passes by) (ReadPiece page number) = subst (FactsAt sizes (core.passes by)) at (sound.control_facts by).at in
-      let looks : LooksSound sizes core (ReadPiece page number) = subst (LooksSound sizes core) at (sound.loaded.looks by) in
+      let looks : LooksSound sizes core (core.passes by).pages (ReadPiece page number) = subst (LooksSound sizes core (core.passes by).pages) at (sound.loaded.looks by) in
       let within : InWindow core number = looks.0 in
       let says = entry_is held page (entry_word_at sizes core number) looks.1 in
       let was_ready : is_ready sizes core number ≡ true = held_was (entry_word_at sizes core number) says.0 in
@@ -588,7 +588,7 @@ module _ (plain : PlainLaws) (loads : LoadsAreAnImage) (becomes : GroupsBecomeWh
       let part = its_part number within in
       let piece = says_piece sizes due.at due.bytes (core.values (ENTRY (slot_of_entry sizes number))) part.0 part.1 due.says in
       let below : number < (core.passes by).head = stands.1 in
-      let lacks : LacksFrom sizes log opening core (core.passes by).fetched (core.passes by).head page number = subst (PatchedAt sizes log opening core (core.passes by).fetched (core.passes by).head) at (was.each by) in
+      let lacks : LacksFrom sizes log opening core (core.passes by).fetched (core.passes by).head page number = subst (PatchedAt sizes log opening core (core.passes by).pages (core.passes by).fetched (core.passes by).head) at (was.each by) in
       let now : fetched_bytes fetched_now page ≡ with_own_pieces sizes (log.group number).call page (fetched_bytes (core.passes by).fetched page) =
       ap (λ f. fetched_bytes f page)
       (ap (λ j. fetched_worked sizes (core.passes by) j work.ending (core.passes by).control) due.job ∙ ap₂ (λ h s. fetched_worked sizes (core.passes by) (PieceRead due.at due.bytes) h s) how at)
@@ -619,9 +619,9 @@ module _ (plain : PlainLaws) (loads : LoadsAreAnImage) (becomes : GroupsBecomeWh
 
   pub patched_work : PatchedReads sizes worked_log opening worked_now
   patched_work = record {
-    each = by_number (λ n (p : Pass). PatchedAt sizes worked_log opening worked_now p.fetched p.head p.control) core.passes by (worked sizes work (core.passes by))
+    each = by_number (λ n (p : Pass). PatchedAt sizes worked_log opening worked_now p.pages p.fetched p.head p.control) core.passes by (worked sizes work (core.passes by))
         (here work.ending refl (core.passes by).control refl may.due)
-        (λ n ne. patched_same sizes opening log worked_log core worked_now (λ word. refl) worked_groups (λ page. refl) (core.passes n).fetched (core.passes n).head (core.passes n).control (others n ne (core.passes n).control (writes_back sizes first log opening core sound n (core.passes n).control refl (was.each n))) (was.each n));
+        (λ n ne. patched_same sizes opening log worked_log core worked_now (λ word. refl) worked_groups (λ page. refl) (core.passes n).pages (core.passes n).fetched (core.passes n).head (core.passes n).control (others n ne (core.passes n).control (writes_back sizes first log opening core sound n (core.passes n).control refl (was.each n))) (was.each n));
   }
     where
       others : (n : ℕ) → n ≢ by → (control : Control) → WritesBack sizes log opening core (core.passes n) (core.passes n).fetched (core.passes n).head control
@@ -631,13 +631,13 @@ module _ (plain : PlainLaws) (loads : LoadsAreAnImage) (becomes : GroupsBecomeWh
       others n ne control is = tt
 
       here : (how : CallEnding) → work.ending ≡ how → (control : Control) → (core.passes by).control ≡ control → CallDue sizes core.values (core.passes by) work control
-          → PatchedAt sizes worked_log opening worked_now fetched_now (core.passes by).head (control_worked sizes (core.passes by) work.ending (core.passes by).control)
-      here how ending control at due = subst (λ h. PatchedAt sizes worked_log opening worked_now fetched_now (core.passes by).head (control_worked sizes (core.passes by) h (core.passes by).control)) (sym ending)
-          (subst (λ s. PatchedAt sizes worked_log opening worked_now fetched_now (core.passes by).head (control_worked sizes (core.passes by) how s)) (sym at) (go how ending control at due))
+          → PatchedAt sizes worked_log opening worked_now (core.passes by).pages fetched_now (core.passes by).head (control_worked sizes (core.passes by) work.ending (core.passes by).control)
+      here how ending control at due = subst (λ h. PatchedAt sizes worked_log opening worked_now (core.passes by).pages fetched_now (core.passes by).head (control_worked sizes (core.passes by) h (core.passes by).control)) (sym ending)
+          (subst (λ s. PatchedAt sizes worked_log opening worked_now (core.passes by).pages fetched_now (core.passes by).head (control_worked sizes (core.passes by) how s)) (sym at) (go how ending control at due))
         where
           go : (how : CallEnding) → work.ending ≡ how → (control : Control) → (core.passes by).control ≡ control → CallDue sizes core.values (core.passes by) work control
-              → PatchedAt sizes worked_log opening worked_now fetched_now (core.passes by).head (control_worked sizes (core.passes by) how control)
-          go Made how (CommitGroup calls) at due = if_both (PatchedAt sizes worked_log opening worked_now fetched_now (core.passes by).head)
+              → PatchedAt sizes worked_log opening worked_now (core.passes by).pages fetched_now (core.passes by).head (control_worked sizes (core.passes by) how control)
+          go Made how (CommitGroup calls) at due = if_both (PatchedAt sizes worked_log opening worked_now (core.passes by).pages fetched_now (core.passes by).head)
               (calls + 1 == length (commit_steps sizes (core.passes by) (core.passes by).call)) (PledgePage (first_page sizes (core.passes by).call)) (CommitGroup (calls + 1)) (λ _. tt) (λ _. tt)
           go Made how (ReadStore page false) at due = tt
           go Made how (ReadStore page true) at due = fetched_stores page at how due
@@ -645,9 +645,9 @@ module _ (plain : PlainLaws) (loads : LoadsAreAnImage) (becomes : GroupsBecomeWh
           go (Failed came faults) how (CommitGroup calls) at due = tt
           go (Failed came faults) how (ReadStore page dirty) at due = tt
           go (Failed came faults) how (ReadPiece page number) at due = tt
-          go Made how (Cleaning batch inner) at due = of_cleaner_worked (PatchedAt sizes worked_log opening worked_now fetched_now (core.passes by).head) tt (λ _ _. tt) batch Made inner
-          go (Failed came faults) how (Cleaning batch inner) at due = of_cleaner_worked (PatchedAt sizes worked_log opening worked_now fetched_now (core.passes by).head) tt (λ _ _. tt) batch (Failed came faults) inner
-          go Refused how (Cleaning batch inner) at due = of_cleaner_worked (PatchedAt sizes worked_log opening worked_now fetched_now (core.passes by).head) tt (λ _ _. tt) batch Refused inner
+          go Made how (Cleaning batch inner) at due = of_cleaner_worked (PatchedAt sizes worked_log opening worked_now (core.passes by).pages fetched_now (core.passes by).head) tt (λ _ _. tt) batch Made inner
+          go (Failed came faults) how (Cleaning batch inner) at due = of_cleaner_worked (PatchedAt sizes worked_log opening worked_now (core.passes by).pages fetched_now (core.passes by).head) tt (λ _ _. tt) batch (Failed came faults) inner
+          go Refused how (Cleaning batch inner) at due = of_cleaner_worked (PatchedAt sizes worked_log opening worked_now (core.passes by).pages fetched_now (core.passes by).head) tt (λ _ _. tt) batch Refused inner
           go Refused how (CommitGroup calls) at due = tt
           go Refused how (ReadStore page dirty) at due = tt
           go Refused how (ReadPiece page number) at due = absurd (no_refusal (core.values work.cell) work.job (ap keeps_stores due.job) (subst (CallMayLeave (core.values work.cell) work.job) how may.leaves))

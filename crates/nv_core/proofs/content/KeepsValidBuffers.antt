@@ -1,6 +1,6 @@
 -- Each event keeps the valid buffers.
-use Rattle.std.proofs.Common.{◌≡◌, ◌≢◌, ℕ, ◌+◌, ◌*◌, ◌%◌, ◌<◌, ◌≤◌, ◌==◌, nat_lt, ◌&&◌, Bool, true, false, if◌then◌else◌, List, [], ◌∷◌, length, Some, None, inl, inr, refl, sym, ap, subst, ◌∙◌, arith}
-use Rattle.std.proofs.lemmas.Bool.{eqb-true, eq-eqb, ne_eqb, cases_eq, cases_lt, cases_Bool, lt-ltb, le-ltb, true≢false}
+use Rattle.std.proofs.Common.{◌≡◌, ◌≢◌, ℕ, ◌+◌, ◌*◌, ◌%◌, ◌<◌, ◌≤◌, ◌==◌, ◌&&◌, Bool, true, false, if◌then◌else◌, List, [], ◌∷◌, length, Some, None, inl, inr, refl, sym, ap, subst, ◌∙◌, arith, take}
+use Rattle.std.proofs.lemmas.Bool.{eqb-true, eq-eqb, ne_eqb, cases_eq, cases_Bool, true≢false}
 use Rattle.nv_plain.specs.Files.{Files, overwritten}
 use Rattle.nv_plain.specs.declared.call.FileCall.{FileCall}
 use Rattle.nv_plain.specs.declared.call.FileCall.TheVariants.{Read, Write, Readv, Writev, Sync}
@@ -8,7 +8,7 @@ use Rattle.nv_plain.specs.declared.call.Reply.{Reply}
 use Rattle.nv_store.specs.Store.{Store}
 use Rattle.nv_core.specs.state.Words.{Sizes, Word, PAGE, CLEANUP, DIRTY, ENTRY, STORE, same, index, HEADER, slot_of_entry}
 use Rattle.nv_core.specs.state.Values.{Value, AStore, ABuffer, Job, PartStep, PageRead, PieceRead, CallEnding, Made, Failed, called, filled, is_valid, bytes_in, Refused}
-use Rattle.nv_core.specs.state.Passes.{Control, Idle, TakePage, LoadStop, LoadOrder, VisitPage, ReadStore, GiveStore, ReadPiece, GiveCleanup, CommitGroup, PledgePage, ReadyEntry, TakePlace, GrowLength, GivePage, Pass, fetched_bytes, IsAllowed, is_write, is_read, file_of, times, page_count, first_page, end_page, Searching, GiveVictim, Cleaning, plain_call}
+use Rattle.nv_core.specs.state.Passes.{Control, Idle, TakePage, LoadStop, LoadOrder, VisitPage, ReadStore, GiveStore, ReadPiece, GiveCleanup, CommitGroup, PledgePage, ReadyEntry, TakePlace, GrowLength, GivePage, Pass, fetched_bytes, IsAllowed, is_write, is_read, file_of, times, page_count, first_page, end_page, Searching, GiveVictim, Cleaning, plain_call, nth_of}
 use Rattle.nv_core.specs.steps.Ops.{Op, Take, Give, Place, Pledge, Split, PutBack, Join, moved, Comes, Stays, patched_by, ByCleaner}
 use Rattle.nv_core.specs.steps.ControlSteps.{after_give, exceeds, ending}
 use Rattle.nv_core.specs.steps.PassSteps.{begun}
@@ -17,8 +17,8 @@ use Rattle.nv_core.specs.steps.StepKinds.{MayGive, MayPlace, CleanerEnabled}
 use Rattle.nv_core.specs.state.Core.{Core, changes, changed_pass, with_value, after_step, after_begin, after_work, worked, control_worked, fetched_worked, values_given, values_stepped, values_read, values_worked, values_robbed}
 use Rattle.nv_core.specs.steps.Events.{CallMayBegin}
 use Rattle.nv_core.proofs.steps.ByKind.{FoundEnabledByKind}
-use Rattle.nv_core.specs.invariant.ControlFacts.{FactsAt, PagesAt}
-use Rattle.nv_core.specs.invariant.Ownership.{HoldsLocks}
+use Rattle.nv_core.specs.invariant.ControlFacts.{FactsAt, PagesAt, IsPage}
+use Rattle.nv_core.specs.invariant.Ownership.{HoldsLocks, one_if}
 use Rattle.nv_core.specs.invariant.Loaded.{SawClean}
 use Rattle.nv_core.specs.content.StorePages.{store_of_value, StoresTell, StorePages}
 use Rattle.nv_core.specs.content.PagesAfter.{page_from, files_now, page_now, page_in}
@@ -43,6 +43,8 @@ use Rattle.nv_core.proofs.content.BufferLaws.{not_own, IsWhole, whole_holds, who
 use Rattle.nv_core.proofs.state.ValueLaws.{robbed_valid, IsUnmoving}
 use Rattle.nv_core.proofs.invariant.KeepsSearches.{robbed_apart, rob_stands, rob_others, rob_pages}
 use Rattle.nv_core.proofs.content.GatheredLaws.{gathered_same, gathered_on, AreRight, at_ending, page_bytes_same}
+use Rattle.nv_core.specs.invariant.CleanerOwnership.{count_in}
+use Rattle.nv_core.proofs.invariant.PageLists.{count_taken, front_more, front_none, front_all, pages_once}
 
 -- ---- a step that neither places nor pledges
 
@@ -67,7 +69,7 @@ same_values sizes pass (Pledge page) values keeping still = absurd keeping
 same_values sizes pass (Give cell) values keeping still = absurd still
 same_values sizes pass op values keeping still = refl
 
-given_same : (pass : Pass) (control : Control) (values : Values) → ((page : ℕ) → control ≡ GiveCleanup page → ⊥) → values_given pass control values ≡ values_robbed control values
+given_same : (pass : Pass) (control : Control) (values : Values) → ((page : ℕ) → control ≡ GiveCleanup page → ⊥) → values_given pass control values ≡ values_robbed pass.pages control values
 given_same pass (GiveCleanup page) values other = absurd (other page refl)
 given_same pass control values other = refl
 
@@ -92,7 +94,7 @@ free_after sizes first opening by core found (Give cell) keeping sound may was p
     (λ e z valid. let gives : MayGive (core.passes by) (PAGE page) (core.passes by).control = subst (λ w. MayGive (core.passes by) w (core.passes by).control) e may.may in
     was.held by page (once sizes first core sound by page (page_given sizes (core.passes by) page (core.passes by).control
     (λ next is. let s : FactsAt sizes (core.passes by) (GivePage next) = subst (FactsAt sizes (core.passes by)) is (sound.control_facts by).at in s) (sound.control_facts by).pages (sound.ownership by).locks gives)) valid
-    ∙ unpatched sizes (core.passes by).call (core.passes by).control page (page_now sizes opening core page) (giving_back (core.passes by).control (gives_back (core.passes by) cell (core.passes by).control may.may)))
+    ∙ unpatched sizes (core.passes by).call (core.passes by).pages (core.passes by).control page (page_now sizes opening core page) (giving_back (core.passes by).control (gives_back (core.passes by) cell (core.passes by).control may.may)))
     (λ w ne e z. was.free page (ap core.words (sym e) ∙ z)) (PAGE page) refl free
 free_after sizes first opening by core found (Place reply) keeping sound may was page free = absurd keeping
 free_after sizes first opening by core found (Pledge other) keeping sound may was page free = absurd keeping
@@ -104,7 +106,7 @@ free_after sizes first opening by core found (ByCleaner (cleaner.Give cell)) kee
     by_word (λ w v. w ≡ PAGE page → v ≡ 0 → HasNow sizes opening core page) core.words cell 0
     (λ e z valid. let stands = cleaner_give_at sizes (core.passes by) cell may.may in
     was.held by page (once sizes first core sound by page (subst (λ w. 1 ≤ times w (core.passes by).owned) e (cleaner_give_one sizes first by core cell (core.passes by).control sound refl may.may))) valid
-    ∙ ap (λ s. patched_page sizes (core.passes by).call s page (page_now sizes opening core page)) stands.2)
+    ∙ ap (λ s. patched_page sizes (core.passes by).call (core.passes by).pages s page (page_now sizes opening core page)) stands.2)
     (λ w ne e z. was.free page (ap core.words (sym e) ∙ z)) (PAGE page) refl free
 free_after sizes first opening by core found (ByCleaner cleaner_op) keeping sound may was page free = was.free page free
 free_after sizes first opening by core found op keeping sound may was page free = was.free page (sym (untouched sizes by core op found may (PAGE page) refl) ∙ free)
@@ -112,7 +114,7 @@ free_after sizes first opening by core found op keeping sound may was page free 
 -- what the buffer of a page among the owned cells of a pass has
 abbrev HasHeld : Sizes → Files → Core → (page : ℕ) → Pass → Type 0
 HasHeld sizes opening core page pass = times (PAGE page) pass.owned ≡ 1 → is_valid (core.values (PAGE page)) ≡ true
-    → bytes_in (core.values (PAGE page)) ≡ patched_page sizes pass.call pass.control page (page_now sizes opening core page)
+    → bytes_in (core.values (PAGE page)) ≡ patched_page sizes pass.call pass.pages pass.control page (page_now sizes opening core page)
 
 held_after : (sizes : Sizes) (first : Values) (opening : Files) (by : ℕ) (core : Core) (found : ℕ) (op : Op) → IsKeeping op → Sound sizes first core → FoundEnabledByKind sizes by core op found → ValidBuffers sizes opening core
     → (page : ℕ) → HasHeld sizes opening core page (changed_pass sizes by core op found)
@@ -149,10 +151,10 @@ ordering_right : (sizes : Sizes) (first : Values) (opening : Files) (by : ℕ) (
     → AreRight sizes (page_now sizes opening core) core.values (core.passes by).call
 ordering_right sizes first opening by core sound was control whole un at page is valid =
     was.held by page (whole_holds sizes (core.passes by) control whole (subst (PagesAt sizes (core.passes by)) at (sound.control_facts by).pages) (subst (HoldsLocks sizes (core.passes by)) at (sound.ownership by).locks) page is) valid
-    ∙ unpatched sizes (core.passes by).call (core.passes by).control page (page_now sizes opening core page) (subst IsUnpatched (sym at) un)
+    ∙ unpatched sizes (core.passes by).call (core.passes by).pages (core.passes by).control page (page_now sizes opening core page) (subst IsUnpatched (sym at) un)
 
 abbrev HasGathered : Sizes → Files → Core → Pass → Type 0
-HasGathered sizes opening core pass = GatheredAt sizes (page_now sizes opening core) core.values pass.call pass.fetched pass.control
+HasGathered sizes opening core pass = GatheredAt sizes (page_now sizes opening core) core.values pass.call pass.pages pass.fetched pass.control
 
 gathered_after : (sizes : Sizes) (first : Values) (opening : Files) (by : ℕ) (core : Core) (found : ℕ) (op : Op) → IsKeeping op → IsUnfilling op (core.passes by).control → Sound sizes first core → FoundEnabledByKind sizes by core op found → ValidBuffers sizes opening core
     → HasGathered sizes opening core (changed_pass sizes by core op found)
@@ -176,31 +178,31 @@ buffers_still sizes first opening by core found op keeping other sound may was =
 -- and once it has
 buffers_robbed : (sizes : Sizes) (first : Values) (opening : Files) (by : ℕ) (core : Core) (found : ℕ) (cell : Word) → Sound sizes first core → ValidBuffers sizes opening core
     → ValidBuffers sizes opening (record (after_step sizes by (Give cell) found core) { history = core.history; values = core.values }) → (control : Control) → (core.passes by).control ≡ control
-    → ValidBuffers sizes opening (record (after_step sizes by (Give cell) found core) { history = core.history; values = values_robbed control core.values })
+    → ValidBuffers sizes opening (record (after_step sizes by (Give cell) found core) { history = core.history; values = values_robbed (core.passes by).pages control core.values })
 buffers_robbed sizes first opening by core found cell sound was kept (Searching missed tries (GiveVictim buffer victim)) at = record {
-  free = λ page free valid. let same = robbed_valid (Searching missed tries (GiveVictim buffer victim)) core.values (PAGE page) valid in ap bytes_in same ∙ kept.free page free (sym (ap is_valid same) ∙ valid);
-  held = λ n page has valid. let same = robbed_valid (Searching missed tries (GiveVictim buffer victim)) core.values (PAGE page) valid in ap bytes_in same ∙ kept.held n page has (sym (ap is_valid same) ∙ valid);
-  gathered = by_number (λ n (p : Pass). GatheredAt sizes (page_now sizes opening core) later p.call p.fetched p.control) core.passes by (changed_pass sizes by core (Give cell) found)
-      (subst (λ s. GatheredAt sizes (page_now sizes opening core) later (core.passes by).call (core.passes by).fetched (after_give sizes (core.passes by) cell s)) (sym at) own)
+  free = λ page free valid. let same = robbed_valid (core.passes by).pages (Searching missed tries (GiveVictim buffer victim)) core.values (PAGE page) valid in ap bytes_in same ∙ kept.free page free (sym (ap is_valid same) ∙ valid);
+  held = λ n page has valid. let same = robbed_valid (core.passes by).pages (Searching missed tries (GiveVictim buffer victim)) core.values (PAGE page) valid in ap bytes_in same ∙ kept.held n page has (sym (ap is_valid same) ∙ valid);
+  gathered = by_number (λ n (p : Pass). GatheredAt sizes (page_now sizes opening core) later p.call p.pages p.fetched p.control) core.passes by (changed_pass sizes by core (Give cell) found)
+      (subst (λ s. GatheredAt sizes (page_now sizes opening core) later (core.passes by).call (core.passes by).pages (core.passes by).fetched (after_give sizes (core.passes by) cell s)) (sym at) own)
       (λ n ne. gathered_same sizes (page_now sizes opening core) (page_now sizes opening core) core.values later (core.passes n) (core.passes n).control (sound.control_facts n).at (sound.control_facts n).pages (sound.ownership n).locks
       (λ page has. (rob_others sizes first by core missed tries buffer victim sound at n page ne (omega (arith, has)), refl)) (was.gathered n));
 }
   where
     later : Values
-    later = values_robbed (Searching missed tries (GiveVictim buffer victim)) core.values
+    later = values_robbed (core.passes by).pages (Searching missed tries (GiveVictim buffer victim)) core.values
 
-    before : Gathered sizes (page_now sizes opening core) core.values (core.passes by).call (core.passes by).fetched missed
-    before = subst (GatheredAt sizes (page_now sizes opening core) core.values (core.passes by).call (core.passes by).fetched) at (was.gathered by)
+    before : Gathered sizes (page_now sizes opening core) core.values (core.passes by).call (core.passes by).pages (core.passes by).fetched missed
+    before = subst (GatheredAt sizes (page_now sizes opening core) core.values (core.passes by).call (core.passes by).pages (core.passes by).fetched) at (was.gathered by)
 
-    own : Gathered sizes (page_now sizes opening core) (values_robbed (Searching missed tries (GiveVictim buffer victim)) core.values) (core.passes by).call (core.passes by).fetched missed
+    own : Gathered sizes (page_now sizes opening core) (values_robbed (core.passes by).pages (Searching missed tries (GiveVictim buffer victim)) core.values) (core.passes by).call (core.passes by).pages (core.passes by).fetched missed
     own page is passed = elim passed [
       | inl low ↦
-          page_bytes_same (core.passes by).fetched core.values (values_robbed (Searching missed tries (GiveVictim buffer victim)) core.values) page
-          (robbed_apart missed tries buffer victim core.values page (λ e. omega (arith, e, low)) (not_own sizes (core.passes by).call (core.passes by).pages (rob_pages sizes first by core missed tries buffer victim sound at) buffer victim page (rob_stands sizes first by core missed tries buffer victim sound at).2 is))
+          page_bytes_same (core.passes by).fetched core.values (values_robbed (core.passes by).pages (Searching missed tries (GiveVictim buffer victim)) core.values) page
+          (robbed_apart (core.passes by).pages missed tries buffer victim core.values page (λ e. omega (arith, e, low)) (not_own sizes (core.passes by).call (core.passes by).pages (rob_pages sizes first by core missed tries buffer victim sound at) buffer victim page (rob_stands sizes first by core missed tries buffer victim sound at).2 is))
           ∙ before page is (inl low)
       | inr valid ↦
-          let same = robbed_valid (Searching missed tries (GiveVictim buffer victim)) core.values (PAGE page) valid in
-          page_bytes_same (core.passes by).fetched core.values (values_robbed (Searching missed tries (GiveVictim buffer victim)) core.values) page same ∙ before page is (inr (sym (ap is_valid same) ∙ valid))
+          let same = robbed_valid (core.passes by).pages (Searching missed tries (GiveVictim buffer victim)) core.values (PAGE page) valid in
+          page_bytes_same (core.passes by).fetched core.values (values_robbed (core.passes by).pages (Searching missed tries (GiveVictim buffer victim)) core.values) page same ∙ before page is (inr (sym (ap is_valid same) ∙ valid))
     ]
 buffers_robbed sizes first opening by core found cell sound was kept control at = kept
 
@@ -231,7 +233,7 @@ read_only (Sync file) read = refl
 
 -- what its buffers have then: all of its pieces
 place_patched : (sizes : Sizes) (values : Values) (pass : Pass) (reply : Reply) (page : ℕ) (old : List ℕ) (control : Control) → FactsAt sizes pass control → MayPlace sizes values pass reply control
-    → patched_page sizes pass.call control page old ≡ with_own_pieces sizes pass.call page old
+    → patched_page sizes pass.call pass.pages control page old ≡ with_own_pieces sizes pass.call page old
 place_patched sizes values pass reply page old TakePlace stands may = refl
 place_patched sizes values pass reply page old (VisitPage next) stands may = sym (own_none sizes pass.call page old (read_only pass.call stands.0))
 place_patched sizes values pass reply page old control stands may = absurd may
@@ -259,8 +261,8 @@ module _ (plain : PlainLaws) (sizes : Sizes) (first : Values) (opening : Files) 
       ap (λ f. page_in sizes f page) (files_placed plain sizes first opening by core reply sound)
       ∙ page_placed plain sizes (core.passes by).call (files_now opening core) page allowed there (whole_page sizes (core.passes by) (core.passes by).control whole (sound.control_facts by).pages (sound.ownership by).locks page has)
 
-  unpatched_then : (page : ℕ) (old : List ℕ) → patched_page sizes (core.passes by).call (changed_pass sizes by core (Place reply) found).control page old ≡ old
-  unpatched_then page old = if_both (λ s. patched_page sizes (core.passes by).call s page old ≡ old) (is_write (core.passes by).call && exceeds (core.passes by) (core.passes by).length) GrowLength (ending sizes (core.passes by))
+  unpatched_then : (page : ℕ) (old : List ℕ) → patched_page sizes (core.passes by).call (changed_pass sizes by core (Place reply) found).pages (changed_pass sizes by core (Place reply) found).control page old ≡ old
+  unpatched_then page old = if_both (λ s. patched_page sizes (core.passes by).call (core.passes by).pages s page old ≡ old) (is_write (core.passes by).call && exceeds (core.passes by) (core.passes by).length) GrowLength (ending sizes (core.passes by))
       (λ _. refl) (λ _. old_ending sizes core.values (core.passes by) page old)
 
   buffers_place : ValidBuffers sizes opening (after_step sizes by (Place reply) found core)
@@ -276,9 +278,9 @@ module _ (plain : PlainLaws) (sizes : Sizes) (first : Values) (opening : Files) 
         ∙ sym (unpatched_then page (page_now sizes opening (after_step sizes by (Place reply) found core) page)))
         (λ n ne has valid.
         was.held n page has valid
-        ∙ ap (patched_page sizes (core.passes n).call (core.passes n).control page) (sym (now_else page (others_none sizes first core sound page n by has (λ e. ne (sym e)))))) n;
+        ∙ ap (patched_page sizes (core.passes n).call (core.passes n).pages (core.passes n).control page) (sym (now_else page (others_none sizes first core sound page n by has (λ e. ne (sym e)))))) n;
     gathered = by_number (λ n (p : Pass). HasGathered sizes opening (after_step sizes by (Place reply) found core) p) core.passes by (changed_pass sizes by core (Place reply) found)
-        (if_both (GatheredAt sizes (page_now sizes opening (after_step sizes by (Place reply) found core)) core.values (core.passes by).call (core.passes by).fetched) (is_write (core.passes by).call && exceeds (core.passes by) (core.passes by).length)
+        (if_both (GatheredAt sizes (page_now sizes opening (after_step sizes by (Place reply) found core)) core.values (core.passes by).call (core.passes by).pages (core.passes by).fetched) (is_write (core.passes by).call && exceeds (core.passes by) (core.passes by).length)
         GrowLength (ending sizes (core.passes by)) (λ _. tt) (λ _. at_ending sizes (page_now sizes opening (after_step sizes by (Place reply) found core)) core.values (core.passes by)))
         (λ n ne. gathered_same sizes (page_now sizes opening core) (page_now sizes opening (after_step sizes by (Place reply) found core)) core.values core.values (core.passes n) (core.passes n).control (sound.control_facts n).at (sound.control_facts n).pages (sound.ownership n).locks
         (λ page has. (refl, now_else page (others_none sizes first core sound page n by has (λ e. ne (sym e))))) (was.gathered n));
@@ -309,6 +311,16 @@ module _ (sizes : Sizes) (first : Values) (opening : Files) (by : ℕ) (core : C
   has_own : times (PAGE own) (core.passes by).owned ≡ 1
   has_own = pledged_page sizes (core.passes by) own (subst (FactsAt sizes (core.passes by)) may.may (sound.control_facts by).at) pages_own locks
 
+  is_own : IsPage sizes (core.passes by).call own
+  is_own = let stands : FactsAt sizes (core.passes by) (PledgePage own) = subst (FactsAt sizes (core.passes by)) may.may (sound.control_facts by).at in stands.1
+
+  -- the front of its pages, and with this one
+  front_own : (page : ℕ) → count_in (take (nth_of sizes (core.passes by).call (own + 1)) (core.passes by).pages) page ≡ one_if (page == own) + count_in (take (nth_of sizes (core.passes by).call own) (core.passes by).pages) page
+  front_own page = front_more sizes (core.passes by).call (core.passes by).pages pages_own own page is_own
+
+  own_once : one_if (own == own) ≡ 1
+  own_once = when_true (own == own) 1 0 (eq-eqb own own refl)
+
   -- the buffers of other pages stay
   value_else : (page : ℕ) → page ≢ own → values_stepped sizes (core.passes by) (Pledge own) core.values (PAGE page) ≡ core.values (PAGE page)
   value_else page ne = word_else core.values (PAGE own) (patched_by sizes (core.passes by).call own (core.values (PAGE own))) (PAGE page) (λ e. ne (ap index e))
@@ -320,26 +332,33 @@ module _ (sizes : Sizes) (first : Values) (opening : Files) (by : ℕ) (core : C
   apart number page ne has e = let z = others_none sizes first core sound page number by has (λ is. ne (sym is)) in let h = subst (λ p. times (PAGE p) (core.passes by).owned ≡ 1) (sym e) has_own in omega (arith, z, h)
 
   -- the page that is pledged is patched then, and the others as they were
-  then_own : (old : List ℕ) → patched_page sizes (core.passes by).call (changed_pass sizes by core (Pledge own) found).control own old ≡ with_own_pieces sizes (core.passes by).call own old
-  then_own old = if_both (λ s. patched_page sizes (core.passes by).call s own old ≡ with_own_pieces sizes (core.passes by).call own old) (own + 1 == end_page sizes (core.passes by).call)
+  then_own : (old : List ℕ) → patched_page sizes (core.passes by).call (changed_pass sizes by core (Pledge own) found).pages (changed_pass sizes by core (Pledge own) found).control own old ≡ with_own_pieces sizes (core.passes by).call own old
+  then_own old = if_both (λ s. patched_page sizes (core.passes by).call (core.passes by).pages s own old ≡ with_own_pieces sizes (core.passes by).call own old) (own + 1 == end_page sizes (core.passes by).call)
       (ReadyEntry (if (core.passes by).entries == 1 then (core.passes by).first else (core.passes by).first + 1)) (PledgePage (own + 1))
-      (λ _. refl) (λ _. when_true (nat_lt own (own + 1)) (with_own_pieces sizes (core.passes by).call own old) old (lt-ltb own (own + 1) (omega arith)))
+      (λ _. refl) (λ _. when_false (count_in (take (nth_of sizes (core.passes by).call (own + 1)) (core.passes by).pages) own == 0) old (with_own_pieces sizes (core.passes by).call own old)
+      (ne_eqb (count_in (take (nth_of sizes (core.passes by).call (own + 1)) (core.passes by).pages) own) 0 (λ none. let more = front_own own in omega (arith, more, own_once, none))))
 
-  before_own : (old : List ℕ) → patched_page sizes (core.passes by).call (core.passes by).control own old ≡ old
-  before_own old = ap (λ s. patched_page sizes (core.passes by).call s own old) may.may ∙ when_false (nat_lt own own) (with_own_pieces sizes (core.passes by).call own old) old (le-ltb own own (omega arith))
+  before_own : (old : List ℕ) → patched_page sizes (core.passes by).call (core.passes by).pages (core.passes by).control own old ≡ old
+  before_own old = ap (λ s. patched_page sizes (core.passes by).call (core.passes by).pages s own old) may.may
+      ∙ when_true (count_in (take (nth_of sizes (core.passes by).call own) (core.passes by).pages) own == 0) old (with_own_pieces sizes (core.passes by).call own old)
+      (eq-eqb (count_in (take (nth_of sizes (core.passes by).call own) (core.passes by).pages) own) 0 (
+      let more = front_own own in let few = count_taken (core.passes by).pages (nth_of sizes (core.passes by).call (own + 1)) own in
+      let once = pages_once sizes (core.passes by).call (core.passes by).pages pages_own own is_own in omega (arith, more, few, once, own_once)
+      ))
 
   then_else : (page : ℕ) (old : List ℕ) → page ≢ own → times (PAGE page) (core.passes by).owned ≡ 1
-      → patched_page sizes (core.passes by).call (core.passes by).control page old ≡ patched_page sizes (core.passes by).call (changed_pass sizes by core (Pledge own) found).control page old
+      → patched_page sizes (core.passes by).call (core.passes by).pages (core.passes by).control page old ≡ patched_page sizes (core.passes by).call (changed_pass sizes by core (Pledge own) found).pages (changed_pass sizes by core (Pledge own) found).control page old
   then_else page old ne has =
-      let is = whole_page sizes (core.passes by) (PledgePage own) tt pages_own locks page has in
-      ap (λ s. patched_page sizes (core.passes by).call s page old) may.may
-      ∙ if_both (λ s. (if nat_lt page own then with_own_pieces sizes (core.passes by).call page old else old) ≡ patched_page sizes (core.passes by).call s page old) (own + 1 == end_page sizes (core.passes by).call)
+      let holds = locks (PAGE page) (λ slot. differ (PAGE page) (ENTRY slot) refl) in
+      let other : one_if (page == own) ≡ 0 = when_false (page == own) 1 0 (ne_eqb page own ne) in
+      let more = front_own page in
+      ap (λ s. patched_page sizes (core.passes by).call (core.passes by).pages s page old) may.may
+      ∙ if_both (λ s. (if count_in (take (nth_of sizes (core.passes by).call own) (core.passes by).pages) page == 0 then old else with_own_pieces sizes (core.passes by).call page old) ≡ patched_page sizes (core.passes by).call (core.passes by).pages s page old) (own + 1 == end_page sizes (core.passes by).call)
       (ReadyEntry (if (core.passes by).entries == 1 then (core.passes by).first else (core.passes by).first + 1)) (PledgePage (own + 1))
-      (λ e. let last = eqb-true (own + 1) (end_page sizes (core.passes by).call) e in let high = is.1 in when_true (nat_lt page own) (with_own_pieces sizes (core.passes by).call page old) old (lt-ltb page own (omega (arith, last, high, ne))))
-      (λ _. ap (λ b. if b then with_own_pieces sizes (core.passes by).call page old else old) (elim (cases_lt page own) [
-        | inl below ↦ lt-ltb page own below ∙ sym (lt-ltb page (own + 1) (omega (arith, below)))
-        | inr above ↦ le-ltb page own above ∙ sym (le-ltb page (own + 1) (omega (arith, above, ne)))
-      ]))
+      (λ e. let all = front_all sizes (core.passes by).call (core.passes by).pages pages_own (own + 1) page (eqb-true (own + 1) (end_page sizes (core.passes by).call) e) in
+      when_false (count_in (take (nth_of sizes (core.passes by).call own) (core.passes by).pages) page == 0) old (with_own_pieces sizes (core.passes by).call page old)
+      (ne_eqb (count_in (take (nth_of sizes (core.passes by).call own) (core.passes by).pages) page) 0 (λ none. omega (arith, all, more, other, holds, has, none))))
+      (λ _. ap (λ n. if n == 0 then old else with_own_pieces sizes (core.passes by).call page old) (omega (arith, more, other)))
 
   buffers_pledge : ValidBuffers sizes opening (after_step sizes by (Pledge own) found core)
   buffers_pledge = subst (λ h. ValidBuffers sizes opening (record (after_step sizes by (Pledge own) found core) { history = h })) (sym (same_history by core (Pledge own) tt)) record {
@@ -348,10 +367,10 @@ module _ (sizes : Sizes) (first : Values) (opening : Files) (by : ℕ) (core : C
         let ne : page ≢ own = λ e. (let z = unheld sizes first core sound page none by in let h = subst (λ p. times (PAGE p) (core.passes by).owned ≡ 1) (sym e) has_own in omega (arith, z, h)) in
         ap bytes_in (value_else page ne) ∙ was.free page none (sym (ap is_valid (value_else page ne)) ∙ valid);
     held = λ n page. by_number (λ n (p : Pass). times (PAGE page) p.owned ≡ 1 → is_valid (values_stepped sizes (core.passes by) (Pledge own) core.values (PAGE page)) ≡ true
-        → bytes_in (values_stepped sizes (core.passes by) (Pledge own) core.values (PAGE page)) ≡ patched_page sizes p.call p.control page (page_now sizes opening core page)) core.passes by (changed_pass sizes by core (Pledge own) found)
+        → bytes_in (values_stepped sizes (core.passes by) (Pledge own) core.values (PAGE page)) ≡ patched_page sizes p.call p.pages p.control page (page_now sizes opening core page)) core.passes by (changed_pass sizes by core (Pledge own) found)
         (λ has. elim (cases_eq page own) [
           | inl e ↦ subst (λ q. is_valid (values_stepped sizes (core.passes by) (Pledge own) core.values (PAGE q)) ≡ true
-              → bytes_in (values_stepped sizes (core.passes by) (Pledge own) core.values (PAGE q)) ≡ patched_page sizes (core.passes by).call (changed_pass sizes by core (Pledge own) found).control q (page_now sizes opening core q)) (sym e)
+              → bytes_in (values_stepped sizes (core.passes by) (Pledge own) core.values (PAGE q)) ≡ patched_page sizes (core.passes by).call (changed_pass sizes by core (Pledge own) found).pages (changed_pass sizes by core (Pledge own) found).control q (page_now sizes opening core q)) (sym e)
               (λ valid. let old = sym (valid_patched sizes (core.passes by).call own (core.values (PAGE own))) ∙ sym (ap is_valid value_own) ∙ valid in
               ap bytes_in value_own
               ∙ bytes_patched sizes (core.passes by).call own (core.values (PAGE own)) old
@@ -360,8 +379,8 @@ module _ (sizes : Sizes) (first : Values) (opening : Files) (by : ℕ) (core : C
           | inr ne ↦ λ valid. ap bytes_in (value_else page ne) ∙ was.held by page has (sym (ap is_valid (value_else page ne)) ∙ valid) ∙ then_else page (page_now sizes opening core page) ne has
         ])
         (λ n ne has valid. let far = apart n page ne has in ap bytes_in (value_else page far) ∙ was.held n page has (sym (ap is_valid (value_else page far)) ∙ valid)) n;
-    gathered = by_number (λ n (p : Pass). GatheredAt sizes (page_now sizes opening core) (values_stepped sizes (core.passes by) (Pledge own) core.values) p.call p.fetched p.control) core.passes by (changed_pass sizes by core (Pledge own) found)
-        (if_both (GatheredAt sizes (page_now sizes opening core) (values_stepped sizes (core.passes by) (Pledge own) core.values) (core.passes by).call (core.passes by).fetched) (own + 1 == end_page sizes (core.passes by).call)
+    gathered = by_number (λ n (p : Pass). GatheredAt sizes (page_now sizes opening core) (values_stepped sizes (core.passes by) (Pledge own) core.values) p.call p.pages p.fetched p.control) core.passes by (changed_pass sizes by core (Pledge own) found)
+        (if_both (GatheredAt sizes (page_now sizes opening core) (values_stepped sizes (core.passes by) (Pledge own) core.values) (core.passes by).call (core.passes by).pages (core.passes by).fetched) (own + 1 == end_page sizes (core.passes by).call)
         (ReadyEntry (if (core.passes by).entries == 1 then (core.passes by).first else (core.passes by).first + 1)) (PledgePage (own + 1)) (λ _. tt) (λ _. tt))
         (λ n ne. gathered_same sizes (page_now sizes opening core) (page_now sizes opening core) core.values (values_stepped sizes (core.passes by) (Pledge own) core.values) (core.passes n) (core.passes n).control (sound.control_facts n).at (sound.control_facts n).pages (sound.ownership n).locks
         (λ page has. (value_else page (apart n page ne has), refl)) (was.gathered n));
@@ -416,7 +435,7 @@ module _ (sizes : Sizes) (first : Values) (opening : Files) (by : ℕ) (core : C
   off_unlock number page ne has e = let z = others_none sizes first core sound page number by has (λ is. ne (sym is)) in let h = subst (λ p. times (PAGE p) (core.passes by).owned ≡ 1) (sym e) has_unlock in omega (arith, z, h)
 
   held_unlock : (page : ℕ) → times (PAGE page) (changed_pass sizes by core (Give cell) found).owned ≡ 1 → is_valid (values_stepped sizes (core.passes by) (Give cell) core.values (PAGE page)) ≡ true
-      → bytes_in (values_stepped sizes (core.passes by) (Give cell) core.values (PAGE page)) ≡ patched_page sizes (core.passes by).call (changed_pass sizes by core (Give cell) found).control page (page_now sizes opening core page)
+      → bytes_in (values_stepped sizes (core.passes by) (Give cell) core.values (PAGE page)) ≡ patched_page sizes (core.passes by).call (changed_pass sizes by core (Give cell) found).pages (changed_pass sizes by core (Give cell) found).control page (page_now sizes opening core page)
   held_unlock page has valid =
       elim (cases_eq page own) [
         | inl e ↦ subst (λ p. is_valid (values_stepped sizes (core.passes by) (Give cell) core.values (PAGE p)) ≡ true → bytes_in (values_stepped sizes (core.passes by) (Give cell) core.values (PAGE p)) ≡ page_now sizes opening core p) (sym e)
@@ -425,11 +444,11 @@ module _ (sizes : Sizes) (first : Values) (opening : Files) (by : ℕ) (core : C
             let less = no_more sizes (Give cell) found page (core.passes by).owned tt in
             ap bytes_in (filled_else page ne)
             ∙ was.held by page (once sizes first core sound by page (omega (arith, less, has))) (sym (ap is_valid (filled_else page ne)) ∙ valid)
-            ∙ ap (λ s. patched_page sizes (core.passes by).call s page (page_now sizes opening core page)) at
+            ∙ ap (λ s. patched_page sizes (core.passes by).call (core.passes by).pages s page (page_now sizes opening core page)) at
       ]
-      ∙ sym (ap (λ s. patched_page sizes (core.passes by).call s page (page_now sizes opening core page)) control_unlock)
+      ∙ sym (ap (λ s. patched_page sizes (core.passes by).call (core.passes by).pages s page (page_now sizes opening core page)) control_unlock)
 
-  gathered_unlock : Gathered sizes (page_now sizes opening core) (values_stepped sizes (core.passes by) (Give cell) core.values) (core.passes by).call (core.passes by).fetched (own + 1)
+  gathered_unlock : Gathered sizes (page_now sizes opening core) (values_stepped sizes (core.passes by) (Give cell) core.values) (core.passes by).call (core.passes by).pages (core.passes by).fetched (own + 1)
   gathered_unlock page is passed = elim (cases_eq page own) [
     | inl e ↦ subst (λ p. page_bytes (core.passes by).fetched (values_stepped sizes (core.passes by) (Give cell) core.values) p ≡ page_now sizes opening core p) (sym e)
         (page_bytes_fetched (core.passes by).fetched (values_stepped sizes (core.passes by) (Give cell) core.values) own before.1 ∙ all)
@@ -437,8 +456,8 @@ module _ (sizes : Sizes) (first : Values) (opening : Files) (by : ℕ) (core : C
         ∙ before.0 page is ne (elim passed [ inl low ↦ inl (omega (arith, low, ne)) | inr valid ↦ inr (sym (ap is_valid (filled_else page ne)) ∙ valid) ])
   ]
     where
-      before : Halfway sizes (page_now sizes opening core) core.values (core.passes by).call (core.passes by).fetched own
-      before = subst (GatheredAt sizes (page_now sizes opening core) core.values (core.passes by).call (core.passes by).fetched) at (was.gathered by)
+      before : Halfway sizes (page_now sizes opening core) core.values (core.passes by).call (core.passes by).pages (core.passes by).fetched own
+      before = subst (GatheredAt sizes (page_now sizes opening core) core.values (core.passes by).call (core.passes by).pages (core.passes by).fetched) at (was.gathered by)
 
   buffers_unlock : ValidBuffers sizes opening (after_step sizes by (Give cell) found core)
   buffers_unlock = subst (λ h. ValidBuffers sizes opening (record (after_step sizes by (Give cell) found core) { history = h })) (sym (same_history by core (Give cell) tt)) record {
@@ -447,11 +466,11 @@ module _ (sizes : Sizes) (first : Values) (opening : Files) (by : ℕ) (core : C
         let ne : page ≢ own = λ e. (let z = unheld sizes first core sound page none by in let h = subst (λ p. times (PAGE p) (core.passes by).owned ≡ 1) (sym e) has_unlock in omega (arith, z, h)) in
         ap bytes_in (filled_else page ne) ∙ was.free page none (sym (ap is_valid (filled_else page ne)) ∙ valid);
     held = λ n page. by_number (λ n (p : Pass). times (PAGE page) p.owned ≡ 1 → is_valid (values_stepped sizes (core.passes by) (Give cell) core.values (PAGE page)) ≡ true
-        → bytes_in (values_stepped sizes (core.passes by) (Give cell) core.values (PAGE page)) ≡ patched_page sizes p.call p.control page (page_now sizes opening core page)) core.passes by (changed_pass sizes by core (Give cell) found)
+        → bytes_in (values_stepped sizes (core.passes by) (Give cell) core.values (PAGE page)) ≡ patched_page sizes p.call p.pages p.control page (page_now sizes opening core page)) core.passes by (changed_pass sizes by core (Give cell) found)
         (held_unlock page)
         (λ n ne has valid. let far = filled_else page (off_unlock n page ne has) in ap bytes_in far ∙ was.held n page has (sym (ap is_valid far) ∙ valid)) n;
-    gathered = by_number (λ n (p : Pass). GatheredAt sizes (page_now sizes opening core) (values_stepped sizes (core.passes by) (Give cell) core.values) p.call p.fetched p.control) core.passes by (changed_pass sizes by core (Give cell) found)
-        (subst (GatheredAt sizes (page_now sizes opening core) (values_stepped sizes (core.passes by) (Give cell) core.values) (core.passes by).call (core.passes by).fetched) (sym control_unlock) gathered_unlock)
+    gathered = by_number (λ n (p : Pass). GatheredAt sizes (page_now sizes opening core) (values_stepped sizes (core.passes by) (Give cell) core.values) p.call p.pages p.fetched p.control) core.passes by (changed_pass sizes by core (Give cell) found)
+        (subst (GatheredAt sizes (page_now sizes opening core) (values_stepped sizes (core.passes by) (Give cell) core.values) (core.passes by).call (core.passes by).pages (core.passes by).fetched) (sym control_unlock) gathered_unlock)
         (λ n ne. gathered_same sizes (page_now sizes opening core) (page_now sizes opening core) core.values (values_stepped sizes (core.passes by) (Give cell) core.values) (core.passes n) (core.passes n).control (sound.control_facts n).at (sound.control_facts n).pages (sound.ownership n).locks
         (λ page has. (filled_else page (off_unlock n page ne has), refl)) (was.gathered n));
   }
@@ -483,14 +502,14 @@ valid_step plain sizes first opening by core op found count sound may all was = 
 
 -- what changes one pass, and no page's value
 buffers_one : (sizes : Sizes) (first : Values) (opening : Files) (core : Core) (by : ℕ) (pass : Pass) (values : Values) → ((page : ℕ) → values (PAGE page) ≡ core.values (PAGE page))
-    → ((page : ℕ) → HasHeld sizes opening core page pass) → GatheredAt sizes (page_now sizes opening core) values pass.call pass.fetched pass.control
+    → ((page : ℕ) → HasHeld sizes opening core page pass) → GatheredAt sizes (page_now sizes opening core) values pass.call pass.pages pass.fetched pass.control
     → Sound sizes first core → ValidBuffers sizes opening core → ValidBuffers sizes opening record core { values = values; passes = (λ n. if n == by then pass else core.passes n) }
 buffers_one sizes first opening core by pass values same held gathered sound was = record {
   free = λ page free valid. ap bytes_in (same page) ∙ was.free page free (sym (ap is_valid (same page)) ∙ valid);
-  held = λ n page. by_number (λ n (p : Pass). times (PAGE page) p.owned ≡ 1 → is_valid (values (PAGE page)) ≡ true → bytes_in (values (PAGE page)) ≡ patched_page sizes p.call p.control page (page_now sizes opening core page)) core.passes by pass
+  held = λ n page. by_number (λ n (p : Pass). times (PAGE page) p.owned ≡ 1 → is_valid (values (PAGE page)) ≡ true → bytes_in (values (PAGE page)) ≡ patched_page sizes p.call p.pages p.control page (page_now sizes opening core page)) core.passes by pass
       (λ has valid. ap bytes_in (same page) ∙ held page has (sym (ap is_valid (same page)) ∙ valid))
       (λ n ne has valid. ap bytes_in (same page) ∙ was.held n page has (sym (ap is_valid (same page)) ∙ valid)) n;
-  gathered = by_number (λ n (p : Pass). GatheredAt sizes (page_now sizes opening core) values p.call p.fetched p.control) core.passes by pass gathered
+  gathered = by_number (λ n (p : Pass). GatheredAt sizes (page_now sizes opening core) values p.call p.pages p.fetched p.control) core.passes by pass gathered
       (λ n ne. gathered_same sizes (page_now sizes opening core) (page_now sizes opening core) core.values values (core.passes n) (core.passes n).control (sound.control_facts n).at (sound.control_facts n).pages (sound.ownership n).locks (λ page has. (same page, refl)) (was.gathered n));
 }
 
@@ -500,7 +519,7 @@ valid_begin sizes first opening by core call sound may was =
     let held : HoldsLocks sizes (core.passes by) Idle = subst (HoldsLocks sizes (core.passes by)) may.idle (sound.ownership by).locks in
     buffers_one sizes first opening core by (begun sizes call (core.passes by)) core.values (λ page. refl)
     (λ page has valid. absurd (let z = held (PAGE page) (λ slot. differ (PAGE page) (ENTRY slot) refl) in omega (arith, z, has)))
-    (if_both (GatheredAt sizes (page_now sizes opening core) core.values (plain_call call) []) (page_count sizes (plain_call call) == 0) LoadStop (TakePage (first_page sizes (plain_call call))) (λ _. refl) (λ _. refl))
+    (if_both (GatheredAt sizes (page_now sizes opening core) core.values (plain_call call) [] []) (page_count sizes (plain_call call) == 0) LoadStop (TakePage (first_page sizes (plain_call call))) (λ _. refl) (λ _. refl))
     sound was
 
 -- the cell of a device call is no page
@@ -514,29 +533,30 @@ work_cell sizes values pass work (Cleaning batch (SyncStores (file ∷ rest))) d
 work_cell sizes values pass work (Cleaning batch (MoveHeaderTail calls)) due page e = differ (PAGE page) HEADER refl (e ∙ due.cell)
 work_cell sizes values pass work control due page e = due
 
-read_else : (job : Job) (how : CallEnding) (control : Control) (values : Values) (page : ℕ) → (control ≡ ReadStore page false → ⊥) → values_read job how control values (PAGE page) ≡ values (PAGE page)
-read_else (PageRead at bytes) Made (ReadStore other false) values page ne = word_else values (PAGE other) (filled bytes (values (PAGE other))) (PAGE page) (λ e. ne (ap (λ p. ReadStore p false) (sym (ap index e))))
-read_else job how control values page ne = refl
+read_else : (pages : List ℕ) (job : Job) (how : CallEnding) (control : Control) (values : Values) (page : ℕ) → (control ≡ ReadStore page false → ⊥) → values_read pages job how control values (PAGE page) ≡ values (PAGE page)
+read_else pages (PageRead at bytes) Made (ReadStore other false) values page ne = word_else values (PAGE other) (filled bytes (values (PAGE other))) (PAGE page) (λ e. ne (ap (λ p. ReadStore p false) (sym (ap index e))))
+read_else pages job how control values page ne = refl
 
-read_failed : (job : Job) (came : Bool) (faults : ℕ) (control : Control) (values : Values) → values_read job (Failed came faults) control values ≡ values
-read_failed (PageRead at bytes) came faults control values = refl
-read_failed (PartStep step spares) came faults control values = refl
-read_failed job came faults control values = refl
+read_failed : (pages : List ℕ) (job : Job) (came : Bool) (faults : ℕ) (control : Control) (values : Values) → values_read pages job (Failed came faults) control values ≡ values
+read_failed pages (PageRead at bytes) came faults control values = refl
+read_failed pages (PartStep step spares) came faults control values = refl
+read_failed pages job came faults control values = refl
 
 -- what stands patched stays so
 work_patched : (sizes : Sizes) (values : Values) (pass : Pass) (work : Work) (how : CallEnding) (control : Control) (page : ℕ) (old : List ℕ) → PagesAt sizes pass control → HoldsLocks sizes pass control → CallDue sizes values pass work control → times (PAGE page) pass.owned ≡ 1
-    → patched_page sizes pass.call control page old ≡ patched_page sizes pass.call (control_worked sizes pass how control) page old
+    → patched_page sizes pass.call pass.pages control page old ≡ patched_page sizes pass.call pass.pages (control_worked sizes pass how control) page old
 work_patched sizes values pass work Made (CommitGroup calls) page old pages held due has =
-    if_both (λ s. old ≡ patched_page sizes pass.call s page old) (calls + 1 == length (commit_steps sizes pass pass.call)) (PledgePage (first_page sizes pass.call)) (CommitGroup (calls + 1))
-    (λ _. sym (when_false (nat_lt page (first_page sizes pass.call)) (with_own_pieces sizes pass.call page old) old (le-ltb page (first_page sizes pass.call) (whole_page sizes pass (CommitGroup calls) tt pages held page has).0))) (λ _. refl)
+    if_both (λ s. old ≡ patched_page sizes pass.call pass.pages s page old) (calls + 1 == length (commit_steps sizes pass pass.call)) (PledgePage (first_page sizes pass.call)) (CommitGroup (calls + 1))
+    (λ _. sym (when_true (count_in (take (nth_of sizes pass.call (first_page sizes pass.call)) pass.pages) page == 0) old (with_own_pieces sizes pass.call page old)
+    (eq-eqb (count_in (take (nth_of sizes pass.call (first_page sizes pass.call)) pass.pages) page) 0 (front_none sizes pass.call pass.pages page)))) (λ _. refl)
 work_patched sizes values pass work Made (ReadStore next dirty) page old pages held due has = refl
 work_patched sizes values pass work Made (ReadPiece next number) page old pages held due has = refl
 work_patched sizes values pass work (Failed came faults) (CommitGroup calls) page old pages held due has = refl
 work_patched sizes values pass work (Failed came faults) (ReadStore next dirty) page old pages held due has = refl
 work_patched sizes values pass work (Failed came faults) (ReadPiece next number) page old pages held due has = refl
-work_patched sizes values pass work Made (Cleaning batch inner) page old pages held due has = of_cleaner_worked (λ s. old ≡ patched_page sizes pass.call s page old) refl (λ _ _. refl) batch Made inner
-work_patched sizes values pass work (Failed came faults) (Cleaning batch inner) page old pages held due has = of_cleaner_worked (λ s. old ≡ patched_page sizes pass.call s page old) refl (λ _ _. refl) batch (Failed came faults) inner
-work_patched sizes values pass work Refused (Cleaning batch inner) page old pages held due has = of_cleaner_worked (λ s. old ≡ patched_page sizes pass.call s page old) refl (λ _ _. refl) batch Refused inner
+work_patched sizes values pass work Made (Cleaning batch inner) page old pages held due has = of_cleaner_worked (λ s. old ≡ patched_page sizes pass.call pass.pages s page old) refl (λ _ _. refl) batch Made inner
+work_patched sizes values pass work (Failed came faults) (Cleaning batch inner) page old pages held due has = of_cleaner_worked (λ s. old ≡ patched_page sizes pass.call pass.pages s page old) refl (λ _ _. refl) batch (Failed came faults) inner
+work_patched sizes values pass work Refused (Cleaning batch inner) page old pages held due has = of_cleaner_worked (λ s. old ≡ patched_page sizes pass.call pass.pages s page old) refl (λ _ _. refl) batch Refused inner
 work_patched sizes values pass work Refused (CommitGroup calls) page old pages held due has = refl
 work_patched sizes values pass work Refused (ReadStore next dirty) page old pages held due has = refl
 work_patched sizes values pass work Refused (ReadPiece next number) page old pages held due has = refl
@@ -559,47 +579,47 @@ module _ (sizes : Sizes) (first : Values) (opening : Files) (by : ℕ) (core : C
       ∙ work_patched sizes core.values (core.passes by) work work.ending (core.passes by).control page (page_now sizes opening core page) (sound.control_facts by).pages (sound.ownership by).locks may.due has
 
   buffers_unread : ((page : ℕ) → values_worked (core.passes by) work core.values (PAGE page) ≡ core.values (PAGE page))
-      → GatheredAt sizes (page_now sizes opening core) (values_worked (core.passes by) work core.values) (core.passes by).call (worked sizes work (core.passes by)).fetched (worked sizes work (core.passes by)).control
+      → GatheredAt sizes (page_now sizes opening core) (values_worked (core.passes by) work core.values) (core.passes by).call (worked sizes work (core.passes by)).pages (worked sizes work (core.passes by)).fetched (worked sizes work (core.passes by)).control
       → ValidBuffers sizes opening (after_work sizes by work core)
   buffers_unread same gathered = buffers_one sizes first opening core by (worked sizes work (core.passes by)) (values_worked (core.passes by) work core.values) same still_held gathered sound was
 
   failed : (came : Bool) (faults : ℕ) → work.ending ≡ Failed came faults → ValidBuffers sizes opening (after_work sizes by work core)
   failed came faults how = buffers_unread
-      (λ page. ap (λ h. values_read work.job h (core.passes by).control (with_value core.values work.cell (called work.job work.ending (core.values work.cell))) (PAGE page)) how
-      ∙ ap (λ (v : Values). v (PAGE page)) (read_failed work.job came faults (core.passes by).control (with_value core.values work.cell (called work.job work.ending (core.values work.cell))))
+      (λ page. ap (λ h. values_read (core.passes by).pages work.job h (core.passes by).control (with_value core.values work.cell (called work.job work.ending (core.values work.cell))) (PAGE page)) how
+      ∙ ap (λ (v : Values). v (PAGE page)) (read_failed (core.passes by).pages work.job came faults (core.passes by).control (with_value core.values work.cell (called work.job work.ending (core.values work.cell))))
       ∙ called_else page)
-      (subst (λ h. GatheredAt sizes (page_now sizes opening core) (values_worked (core.passes by) work core.values) (core.passes by).call (worked sizes work (core.passes by)).fetched (control_worked sizes (core.passes by) h (core.passes by).control)) (sym how)
+      (subst (λ h. GatheredAt sizes (page_now sizes opening core) (values_worked (core.passes by) work core.values) (core.passes by).call (core.passes by).pages (worked sizes work (core.passes by)).fetched (control_worked sizes (core.passes by) h (core.passes by).control)) (sym how)
       (ends (core.passes by).control may.due))
     where
       ends : (control : Control) → CallDue sizes core.values (core.passes by) work control
-          → GatheredAt sizes (page_now sizes opening core) (values_worked (core.passes by) work core.values) (core.passes by).call (worked sizes work (core.passes by)).fetched (control_worked sizes (core.passes by) (Failed came faults) control)
+          → GatheredAt sizes (page_now sizes opening core) (values_worked (core.passes by) work core.values) (core.passes by).call (core.passes by).pages (worked sizes work (core.passes by)).fetched (control_worked sizes (core.passes by) (Failed came faults) control)
       ends (CommitGroup calls) due = tt
       ends (ReadStore page dirty) due = tt
       ends (ReadPiece page number) due = tt
-      ends (Cleaning batch inner) due = of_cleaner_worked (GatheredAt sizes (page_now sizes opening core) (values_worked (core.passes by) work core.values) (core.passes by).call (worked sizes work (core.passes by)).fetched) tt (λ _ _. tt) batch (Failed came faults) inner
+      ends (Cleaning batch inner) due = of_cleaner_worked (GatheredAt sizes (page_now sizes opening core) (values_worked (core.passes by) work core.values) (core.passes by).call (core.passes by).pages (worked sizes work (core.passes by)).fetched) tt (λ _ _. tt) batch (Failed came faults) inner
       ends control due = absurd due
 
   -- a cleaner's
   of_cleaner : (batch : Batch) (inner : CleanerControl) → (core.passes by).control ≡ Cleaning batch inner → ValidBuffers sizes opening (after_work sizes by work core)
   of_cleaner batch inner at = buffers_unread
-      (λ page. read_else work.job work.ending (core.passes by).control (with_value core.values work.cell (called work.job work.ending (core.values work.cell))) page (λ e. true≢false (ap is_cleaning (sym at ∙ e))) ∙ called_else page)
-      (subst (λ s. GatheredAt sizes (page_now sizes opening core) (values_worked (core.passes by) work core.values) (core.passes by).call (worked sizes work (core.passes by)).fetched (control_worked sizes (core.passes by) work.ending s)) (sym at) (go work.ending))
+      (λ page. read_else (core.passes by).pages work.job work.ending (core.passes by).control (with_value core.values work.cell (called work.job work.ending (core.values work.cell))) page (λ e. true≢false (ap is_cleaning (sym at ∙ e))) ∙ called_else page)
+      (subst (λ s. GatheredAt sizes (page_now sizes opening core) (values_worked (core.passes by) work core.values) (core.passes by).call (core.passes by).pages (worked sizes work (core.passes by)).fetched (control_worked sizes (core.passes by) work.ending s)) (sym at) (go work.ending))
     where
       is_cleaning : Control → Bool
       is_cleaning (Cleaning batch inner) = true
       is_cleaning control = false
 
-      go : (how : CallEnding) → GatheredAt sizes (page_now sizes opening core) (values_worked (core.passes by) work core.values) (core.passes by).call (worked sizes work (core.passes by)).fetched (control_worked sizes (core.passes by) how (Cleaning batch inner))
-      go Made = of_cleaner_worked (GatheredAt sizes (page_now sizes opening core) (values_worked (core.passes by) work core.values) (core.passes by).call (worked sizes work (core.passes by)).fetched) tt (λ _ _. tt) batch Made inner
-      go (Failed came faults) = of_cleaner_worked (GatheredAt sizes (page_now sizes opening core) (values_worked (core.passes by) work core.values) (core.passes by).call (worked sizes work (core.passes by)).fetched) tt (λ _ _. tt) batch (Failed came faults) inner
-      go Refused = of_cleaner_worked (GatheredAt sizes (page_now sizes opening core) (values_worked (core.passes by) work core.values) (core.passes by).call (worked sizes work (core.passes by)).fetched) tt (λ _ _. tt) batch Refused inner
+      go : (how : CallEnding) → GatheredAt sizes (page_now sizes opening core) (values_worked (core.passes by) work core.values) (core.passes by).call (core.passes by).pages (worked sizes work (core.passes by)).fetched (control_worked sizes (core.passes by) how (Cleaning batch inner))
+      go Made = of_cleaner_worked (GatheredAt sizes (page_now sizes opening core) (values_worked (core.passes by) work core.values) (core.passes by).call (core.passes by).pages (worked sizes work (core.passes by)).fetched) tt (λ _ _. tt) batch Made inner
+      go (Failed came faults) = of_cleaner_worked (GatheredAt sizes (page_now sizes opening core) (values_worked (core.passes by) work core.values) (core.passes by).call (core.passes by).pages (worked sizes work (core.passes by)).fetched) tt (λ _ _. tt) batch (Failed came faults) inner
+      go Refused = of_cleaner_worked (GatheredAt sizes (page_now sizes opening core) (values_worked (core.passes by) work core.values) (core.passes by).call (core.passes by).pages (worked sizes work (core.passes by)).fetched) tt (λ _ _. tt) batch Refused inner
 
   committed : (calls : ℕ) → (core.passes by).control ≡ CommitGroup calls → work.ending ≡ Made → ValidBuffers sizes opening (after_work sizes by work core)
   committed calls at how = buffers_unread
-      (λ page. read_else work.job work.ending (core.passes by).control (with_value core.values work.cell (called work.job work.ending (core.values work.cell))) page (λ e. apart (sym at ∙ e)) ∙ called_else page)
-      (subst (λ s. GatheredAt sizes (page_now sizes opening core) (values_worked (core.passes by) work core.values) (core.passes by).call (worked sizes work (core.passes by)).fetched (control_worked sizes (core.passes by) work.ending s)) (sym at)
-      (subst (λ h. GatheredAt sizes (page_now sizes opening core) (values_worked (core.passes by) work core.values) (core.passes by).call (worked sizes work (core.passes by)).fetched (control_worked sizes (core.passes by) h (CommitGroup calls))) (sym how)
-      (if_both (GatheredAt sizes (page_now sizes opening core) (values_worked (core.passes by) work core.values) (core.passes by).call (worked sizes work (core.passes by)).fetched)
+      (λ page. read_else (core.passes by).pages work.job work.ending (core.passes by).control (with_value core.values work.cell (called work.job work.ending (core.values work.cell))) page (λ e. apart (sym at ∙ e)) ∙ called_else page)
+      (subst (λ s. GatheredAt sizes (page_now sizes opening core) (values_worked (core.passes by) work core.values) (core.passes by).call (core.passes by).pages (worked sizes work (core.passes by)).fetched (control_worked sizes (core.passes by) work.ending s)) (sym at)
+      (subst (λ h. GatheredAt sizes (page_now sizes opening core) (values_worked (core.passes by) work core.values) (core.passes by).call (core.passes by).pages (worked sizes work (core.passes by)).fetched (control_worked sizes (core.passes by) h (CommitGroup calls))) (sym how)
+      (if_both (GatheredAt sizes (page_now sizes opening core) (values_worked (core.passes by) work core.values) (core.passes by).call (core.passes by).pages (worked sizes work (core.passes by)).fetched)
       (calls + 1 == length (commit_steps sizes (core.passes by) (core.passes by).call)) (PledgePage (first_page sizes (core.passes by).call)) (CommitGroup (calls + 1)) (λ _. tt) (λ _. tt))))
     where
       is_copying : Control → Bool
@@ -613,27 +633,27 @@ module _ (sizes : Sizes) (first : Values) (opening : Files) (by : ℕ) (core : C
 module _ (sizes : Sizes) (first : Values) (opening : Files) (by : ℕ) (core : Core) (work : Work)
     (sound : Sound sizes first core) (may : CallEnabled sizes core.values (core.passes by) work) (was : ValidBuffers sizes opening core) where
   buffers_fetch : (own : ℕ) (control : Control) → (core.passes by).control ≡ control → work.ending ≡ Made → ((page : ℕ) → control ≡ ReadStore page false → ⊥)
-      → GatheredAt sizes (page_now sizes opening core) (values_worked (core.passes by) work core.values) (core.passes by).call (worked sizes work (core.passes by)).fetched (control_worked sizes (core.passes by) Made control)
-      ≡ Halfway sizes (page_now sizes opening core) (values_worked (core.passes by) work core.values) (core.passes by).call (worked sizes work (core.passes by)).fetched own
-      → (GatheredAt sizes (page_now sizes opening core) core.values (core.passes by).call (core.passes by).fetched control → GatheredBut sizes (page_now sizes opening core) core.values (core.passes by).call (core.passes by).fetched own)
+      → GatheredAt sizes (page_now sizes opening core) (values_worked (core.passes by) work core.values) (core.passes by).call (core.passes by).pages (worked sizes work (core.passes by)).fetched (control_worked sizes (core.passes by) Made control)
+      ≡ Halfway sizes (page_now sizes opening core) (values_worked (core.passes by) work core.values) (core.passes by).call (core.passes by).pages (worked sizes work (core.passes by)).fetched own
+      → (GatheredAt sizes (page_now sizes opening core) core.values (core.passes by).call (core.passes by).pages (core.passes by).fetched control → GatheredBut sizes (page_now sizes opening core) core.values (core.passes by).call (core.passes by).pages (core.passes by).fetched own)
       → (bytes : List ℕ) → (worked sizes work (core.passes by)).fetched ≡ (own, bytes) ∷ (core.passes by).fetched
       → ValidBuffers sizes opening (after_work sizes by work core)
   buffers_fetch own control at how other half before bytes fetched = buffers_unread sizes first opening by core work sound may was same
-      (subst (λ h. GatheredAt sizes (page_now sizes opening core) (values_worked (core.passes by) work core.values) (core.passes by).call (worked sizes work (core.passes by)).fetched (control_worked sizes (core.passes by) h (core.passes by).control)) (sym how)
-      (subst (λ s. GatheredAt sizes (page_now sizes opening core) (values_worked (core.passes by) work core.values) (core.passes by).call (worked sizes work (core.passes by)).fetched (control_worked sizes (core.passes by) Made s)) (sym at)
+      (subst (λ h. GatheredAt sizes (page_now sizes opening core) (values_worked (core.passes by) work core.values) (core.passes by).call (core.passes by).pages (worked sizes work (core.passes by)).fetched (control_worked sizes (core.passes by) h (core.passes by).control)) (sym how)
+      (subst (λ s. GatheredAt sizes (page_now sizes opening core) (values_worked (core.passes by) work core.values) (core.passes by).call (core.passes by).pages (worked sizes work (core.passes by)).fetched (control_worked sizes (core.passes by) Made s)) (sym at)
       (subst (λ T. T) (sym half)
-      (subst (λ f. Halfway sizes (page_now sizes opening core) (values_worked (core.passes by) work core.values) (core.passes by).call f own) (sym fetched) (but, inl refl)))))
+      (subst (λ f. Halfway sizes (page_now sizes opening core) (values_worked (core.passes by) work core.values) (core.passes by).call (core.passes by).pages f own) (sym fetched) (but, inl refl)))))
     where
       same : (page : ℕ) → values_worked (core.passes by) work core.values (PAGE page) ≡ core.values (PAGE page)
       same page =
-          read_else work.job work.ending (core.passes by).control (with_value core.values work.cell (called work.job work.ending (core.values work.cell))) page (λ e. other page (sym at ∙ e))
+          read_else (core.passes by).pages work.job work.ending (core.passes by).control (with_value core.values work.cell (called work.job work.ending (core.values work.cell))) page (λ e. other page (sym at ∙ e))
           ∙ called_else sizes first opening by core work sound may was page
 
-      but : GatheredBut sizes (page_now sizes opening core) (values_worked (core.passes by) work core.values) (core.passes by).call ((own, bytes) ∷ (core.passes by).fetched) own
+      but : GatheredBut sizes (page_now sizes opening core) (values_worked (core.passes by) work core.values) (core.passes by).call (core.passes by).pages ((own, bytes) ∷ (core.passes by).fetched) own
       but page is ne passed =
           when_false (own == page) bytes (page_bytes (core.passes by).fetched (values_worked (core.passes by) work core.values) page) (ne_eqb own page (λ e. ne (sym e)))
           ∙ page_bytes_same (core.passes by).fetched core.values (values_worked (core.passes by) work core.values) page (same page)
-          ∙ before (subst (GatheredAt sizes (page_now sizes opening core) core.values (core.passes by).call (core.passes by).fetched) at (was.gathered by)) page is ne
+          ∙ before (subst (GatheredAt sizes (page_now sizes opening core) core.values (core.passes by).call (core.passes by).pages (core.passes by).fetched) at (was.gathered by)) page is ne
           (elim passed [ inl low ↦ inl low | inr valid ↦ inr (sym (ap is_valid (same page)) ∙ valid) ])
 
 -- a call that reads a page without entries from its store
@@ -658,7 +678,7 @@ module _ (sizes : Sizes) (first : Values) (opening : Files) (by : ℕ) (core : C
   read_now =
       let place = page_place sizes (core.passes by).call allowed_read own stands.1 in
       let told = tells.each (file_of (core.passes by).call) allowed_read.known in
-      let clear : core.words (DIRTY own) ≡ 0 = sound.loaded.clean by own (subst (λ s. SawClean s own) (sym at) refl) in
+      let clear : core.words (DIRTY own) ≡ 0 = sound.loaded.clean by own (subst (λ s. SawClean (core.passes by).pages s own) (sym at) refl) in
       says_is sizes (page_start sizes (core.passes by).call own) due.bytes told.0 (core.values (STORE (file_of (core.passes by).call))) told.1 due.says
       ∙ ap (λ n. page_from told.0.seen (n * sizes.page) sizes.page) (sym place.1)
       ∙ sym (clean.clean by own told.0 stands.0 has_read clear (subst (λ f. f < sizes.files) (sym place.0) allowed_read.known) (ap (λ f. store_of_value (core.values (STORE f))) place.0 ∙ told.1))
@@ -666,15 +686,15 @@ module _ (sizes : Sizes) (first : Values) (opening : Files) (by : ℕ) (core : C
   value_read : values_worked (core.passes by) work core.values (PAGE own) ≡ filled due.bytes (core.values (PAGE own))
   value_read =
       let vals = with_value core.values work.cell (called work.job work.ending (core.values work.cell)) in
-      ap (λ j. values_read j work.ending (core.passes by).control vals (PAGE own)) due.job
-      ∙ ap (λ h. values_read (PageRead (page_start sizes (core.passes by).call own) due.bytes) h (core.passes by).control vals (PAGE own)) how
-      ∙ ap (λ s. values_read (PageRead (page_start sizes (core.passes by).call own) due.bytes) Made s vals (PAGE own)) at
+      ap (λ j. values_read (core.passes by).pages j work.ending (core.passes by).control vals (PAGE own)) due.job
+      ∙ ap (λ h. values_read (core.passes by).pages (PageRead (page_start sizes (core.passes by).call own) due.bytes) h (core.passes by).control vals (PAGE own)) how
+      ∙ ap (λ s. values_read (core.passes by).pages (PageRead (page_start sizes (core.passes by).call own) due.bytes) Made s vals (PAGE own)) at
       ∙ word_here vals (PAGE own) (filled due.bytes (vals (PAGE own)))
       ∙ ap (filled due.bytes) (called_else sizes first opening by core work sound may was own)
 
   value_apart : (page : ℕ) → page ≢ own → values_worked (core.passes by) work core.values (PAGE page) ≡ core.values (PAGE page)
   value_apart page ne =
-      read_else work.job work.ending (core.passes by).control (with_value core.values work.cell (called work.job work.ending (core.values work.cell))) page (λ e. ne (copied (sym e ∙ at)))
+      read_else (core.passes by).pages work.job work.ending (core.passes by).control (with_value core.values work.cell (called work.job work.ending (core.values work.cell))) page (λ e. ne (copied (sym e ∙ at)))
       ∙ called_else sizes first opening by core work sound may was page
     where
       page_of_copy : Control → ℕ
@@ -697,16 +717,16 @@ module _ (sizes : Sizes) (first : Values) (opening : Files) (by : ℕ) (core : C
   far number page ne has e = let z = others_none sizes first core sound page number by has (λ is. ne (sym is)) in let h = subst (λ p. times (PAGE p) (core.passes by).owned ≡ 1) (sym e) has_read in omega (arith, z, h)
 
   read_held : (page : ℕ) → times (PAGE page) (core.passes by).owned ≡ 1 → is_valid (values_worked (core.passes by) work core.values (PAGE page)) ≡ true
-      → bytes_in (values_worked (core.passes by) work core.values (PAGE page)) ≡ patched_page sizes (core.passes by).call (worked sizes work (core.passes by)).control page (page_now sizes opening core page)
+      → bytes_in (values_worked (core.passes by) work core.values (PAGE page)) ≡ patched_page sizes (core.passes by).call (worked sizes work (core.passes by)).pages (worked sizes work (core.passes by)).control page (page_now sizes opening core page)
   read_held page has valid = elim (cases_eq page own) [
     | inl e ↦ subst (λ p. is_valid (values_worked (core.passes by) work core.values (PAGE p)) ≡ true
-        → bytes_in (values_worked (core.passes by) work core.values (PAGE p)) ≡ patched_page sizes (core.passes by).call (worked sizes work (core.passes by)).control p (page_now sizes opening core p)) (sym e)
+        → bytes_in (values_worked (core.passes by) work core.values (PAGE p)) ≡ patched_page sizes (core.passes by).call (worked sizes work (core.passes by)).pages (worked sizes work (core.passes by)).control p (page_now sizes opening core p)) (sym e)
         (λ fits. ap bytes_in value_read ∙ filled_bytes due.bytes (core.values (PAGE own)) (sym (ap is_valid value_read) ∙ fits) ∙ read_now
-        ∙ sym (ap (λ s. patched_page sizes (core.passes by).call s own (page_now sizes opening core own)) control_read)) valid
+        ∙ sym (ap (λ s. patched_page sizes (core.passes by).call (core.passes by).pages s own (page_now sizes opening core own)) control_read)) valid
     | inr ne ↦ ap bytes_in (value_apart page ne) ∙ still_held sizes first opening by core work sound may was page has (sym (ap is_valid (value_apart page ne)) ∙ valid)
   ]
 
-  read_gathered : Gathered sizes (page_now sizes opening core) (values_worked (core.passes by) work core.values) (core.passes by).call ((own, due.bytes) ∷ (core.passes by).fetched) (own + 1)
+  read_gathered : Gathered sizes (page_now sizes opening core) (values_worked (core.passes by) work core.values) (core.passes by).call (core.passes by).pages ((own, due.bytes) ∷ (core.passes by).fetched) (own + 1)
   read_gathered page is passed = elim (cases_eq page own) [
     | inl e ↦ subst (λ p. page_bytes ((own, due.bytes) ∷ (core.passes by).fetched) (values_worked (core.passes by) work core.values) p ≡ page_now sizes opening core p) (sym e)
         (when_true (own == own) due.bytes (page_bytes (core.passes by).fetched (values_worked (core.passes by) work core.values) own) (eq-eqb own own refl) ∙ read_now)
@@ -716,8 +736,8 @@ module _ (sizes : Sizes) (first : Values) (opening : Files) (by : ℕ) (core : C
         ∙ before page is (elim passed [ inl low ↦ inl (omega (arith, low, ne)) | inr valid ↦ inr (sym (ap is_valid (value_apart page ne)) ∙ valid) ])
   ]
     where
-      before : Gathered sizes (page_now sizes opening core) core.values (core.passes by).call (core.passes by).fetched own
-      before = subst (GatheredAt sizes (page_now sizes opening core) core.values (core.passes by).call (core.passes by).fetched) at (was.gathered by)
+      before : Gathered sizes (page_now sizes opening core) core.values (core.passes by).call (core.passes by).pages (core.passes by).fetched own
+      before = subst (GatheredAt sizes (page_now sizes opening core) core.values (core.passes by).call (core.passes by).pages (core.passes by).fetched) at (was.gathered by)
 
   buffers_read : ValidBuffers sizes opening (after_work sizes by work core)
   buffers_read = record {
@@ -725,12 +745,12 @@ module _ (sizes : Sizes) (first : Values) (opening : Files) (by : ℕ) (core : C
         let ne : page ≢ own = λ e. (let z = unheld sizes first core sound page free by in let h = subst (λ p. times (PAGE p) (core.passes by).owned ≡ 1) (sym e) has_read in omega (arith, z, h)) in
         ap bytes_in (value_apart page ne) ∙ was.free page free (sym (ap is_valid (value_apart page ne)) ∙ valid);
     held = λ n page. by_number (λ n (p : Pass). times (PAGE page) p.owned ≡ 1 → is_valid (values_worked (core.passes by) work core.values (PAGE page)) ≡ true
-        → bytes_in (values_worked (core.passes by) work core.values (PAGE page)) ≡ patched_page sizes p.call p.control page (page_now sizes opening core page)) core.passes by (worked sizes work (core.passes by))
+        → bytes_in (values_worked (core.passes by) work core.values (PAGE page)) ≡ patched_page sizes p.call p.pages p.control page (page_now sizes opening core page)) core.passes by (worked sizes work (core.passes by))
         (read_held page)
         (λ n ne has valid. let apart = value_apart page (far n page ne has) in ap bytes_in apart ∙ was.held n page has (sym (ap is_valid apart) ∙ valid)) n;
-    gathered = by_number (λ n (p : Pass). GatheredAt sizes (page_now sizes opening core) (values_worked (core.passes by) work core.values) p.call p.fetched p.control) core.passes by (worked sizes work (core.passes by))
-        (subst (λ s. GatheredAt sizes (page_now sizes opening core) (values_worked (core.passes by) work core.values) (core.passes by).call (worked sizes work (core.passes by)).fetched s) (sym control_read)
-        (subst (λ f. Gathered sizes (page_now sizes opening core) (values_worked (core.passes by) work core.values) (core.passes by).call f (own + 1)) (sym fetched_read) read_gathered))
+    gathered = by_number (λ n (p : Pass). GatheredAt sizes (page_now sizes opening core) (values_worked (core.passes by) work core.values) p.call p.pages p.fetched p.control) core.passes by (worked sizes work (core.passes by))
+        (subst (λ s. GatheredAt sizes (page_now sizes opening core) (values_worked (core.passes by) work core.values) (core.passes by).call (core.passes by).pages (worked sizes work (core.passes by)).fetched s) (sym control_read)
+        (subst (λ f. Gathered sizes (page_now sizes opening core) (values_worked (core.passes by) work core.values) (core.passes by).call (core.passes by).pages f (own + 1)) (sym fetched_read) read_gathered))
         (λ n ne. gathered_same sizes (page_now sizes opening core) (page_now sizes opening core) core.values (values_worked (core.passes by) work core.values) (core.passes n) (core.passes n).control (sound.control_facts n).at (sound.control_facts n).pages (sound.ownership n).locks
         (λ page has. (value_apart page (far n page ne has), refl)) (was.gathered n));
   }

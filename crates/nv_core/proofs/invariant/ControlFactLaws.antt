@@ -1,6 +1,6 @@
 -- Control facts: each step and each device call leaves its pass where it may stand.
 use Rattle.std.proofs.Common.{◌≡◌, ℕ, ◌+◌, ◌≤◌, ◌==◌, nat_lt, nat_le, ◌^◌, true, false, not, ◌&&◌, if◌then◌else◌, List, length, refl, sym, ap, subst, ◌∙◌, arith, ◌<◌, inl, inr}
-use Rattle.std.proofs.lemmas.Bool.{true≢false, and_parts, not-true, eqb-false, leb-true, ltb-true}
+use Rattle.std.proofs.lemmas.Bool.{true≢false, and_parts, not-true, eqb-false, leb-true, ltb-true, eqb-true}
 use Rattle.nv_plain.specs.Histories.{Answered}
 use Rattle.nv_plain.specs.declared.call.FileCall.{FileCall}
 use Rattle.nv_core.specs.state.Words.{Sizes, Word, STOP, ORDER, HEAD, TAIL, SIZE, LENGTH, STORE, ENTRY, HINT, PAGE, DIRTY, CLEANUP, ready, is_entry_of, slot_of_entry}
@@ -15,15 +15,13 @@ use Rattle.nv_core.specs.state.Values.{CallEnding, Made, Failed, Refused}
 use Rattle.nv_core.specs.state.Core.{worked, control_worked}
 use Rattle.nv_core.specs.steps.Order.{Values, Work, CallEnabled, CallDue, commit_steps, IsFailing}
 use Rattle.nv_core.specs.steps.StepKinds.{MayLoad, MayTake, IsMiss, JustNow, AfterTries, CleanerEnabled, EnabledByKind}
-use Rattle.nv_core.specs.invariant.ControlFacts.{IsPage, HasDrawn, IsSmall, LogHasRoom, IsElsewhere, FactsAt, PagesAt, CleanerFactsAt, ControlFacts, ReadsPage, has_call}
+use Rattle.nv_core.specs.invariant.ControlFacts.{IsPage, HasDrawn, IsSmall, LogHasRoom, IsElsewhere, FactsAt, CleanerFactsAt, ControlFacts, ReadsPage, has_call}
 use Rattle.nv_core.specs.invariant.CleanerOwnership.{count_in}
-use Rattle.nv_core.specs.invariant.Ownership.{one_if, is_among}
 use Rattle.nv_core.proofs.state.Choices.{if_both, when_true, not_both, leaving_both, HasCall, step_idle, IsGivingBack, gives_back}
 use Rattle.nv_core.proofs.steps.CleanerControls.{tended_to, of_cleaner_worked}
 use Rattle.nv_core.proofs.invariant.CleanerControlFacts.{StoodSweeping, cleaner_stands, cleaner_works}
 use Rattle.nv_core.proofs.steps.SearchLaws.{hinting_next, tried_next}
 use Rattle.nv_core.proofs.state.PageLaws.{write_pages, read_within}
-use Rattle.nv_core.proofs.invariant.PageLists.{pages_among}
 use Rattle.nv_core.proofs.invariant.PageSteps.{pages_steps, pages_begin, pages_work}
 
 -- a call on its way out
@@ -103,8 +101,7 @@ loads sizes values pass (HINT buffer) found number history stands may =
     hinting_next (FactsAt sizes (stepped sizes number history (Load (HINT buffer)) found pass)) sizes pass buffer found may (
       at.0,
       at.1,
-      if_both (IsElsewhere pass.pages) (is_among (first_page sizes pass.call) (end_page sizes pass.call) found) NotFound (TakeVictim buffer found) (λ _. tt)
-          (λ none. pages_among sizes pass.call pass.pages (subst (PagesAt sizes pass) may.is stands.pages) found ∙ ap one_if none),
+      if_both (IsElsewhere pass.pages) (count_in pass.pages found == 0) (TakeVictim buffer found) NotFound (λ none. eqb-true (count_in pass.pages found) 0 none) (λ _. tt),
     )
 loads sizes values pass word found number history stands may = absurd may
 

@@ -98,7 +98,7 @@ no_victim_of_the_call sizes first core by page sound = go (core.passes by).contr
 pub no_hold_of_an_unready_entry : NoHoldOfAnUnreadyEntry
 no_hold_of_an_unready_entry sizes first core by number sound next =
     let may = next_steps_may_come sizes core.values (core.passes by) (Hold number) next in
-    let looks : InWindow core number × (is_entry_of ready may.0 (entry_word_at sizes core number) ≡ true) = subst (LooksSound sizes core) may.1 (sound.loaded.looks by) in
+    let looks : InWindow core number × (is_entry_of ready may.0 (entry_word_at sizes core number) ≡ true) = subst (LooksSound sizes core (core.passes by).pages) may.1 (sound.loaded.looks by) in
     (entry_is ready may.0 (entry_word_at sizes core number) looks.1).0
 
 pub no_entry_held_twice : NoEntryHeldTwice
@@ -113,7 +113,7 @@ no_other_cleanup sizes first core by other page sound owes held = elim (cases_eq
   | inr ne ↦ absurd (held_by_one sizes first core sound (CLEANUP page) by other (has (core.passes by).control owes (sound.ownership by).locks) held ne)
 ]
   where
-    has : (control : Control) → cleanup_held control page ≡ 1 → HoldsLocks sizes (core.passes by) control → times (CLEANUP page) (core.passes by).owned ≡ 1
+    has : (control : Control) → cleanup_held (core.passes by).pages control page ≡ 1 → HoldsLocks sizes (core.passes by) control → times (CLEANUP page) (core.passes by).owned ≡ 1
     has GiveBack owes locks = absurd (omega (arith, owes))
     has (Cleaning batch cleaner.GiveBack) owes locks = absurd (omega (arith, owes))
     has (Cleaning batch inner) owes locks = locks (CLEANUP page) (λ slot. differ (CLEANUP page) (ENTRY slot) refl) ∙ owes

@@ -101,10 +101,10 @@ module _ (sizes : Sizes) (first : Values) (by : ℕ) (core : Core) (found : ℕ)
   backs (Break next) may page off = back_one core.words (slot_of_entry sizes next) broken page (λ r _. absurd (not_both r refl))
   backs (Ready next) may page off = back_one core.words (slot_of_entry sizes next) (ready_word sizes (core.passes by) next) page (λ _ p. absurd (off (sym (readied_page next may) ∙ p)))
   backs (Hold next) may page off = back_one core.words (slot_of_entry sizes next) (found + 1) page (λ _ p.
-      let looks : InWindow core next × (is_entry_of ready may.may.0 (entry_word_at sizes core next) ≡ true) = subst (LooksSound sizes core) may.may.1 (sound.loaded.looks by) in
+      let looks : InWindow core next × (is_entry_of ready may.may.0 (entry_word_at sizes core next) ≡ true) = subst (LooksSound sizes core (core.passes by).pages) may.may.1 (sound.loaded.looks by) in
       lifted_back next ready page may.is (entry_is ready may.may.0 (entry_word_at sizes core next) looks.1).0 (omega arith) (omega arith) p)
   backs (Return next) may page off = back_one core.words (slot_of_entry sizes next) (found - 1) page (λ _ p.
-      let looks : InWindow core next × (is_entry_of held may.may.0 (entry_word_at sizes core next) ≡ true) = subst (LooksSound sizes core) may.may.2 (sound.loaded.looks by) in
+      let looks : InWindow core next × (is_entry_of held may.may.0 (entry_word_at sizes core next) ≡ true) = subst (LooksSound sizes core (core.passes by).pages) may.may.2 (sound.loaded.looks by) in
       dropped_back next page may.is (entry_is held may.may.0 (entry_word_at sizes core next) looks.1).0 p)
   backs (ByCleaner (cleaner.Hold next)) may page off = back_one core.words (slot_of_entry sizes next) (found + 1) page (λ _ p. lifted_back next ready page may.is (cleaner_hold_hand sizes first core sound by found next may).kind_is (omega arith) (omega arith) p)
   backs (ByCleaner (Clean next)) may page off = back_one core.words (slot_of_entry sizes next) (found + 1) page (λ _ p. lifted_back next held page may.is (cleans_hand sizes first core sound by found next may).kind_is (omega arith) (omega arith) p)

@@ -554,13 +554,13 @@ dirty_step sizes first by core (Break next) found sound dirty may =
     (subst IsUnpledged (sym may.may) tt) (if_both IsUnpledged (next + 1 == (core.passes by).first + (core.passes by).entries) (leaving (without (ENTRY (slot_of_entry sizes next)) (core.passes by).owned)) (BreakEntry (next + 1))
     (λ _. unpledged_leaving (without (ENTRY (slot_of_entry sizes next)) (core.passes by).owned)) (λ _. tt))
 dirty_step sizes first by core (Hold next) found sound dirty may =
-    let looks : InWindow core next × (is_entry_of ready may.may.0 (entry_word_at sizes core next) ≡ true) = subst (LooksSound sizes core) may.may.1 (sound.loaded.looks by) in
+    let looks : InWindow core next × (is_entry_of ready may.may.0 (entry_word_at sizes core next) ≡ true) = subst (LooksSound sizes core (core.passes by).pages) may.may.1 (sound.loaded.looks by) in
     let kind = (entry_is ready may.may.0 (entry_word_at sizes core next) looks.1).0 in
     silent_step sizes first by core (Hold next) found sound dirty may (λ f. f) (λ page. refl)
     (λ page. entry_same sizes core.words (slot_of_entry sizes next) (found + 1) page (slot_within sizes core next sound.window looks.0) (ap (is_of_page page) may.is ∙ hold_same page found (ap kind_of (sym may.is) ∙ kind)))
     (clear_unpledged _ (clear_from sizes core.values (core.passes by) (Hold next) tt may.may)) (clear_unpledged _ (clear_to sizes core.values (core.passes by) (Hold next) found tt may.may))
 dirty_step sizes first by core (Return next) found sound dirty may =
-    let looks : InWindow core next × (is_entry_of held may.may.0 (entry_word_at sizes core next) ≡ true) = subst (LooksSound sizes core) may.may.2 (sound.loaded.looks by) in
+    let looks : InWindow core next × (is_entry_of held may.may.0 (entry_word_at sizes core next) ≡ true) = subst (LooksSound sizes core (core.passes by).pages) may.may.2 (sound.loaded.looks by) in
     let kind = (entry_is held may.may.0 (entry_word_at sizes core next) looks.1).0 in
     silent_step sizes first by core (Return next) found sound dirty may (λ f. f) (λ page. refl)
     (λ page. entry_same sizes core.words (slot_of_entry sizes next) (found - 1) page (slot_within sizes core next sound.window looks.0) (ap (is_of_page page) may.is ∙ return_same page found (ap kind_of (sym may.is) ∙ kind)))

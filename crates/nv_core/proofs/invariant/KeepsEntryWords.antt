@@ -87,13 +87,13 @@ words_step sizes first by core (Ready next) found sound words may =
           (let x = at.1.0 in let y = at.1.1 in let m = at.0.many in omega (arith, x, y, m, most))) slot;
     }
 words_step sizes first by core (Hold next) found sound words may =
-    let looks : InWindow core next × (is_entry_of ready may.may.0 (entry_word_at sizes core next) ≡ true) = subst (LooksSound sizes core) may.may.1 (sound.loaded.looks by) in
+    let looks : InWindow core next × (is_entry_of ready may.may.0 (entry_word_at sizes core next) ≡ true) = subst (LooksSound sizes core (core.passes by).pages) may.may.1 (sound.loaded.looks by) in
     record {
       each = λ slot. changed_word sizes core (slot_of_entry sizes next) (found + 1) words
           (hold_word sizes found (subst (IsEntryWord sizes) may.is (words.each (slot_of_entry sizes next))) (ap kind_of (sym may.is) ∙ (entry_is ready may.may.0 (entry_word_at sizes core next) looks.1).0)) slot;
     }
 words_step sizes first by core (Return next) found sound words may =
-    let looks : InWindow core next × (is_entry_of held may.may.0 (entry_word_at sizes core next) ≡ true) = subst (LooksSound sizes core) may.may.2 (sound.loaded.looks by) in
+    let looks : InWindow core next × (is_entry_of held may.may.0 (entry_word_at sizes core next) ≡ true) = subst (LooksSound sizes core (core.passes by).pages) may.may.2 (sound.loaded.looks by) in
     record {
       each = λ slot. changed_word sizes core (slot_of_entry sizes next) (found - 1) words
           (return_word sizes found (subst (IsEntryWord sizes) may.is (words.each (slot_of_entry sizes next))) (ap kind_of (sym may.is) ∙ (entry_is held may.may.0 (entry_word_at sizes core next) looks.1).0)) slot;

@@ -220,14 +220,14 @@ fits sizes first by core found (Break next) sound may =
     let one = (sound.ownership by).filling next fills in
     (refl, omega (arith, one), refl)
 fits sizes first by core found (Hold next) sound may =
-    let looks : InWindow core next × (is_entry_of ready may.may.0 (entry_word_at sizes core next) ≡ true) = subst (LooksSound sizes core) may.may.1 (sound.loaded.looks by) in
+    let looks : InWindow core next × (is_entry_of ready may.may.0 (entry_word_at sizes core next) ≡ true) = subst (LooksSound sizes core (core.passes by).pages) may.may.1 (sound.loaded.looks by) in
     let kind = (entry_is ready may.may.0 (entry_word_at sizes core next) looks.1).0 in let is = may.is in (
       refl,
       unshut_entry (slot_of_entry sizes next) (entry_word_at sizes core next) (λ e. omega (arith, e, kind)) (λ e. omega (arith, e, kind)),
       shut_entry (slot_of_entry sizes next) (found + 1) (omega (arith, kind, is)),
     )
 fits sizes first by core found (Return next) sound may =
-    let looks : InWindow core next × (is_entry_of held may.may.0 (entry_word_at sizes core next) ≡ true) = subst (LooksSound sizes core) may.may.2 (sound.loaded.looks by) in
+    let looks : InWindow core next × (is_entry_of held may.may.0 (entry_word_at sizes core next) ≡ true) = subst (LooksSound sizes core (core.passes by).pages) may.may.2 (sound.loaded.looks by) in
     let kind = (entry_is held may.may.0 (entry_word_at sizes core next) looks.1).0 in let is = may.is in
     let one = (sound.ownership by).held next (subst (λ s. IsHeldEntry s next) (sym may.may.2) refl) in
     (refl, omega (arith, one), unshut_entry (slot_of_entry sizes next) (found - 1) (λ e. omega (arith, e, kind, is)) (λ e. omega (arith, e, kind, is)))

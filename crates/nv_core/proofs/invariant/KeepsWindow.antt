@@ -385,7 +385,7 @@ window_step sizes first by core (Turn page) found sound may = stays sizes first 
 window_step sizes first by core (Hint buffer page) found sound may = stays sizes first by core (Hint buffer page) found sound may refl refl (λ slot. refl) (plain sizes by core (Hint buffer page) found by _ tt tt may.may)
 window_step sizes first by core (Break next) found sound may = window_entry sizes core by next broken (changed_pass sizes by core (Break next) found) _ _ _ _ sound.window (breaks_one sizes first by core found next sound may)
 window_step sizes first by core (Hold next) found sound may =
-    let looks : InWindow core next × (is_entry_of ready may.may.0 (entry_word_at sizes core next) ≡ true) = subst (LooksSound sizes core) may.may.1 (sound.loaded.looks by) in
+    let looks : InWindow core next × (is_entry_of ready may.may.0 (entry_word_at sizes core next) ≡ true) = subst (LooksSound sizes core (core.passes by).pages) may.may.1 (sound.loaded.looks by) in
     let old = (entry_is ready may.may.0 (entry_word_at sizes core next) looks.1).0 in
     let new = (entry_is held may.may.0 (found + 1) (hold_is may.may.0 found (subst (λ w. is_entry_of ready may.may.0 w ≡ true) may.is looks.1))).0 in
     window_entry sizes core by next (found + 1) (changed_pass sizes by core (Hold next) found) _ _ _ _ sound.window
@@ -393,7 +393,7 @@ window_step sizes first by core (Hold next) found sound may =
     (clear_from sizes core.values (core.passes by) (Hold next) tt may.may) (clear_to sizes core.values (core.passes by) (Hold next) found tt may.may) (of_call sizes core by (Hold next) found tt may.may)
     (omega (arith, old)) (omega (arith, old)) (omega (arith, new)) (omega (arith, new)))
 window_step sizes first by core (Return next) found sound may =
-    let looks : InWindow core next × (is_entry_of held may.may.0 (entry_word_at sizes core next) ≡ true) = subst (LooksSound sizes core) may.may.2 (sound.loaded.looks by) in
+    let looks : InWindow core next × (is_entry_of held may.may.0 (entry_word_at sizes core next) ≡ true) = subst (LooksSound sizes core (core.passes by).pages) may.may.2 (sound.loaded.looks by) in
     let old = (entry_is held may.may.0 (entry_word_at sizes core next) looks.1).0 in
     let new = (entry_is ready may.may.0 (found - 1) (return_is may.may.0 found (subst (λ w. is_entry_of held may.may.0 w ≡ true) may.is looks.1))).0 in
     window_entry sizes core by next (found - 1) (changed_pass sizes by core (Return next) found) _ _ _ _ sound.window

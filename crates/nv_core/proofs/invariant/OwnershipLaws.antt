@@ -11,7 +11,7 @@ use Rattle.nv_core.specs.steps.Order.{Values, IsFailing}
 use Rattle.nv_core.specs.steps.StepKinds.{MayLoad, MayTake, MayGive, MayPlace, IsTryOver, IsMiss, JustNow, AfterTries, IsSeeking, EnabledByKind}
 use Rattle.nv_core.specs.invariant.ControlFacts.{FactsAt, PagesAt, ControlFacts}
 use Rattle.nv_core.specs.invariant.CleanerOwnership.{count_in}
-use Rattle.nv_core.specs.invariant.Ownership.{one_if, is_among, page_held, size_held, lock_held, HoldsLocks, cleanup_held, store_times, cleaner_held, header_held}
+use Rattle.nv_core.specs.invariant.Ownership.{one_if, page_held, size_held, lock_held, HoldsLocks, cleanup_held, store_times, cleaner_held, header_held}
 use Rattle.nv_core.proofs.state.Changes.{differ, same_true}
 use Rattle.nv_core.proofs.state.Choices.{if_both, when_true, when_false, leaving_both, gives_one}
 use Rattle.nv_core.proofs.steps.SearchLaws.{hinting_next, tried_next}
@@ -154,7 +154,7 @@ lock_loads sizes values pass (HINT buffer) found number history held may =
     let now = stepped sizes number history (Load (HINT buffer)) found pass in
     let full = at_control sizes pass (Searching may.page may.tries (LoadHint buffer)) may.is held in
     hinting_next (HoldsLocks sizes now) sizes pass buffer found may
-    (if_both (λ s. HoldsLocks sizes now (Searching may.page may.tries s)) (is_among (first_page sizes pass.call) (end_page sizes pass.call) found) NotFound (TakeVictim buffer found) (λ _. full) (λ _. full))
+    (if_both (λ s. HoldsLocks sizes now (Searching may.page may.tries s)) (count_in pass.pages found == 0) (TakeVictim buffer found) NotFound (λ _. full) (λ _. full))
 lock_loads sizes values pass word found number history held may = absurd may
 
 -- a lock that is found shut
@@ -193,7 +193,7 @@ lock_page sizes pass page found number history held may =
     more e p = ap (λ l. count_in l p) (ap (pages_after pass (Take (PAGE page)) found) may ∙ when_true (found == 0) (pass.pages ++ page ∷ []) pass.pages e) ∙ count_more pass.pages page p
 
     owed : (control : Control) → ((p : ℕ) → page_held sizes (stepped sizes number history (Take (PAGE page)) found pass) control p ≡ one_if (p == page) + count_in pass.pages p)
-        → size_held (stepped sizes number history (Take (PAGE page)) found pass) control ≡ one_if pass.sized → ((f : ℕ) → store_times (stepped sizes number history (Take (PAGE page)) found pass) control f ≡ (if f == file_of pass.call then 0 else 0)) → ((p : ℕ) → cleanup_held control p ≡ 0) → cleaner_held control ≡ 0 → header_held control ≡ 0
+        → size_held (stepped sizes number history (Take (PAGE page)) found pass) control ≡ one_if pass.sized → ((f : ℕ) → store_times (stepped sizes number history (Take (PAGE page)) found pass) control f ≡ (if f == file_of pass.call then 0 else 0)) → ((p : ℕ) → cleanup_held (stepped sizes number history (Take (PAGE page)) found pass).pages control p ≡ 0) → cleaner_held control ≡ 0 → header_held control ≡ 0
         → (other : Word) → lock_held sizes (stepped sizes number history (Take (PAGE page)) found pass) control other ≡ one_if (same other (PAGE page)) + lock_held sizes pass (TakePage page) other
     owed control pages size store none cleaner header (PAGE p) = pages p
     owed control pages size store none cleaner header (SIZE file) = ap (λ n. if file == file_of pass.call then n else 0) size ∙ no_more _
@@ -334,7 +334,7 @@ lock_gives sizes pass (PAGE page) found number history (GivePage next) at pages 
         (let a = held (PAGE next) (λ slot. differ (PAGE next) (ENTRY slot) refl) in let b = less next in let c : one_if (next == next) ≡ 1 = when_true (next == next) 1 0 (eq-eqb next next refl) in omega (arith, a, b, c))
 
     owed : (control : Control) → ((p : ℕ) → count_in (drop (nth_of sizes pass.call next) pass.pages) p ≡ one_if (p == next) + page_held sizes (stepped sizes number history (Give (PAGE page)) found pass) control p)
-        → size_held (stepped sizes number history (Give (PAGE page)) found pass) control ≡ 0 → ((f : ℕ) → (if f == file_of pass.call then 0 else 0) ≡ store_times (stepped sizes number history (Give (PAGE page)) found pass) control f) → ((p : ℕ) → cleanup_held control p ≡ 0) → 0 ≡ cleaner_held control → 0 ≡ header_held control
+        → size_held (stepped sizes number history (Give (PAGE page)) found pass) control ≡ 0 → ((f : ℕ) → (if f == file_of pass.call then 0 else 0) ≡ store_times (stepped sizes number history (Give (PAGE page)) found pass) control f) → ((p : ℕ) → cleanup_held pass.pages control p ≡ 0) → 0 ≡ cleaner_held control → 0 ≡ header_held control
         → (other : Word) → lock_held sizes pass (GivePage next) other ≡ one_if (same other (PAGE page)) + lock_held sizes (stepped sizes number history (Give (PAGE page)) found pass) control other
     owed control pages size store clean cleaner header (PAGE p) = subst (λ q. count_in (drop (nth_of sizes pass.call next) pass.pages) p ≡ one_if (p == q) + page_held sizes (stepped sizes number history (Give (PAGE page)) found pass) control p) (sym may) (pages p)
     owed control pages size store clean cleaner header (SIZE file) = ap (λ n. if file == file_of pass.call then n else 0) (sym size) ∙ no_more _
@@ -355,7 +355,7 @@ lock_gives sizes pass (STORE file) found number history (GiveStore page dirty) a
     some = (let a = held (STORE file) (λ slot. differ (STORE file) (ENTRY slot) refl) in let b : one_if (file == file_of pass.call) ≡ 1 = when_true (file == file_of pass.call) 1 0 (eq-eqb file (file_of pass.call) may) in omega (arith, a, b))
 
     owed : (next : Control) → ((p : ℕ) → count_in pass.pages p ≡ page_held sizes (stepped sizes number history (Give (STORE file)) found pass) next p)
-        → one_if pass.sized ≡ size_held (stepped sizes number history (Give (STORE file)) found pass) next → ((f : ℕ) → (if f == file_of pass.call then 0 else 0) ≡ store_times (stepped sizes number history (Give (STORE file)) found pass) next f) → ((p : ℕ) → one_if (dirty && p == page) ≡ cleanup_held next p) → 0 ≡ cleaner_held next → 0 ≡ header_held next
+        → one_if pass.sized ≡ size_held (stepped sizes number history (Give (STORE file)) found pass) next → ((f : ℕ) → (if f == file_of pass.call then 0 else 0) ≡ store_times (stepped sizes number history (Give (STORE file)) found pass) next f) → ((p : ℕ) → one_if (dirty && p == page) ≡ cleanup_held pass.pages next p) → 0 ≡ cleaner_held next → 0 ≡ header_held next
         → (other : Word) → lock_held sizes pass (GiveStore page dirty) other ≡ one_if (same other (STORE file)) + lock_held sizes (stepped sizes number history (Give (STORE file)) found pass) next other
     owed next pages size store clean cleaner header (STORE other) = subst (λ n. (if other == file_of pass.call then 1 else 0) ≡ one_if (other == file) + n) (store other)
         (subst (λ f. (if other == file_of pass.call then 1 else 0) ≡ one_if (other == f) + (if other == file_of pass.call then 0 else 0)) (sym may) (choice (other == file_of pass.call)))

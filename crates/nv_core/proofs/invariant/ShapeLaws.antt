@@ -71,13 +71,13 @@ shape_patched_by sizes first call page now is = is
 shapes_with : (page : ℕ) (first values : Values) (word : Word) (value : Value) → HasShape page (first word) value → HaveShapes page first values → HaveShapes page first (with_value values word value)
 shapes_with page first values word value here all = by_word (λ w v. HasShape page (first w) v) values word value here (λ other ne. all other)
 
-shapes_robbed : (page : ℕ) (first values : Values) (control : Control) → HaveShapes page first values → HaveShapes page first (values_robbed control values)
-shapes_robbed page first values (Searching missed tries (GiveVictim buffer victim)) all =
+shapes_robbed : (page : ℕ) (first values : Values) (pages : List ℕ) (control : Control) → HaveShapes page first values → HaveShapes page first (values_robbed pages control values)
+shapes_robbed page first values pages (Searching missed tries (GiveVictim buffer victim)) all =
     shapes_with page first (with_value values (PAGE missed) (received (values (PAGE victim)) (values (PAGE missed)))) (PAGE victim) (emptied (values (PAGE victim)))
     (shape_emptied page (first (PAGE victim)) (values (PAGE victim)) (all (PAGE victim)))
     (shapes_with page first values (PAGE missed) (received (values (PAGE victim)) (values (PAGE missed)))
     (shape_received page (first (PAGE victim)) (values (PAGE victim)) (first (PAGE missed)) (values (PAGE missed)) (all (PAGE victim)) (all (PAGE missed))) all)
-shapes_robbed page first values control all = all
+shapes_robbed page first values pages control all = all
 
 -- what a read has fetched of a page that it patches has at least a page
 abbrev LongFor : ℕ → List (ℕ × List ℕ) → Option ℕ → Type 0
@@ -90,7 +90,7 @@ IsFull size pass = LongFor size pass.fetched (piece_page pass.control)
 shapes_given : (size : ℕ) (first values : Values) (pass : Pass) (control : Control) → LongFor size pass.fetched (piece_page control) → HaveShapes size first values → HaveShapes size first (values_given pass control values)
 shapes_given size first values pass (GiveCleanup page) long all =
     shapes_with size first values (PAGE page) (filled (fetched_bytes pass.fetched page) (values (PAGE page))) (shape_filled size (first (PAGE page)) (fetched_bytes pass.fetched page) (values (PAGE page)) long (all (PAGE page))) all
-shapes_given size first values pass control long all = shapes_robbed size first values control all
+shapes_given size first values pass control long all = shapes_robbed size first values pass.pages control all
 
 shapes_stepped : (sizes : Sizes) (first values : Values) (pass : Pass) (op : Op) → IsFull sizes.page pass → HaveShapes sizes.page first values → HaveShapes sizes.page first (values_stepped sizes pass op values)
 shapes_stepped sizes first values pass (Pledge page) long all =
@@ -110,7 +110,7 @@ long_read sizes at bytes (AStore device) says = long_said sizes at bytes device.
 long_read sizes at bytes value says = absurd says
 
 shapes_read : (sizes : Sizes) (first values old : Values) (pass : Pass) (work : Work) (job : Job) (how : CallEnding) (control : Control) → work.job ≡ job → CallDue sizes old pass work control → HaveShapes sizes.page first values
-    → HaveShapes sizes.page first (values_read job how control values)
+    → HaveShapes sizes.page first (values_read pass.pages job how control values)
 shapes_read sizes first values old pass work (PageRead at bytes) Made (ReadStore page false) is due all =
     let same : due.bytes ≡ bytes = cc (due.job, is) in
     shapes_with sizes.page first values (PAGE page) (filled bytes (values (PAGE page)))

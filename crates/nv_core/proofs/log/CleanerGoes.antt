@@ -92,11 +92,11 @@ module _ (sizes : Sizes) (first : Values) (core : Core) (sound : Sound sizes fir
 
     held_off : (n : ℕ) (control : Control) → (core.passes n).control ≡ control → (number : ℕ) → IsHeldEntry control number → slot_of_entry sizes number ≢ slot
     held_off n (ReadPiece page next) e number is = reader_free n page own number slot (cleanup_of n page (ReadPiece page next) e (subst (HoldsLocks sizes (core.passes n)) e (sound.ownership n).locks) refl) zero_
-        (let l : InWindow core next × (is_entry_of held page (entry_word_at sizes core next) ≡ true) = subst (LooksSound sizes core) e (sound.loaded.looks n) in subst (λ k. is_entry_of held page (entry_word_at sizes core k) ≡ true) (sym is) l.1) here
+        (let l : InWindow core next × (is_entry_of held page (entry_word_at sizes core next) ≡ true) = subst (LooksSound sizes core (core.passes n).pages) e (sound.loaded.looks n) in subst (λ k. is_entry_of held page (entry_word_at sizes core k) ≡ true) (sym is) l.1) here
     held_off n (ReturnEntry page next failed) e number is = reader_free n page own number slot (cleanup_of n page (ReturnEntry page next failed) e (subst (HoldsLocks sizes (core.passes n)) e (sound.ownership n).locks) refl) zero_
-        (let l : InWindow core next × (is_entry_of held page (entry_word_at sizes core next) ≡ true) = subst (LooksSound sizes core) e (sound.loaded.looks n) in subst (λ k. is_entry_of held page (entry_word_at sizes core k) ≡ true) (sym is) l.1) here
+        (let l : InWindow core next × (is_entry_of held page (entry_word_at sizes core next) ≡ true) = subst (LooksSound sizes core (core.passes n).pages) e (sound.loaded.looks n) in subst (λ k. is_entry_of held page (entry_word_at sizes core k) ≡ true) (sym is) l.1) here
     held_off n (SetStopAfterPiece page next) e number is = reader_free n page own number slot (cleanup_of n page (SetStopAfterPiece page next) e (subst (HoldsLocks sizes (core.passes n)) e (sound.ownership n).locks) refl) zero_
-        (let l : InWindow core next × (is_entry_of held page (entry_word_at sizes core next) ≡ true) = subst (LooksSound sizes core) e (sound.loaded.looks n) in subst (λ k. is_entry_of held page (entry_word_at sizes core k) ≡ true) (sym is) l.1) here
+        (let l : InWindow core next × (is_entry_of held page (entry_word_at sizes core next) ≡ true) = subst (LooksSound sizes core (core.passes n).pages) e (sound.loaded.looks n) in subst (λ k. is_entry_of held page (entry_word_at sizes core k) ≡ true) (sym is) l.1) here
     held_off n (Cleaning b s) e number is = λ same.
         let one = one_cleaner n by b batch s (cleaner.TakeCleanup i) e at (of_cleaner_sweeping b s number is) tt in
         subst (λ t. IsHeldEntry t number) (sym e ∙ ap (λ k. (core.passes k).control) one ∙ at) is

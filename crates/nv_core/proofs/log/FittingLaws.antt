@@ -185,4 +185,4 @@ held_pieces_fit sound fits mount events by page number is_mount some run at =
     core = after_run mount.sizes (opening mount) events
 
     looks : InWindow (after_run mount.sizes (opening mount) events) number × (is_entry_of held page (entry_word_at mount.sizes (after_run mount.sizes (opening mount) events) number) ≡ true)
-    looks = subst (LooksSound mount.sizes core) at ((sound mount events is_mount run).loaded.looks by)
+    looks = subst (LooksSound mount.sizes core (core.passes by).pages) at ((sound mount events is_mount run).loaded.looks by)

@@ -1,5 +1,5 @@
 -- Each event keeps the header but for its tail, and the lines of each part.
-use Rattle.std.proofs.Common.{◌≡◌, ◌≢◌, ◌⊎◌, ℕ, zero, suc, ◌+◌, ◌==◌, true, false, ◌∷◌, length, take, inl, inr, refl, sym, ap, ap₂, subst, ◌∙◌, arith}
+use Rattle.std.proofs.Common.{◌≡◌, ◌≢◌, ◌⊎◌, ℕ, zero, suc, ◌+◌, ◌==◌, true, false, ◌∷◌, length, take, inl, inr, refl, sym, ap, ap₂, subst, ◌∙◌, arith, List}
 use Rattle.std.specs.Prelude.{Option, Some, None, option_map}
 use Rattle.std.proofs.Math.Numerals.{add-one}
 use Rattle.std.proofs.lemmas.Bool.{cases_eq, eqb-true}
@@ -58,9 +58,9 @@ header_step sizes first tails pass op values stays = header_kept first tails val
 
 -- ---- device calls
 
-pub header_read : (job : Job) (how : CallEnding) (control : Control) (values : Values) → values_read job how control values HEADER ≡ values HEADER
-header_read (PageRead at bytes) Made (ReadStore page false) values = word_else values (PAGE page) (filled bytes (values (PAGE page))) HEADER (differ HEADER (PAGE page) refl)
-header_read job how control values = refl
+pub header_read : (pages : List ℕ) (job : Job) (how : CallEnding) (control : Control) (values : Values) → values_read pages job how control values HEADER ≡ values HEADER
+header_read pages (PageRead at bytes) Made (ReadStore page false) values = word_else values (PAGE page) (filled bytes (values (PAGE page))) HEADER (differ HEADER (PAGE page) refl)
+header_read pages job how control values = refl
 
 -- a part that a step has come to
 abbrev HasStepped : LineStep → Value → Part → Type 0
@@ -136,7 +136,7 @@ module _ (laws : LogLaws) (first : Values) (tails : Tails) (pass : Pass) (work :
     (stays : HeaderStays first tails values) (due : IsTailCall tail calls work) (count : tails.calls ≡ calls) (to : tails.calls ≢ 0 → tails.next ≡ tail) where
   tail_value : values_worked pass work values HEADER ≡ called (PartStep due.step due.spares) work.ending (values HEADER)
   tail_value =
-      header_read work.job work.ending pass.control (with_value values work.cell (called work.job work.ending (values work.cell)))
+      header_read pass.pages work.job work.ending pass.control (with_value values work.cell (called work.job work.ending (values work.cell)))
       ∙ ap (λ c. with_value values c (called work.job work.ending (values c)) HEADER) due.cell
       ∙ word_here values HEADER (called work.job work.ending (values HEADER))
       ∙ ap (λ j. called j work.ending (values HEADER)) due.job
@@ -259,7 +259,7 @@ header_work laws sizes first tails pass work values stays at_tails may = go pass
 
     header : (cell : Word) → work.cell ≡ cell → HEADER ≢ cell → (part : Part) → IsPart (values_worked pass work values HEADER) part → IsPart (values HEADER) part
     header cell e ne part is = subst (λ v. IsPart v part)
-        (header_read work.job work.ending pass.control (with_value values work.cell (called work.job work.ending (values work.cell))) ∙ at cell e HEADER ∙ word_else values cell (called work.job work.ending (values cell)) HEADER ne) is
+        (header_read pass.pages work.job work.ending pass.control (with_value values work.cell (called work.job work.ending (values work.cell))) ∙ at cell e HEADER ∙ word_else values cell (called work.job work.ending (values cell)) HEADER ne) is
 
     entry_else : (cell : Word) → work.cell ≡ cell → (slot : ℕ) → ENTRY slot ≢ cell → (part : Part) → IsPart (values_worked pass work values (ENTRY slot)) part → HasLines (values (ENTRY slot)) part
     entry_else cell e slot ne part is = (part, subst (λ v. IsPart v part) (part_worked pass work values slot ∙ at cell e (ENTRY slot) ∙ word_else values cell (called work.job work.ending (values cell)) (ENTRY slot) ne) is, refl)

@@ -244,11 +244,11 @@ leaders_step sizes first log by core (Ready next) found sound groups progress le
 leaders_step sizes first log by core (Break next) found sound groups progress leaders may = break_leaders sizes first log by core found sound groups leaders next may
 leaders_step sizes first log by core (Hold next) found sound groups progress leaders may =
     let re = holds_rekind sizes first by core found next sound may in
-    let looks : LooksSound sizes core (HoldEntry may.may.0 next) = subst (LooksSound sizes core) may.may.1 (sound.loaded.looks by) in
+    let looks : LooksSound sizes core (core.passes by).pages (HoldEntry may.may.0 next) = subst (LooksSound sizes core (core.passes by).pages) may.may.1 (sound.loaded.looks by) in
     touch_leaders sizes log core (after_step sizes by (Hold next) found core) (slot_of_entry sizes next) (found + 1) refl re.now re.was (ap (λ k. k == cleaned) (entry_is ready may.may.0 (entry_word_at sizes core next) looks.1).0) leaders
 leaders_step sizes first log by core (Return next) found sound groups progress leaders may =
     let re = returns_rekind sizes first by core found next sound may in
-    let looks : LooksSound sizes core (ReturnEntry may.may.0 next may.may.1) = subst (LooksSound sizes core) may.may.2 (sound.loaded.looks by) in
+    let looks : LooksSound sizes core (core.passes by).pages (ReturnEntry may.may.0 next may.may.1) = subst (LooksSound sizes core (core.passes by).pages) may.may.2 (sound.loaded.looks by) in
     touch_leaders sizes log core (after_step sizes by (Return next) found core) (slot_of_entry sizes next) (found - 1) refl re.now re.was (ap (λ k. k == cleaned) (entry_is held may.may.0 (entry_word_at sizes core next) looks.1).0) leaders
 leaders_step sizes first log by core (ByCleaner (cleaner.Hold next)) found sound groups progress leaders may =
     let re = cleaner_hold_rekind sizes first by core found next sound may in

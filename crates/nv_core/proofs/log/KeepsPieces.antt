@@ -432,10 +432,10 @@ cleaned_before sizes first by core op found n sound may within = go op may
     go (Ready next) may kind = inl (set next (ready_word sizes (core.passes by) next) (λ e. let k = kind_is 2 (if next == (core.passes by).first then (core.passes by).entries else 0) (page_at sizes (core.passes by) next) (omega arith) in omega (arith, e, k)) kind)
     go (Break next) may kind = inl (set next broken (λ e. omega (arith, e)) kind)
     go (Hold next) may kind =
-        let looks : InWindow core next × (is_entry_of ready may.may.0 (entry_word_at sizes core next) ≡ true) = subst (LooksSound sizes core) may.may.1 (sound.loaded.looks by) in
+        let looks : InWindow core next × (is_entry_of ready may.may.0 (entry_word_at sizes core next) ≡ true) = subst (LooksSound sizes core (core.passes by).pages) may.may.1 (sound.loaded.looks by) in
         let k = (entry_is ready may.may.0 (entry_word_at sizes core next) looks.1).0 in let i : entry_word_at sizes core next ≡ found = may.is in inl (set next (found + 1) (λ e. omega (arith, e, k, i)) kind)
     go (Return next) may kind =
-        let looks : InWindow core next × (is_entry_of held may.may.0 (entry_word_at sizes core next) ≡ true) = subst (LooksSound sizes core) may.may.2 (sound.loaded.looks by) in
+        let looks : InWindow core next × (is_entry_of held may.may.0 (entry_word_at sizes core next) ≡ true) = subst (LooksSound sizes core (core.passes by).pages) may.may.2 (sound.loaded.looks by) in
         let k = (entry_is held may.may.0 (entry_word_at sizes core next) looks.1).0 in let i : entry_word_at sizes core next ≡ found = may.is in inl (set next (found - 1) (λ e. omega (arith, e, k, i)) kind)
     go (ByCleaner (cleaner.Hold next)) may kind = let k = (cleaner_hold_hand sizes first core sound by found next may).kind_is in let i : entry_word_at sizes core next ≡ found = may.is in inl (set next (found + 1) (λ e. omega (arith, e, k, i)) kind)
     go (ByCleaner (cleaner.Return next)) may kind = let k = (cleaner_return_hand sizes first core sound by found next may).kind_is in let i : entry_word_at sizes core next ≡ found = may.is in inl (set next (found - 1) (λ e. omega (arith, e, k, i)) kind)

@@ -481,14 +481,14 @@ module _ (sizes : Sizes) (first : Values) (by : ℕ) (core : Core) (found : ℕ)
       unready_entry (Break number) number broken refl (sound.window.filling_in by number own) (ap was_readied (sound.window.filling_is by number own)) (λ e. omega arith)
       (called (Break number) refl refl (λ f. f) may.may log)
   progress_step (Hold number) may =
-      let looks : InWindow core number × (is_entry_of ready may.may.0 (entry_word_at sizes core number) ≡ true) = subst (LooksSound sizes core) may.may.1 (sound.loaded.looks by) in
+      let looks : InWindow core number × (is_entry_of ready may.may.0 (entry_word_at sizes core number) ≡ true) = subst (LooksSound sizes core (core.passes by).pages) may.may.1 (sound.loaded.looks by) in
       let kind = entry_is ready may.may.0 (entry_word_at sizes core number) looks.1 in let is : entry_word_at sizes core number ≡ found = may.is in
       let k = kind.0 in let up : kind_of (found + 1) ≡ held = omega (arith, k, is) in
       read_entry (Hold number) number (found + 1) refl looks.0 may.may.0
       ((subst (HoldsLocks sizes (core.passes by)) may.may.1 (sound.ownership by).locks) (CLEANUP may.may.0) (λ slot e. cc) ∙ when_true (may.may.0 == may.may.0) 1 0 (number_self may.may.0))
       kind.1 (λ e. omega (arith, e, k)) (held_was (found + 1) up) (omega (arith, k, is)) (λ e. omega (arith, e, up)) refl (called (Hold number) refl refl (λ f. f) may.may log)
   progress_step (Return number) may =
-      let looks : InWindow core number × (is_entry_of held may.may.0 (entry_word_at sizes core number) ≡ true) = subst (LooksSound sizes core) may.may.2 (sound.loaded.looks by) in
+      let looks : InWindow core number × (is_entry_of held may.may.0 (entry_word_at sizes core number) ≡ true) = subst (LooksSound sizes core (core.passes by).pages) may.may.2 (sound.loaded.looks by) in
       let kind = entry_is held may.may.0 (entry_word_at sizes core number) looks.1 in let is : entry_word_at sizes core number ≡ found = may.is in
       let k = kind.0 in let down : kind_of (found - 1) ≡ ready = omega (arith, k, is) in
       read_entry (Return number) number (found - 1) refl looks.0 may.may.0

@@ -1,5 +1,5 @@
 -- Each event keeps what the stores tell.
-use Rattle.std.proofs.Common.{◌≡◌, ℕ, Bool, true, false, length, Option, inl, inr, refl, sym, ap, subst, ◌∙◌}
+use Rattle.std.proofs.Common.{◌≡◌, ℕ, Bool, true, false, length, Option, inl, inr, refl, sym, ap, subst, ◌∙◌, List}
 use Rattle.std.specs.Prelude.{Some, None, option_map}
 use Rattle.std.proofs.lemmas.Bool.{true≢false}
 use Rattle.nv_store.specs.Store.{Store}
@@ -47,16 +47,16 @@ called_store (PieceRead at bytes) how (AStore device) keeps = refl
 called_store (PieceWrite at bytes left) how (AStore device) keeps = absurd (true≢false (sym keeps))
 called_store StoreSync how (AStore device) keeps = absurd (true≢false (sym keeps))
 
-pub read_store : (job : Job) (how : CallEnding) (control : Control) (values : Values) (file : ℕ) → values_read job how control values (STORE file) ≡ values (STORE file)
-read_store (PageRead at bytes) Made (ReadStore page false) values file = word_else values (PAGE page) (filled bytes (values (PAGE page))) (STORE file) (differ (STORE file) (PAGE page) refl)
-read_store job how control values file = refl
+pub read_store : (pages : List ℕ) (job : Job) (how : CallEnding) (control : Control) (values : Values) (file : ℕ) → values_read pages job how control values (STORE file) ≡ values (STORE file)
+read_store pages (PageRead at bytes) Made (ReadStore page false) values file = word_else values (PAGE page) (filled bytes (values (PAGE page))) (STORE file) (differ (STORE file) (PAGE page) refl)
+read_store pages job how control values file = refl
 
 pub stores_step : (sizes : Sizes) (first : Values) (pass : Pass) (op : Op) (values : Values) → StoresKept first values → StoresKept first (values_stepped sizes pass op values)
 stores_step sizes first pass op values was = record { each = λ file. ap store_of_value (step_store sizes pass op values file) ∙ was.each file }
 
 -- a device call leaves each store but its own
 pub work_store : (pass : Pass) (work : Work) (values : Values) (file : ℕ) → values_worked pass work values (STORE file) ≡ with_value values work.cell (called work.job work.ending (values work.cell)) (STORE file)
-work_store pass work values file = read_store work.job work.ending pass.control (with_value values work.cell (called work.job work.ending (values work.cell))) file
+work_store pass work values file = read_store pass.pages work.job work.ending pass.control (with_value values work.cell (called work.job work.ending (values work.cell))) file
 
 pub stores_work : (first : Values) (pass : Pass) (work : Work) (values : Values) → keeps_stores work.job ≡ true → StoresKept first values → StoresKept first (values_worked pass work values)
 stores_work first pass work values keeps was = record {

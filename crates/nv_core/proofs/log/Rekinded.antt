@@ -22,14 +22,14 @@ pub record IsRekinded (sizes : Sizes) (core : Core) (next value : ℕ) : Type 0 
 -- an entry that a read holds is ready, and held then; and the one that it returns the other way round
 pub holds_kinds : (sizes : Sizes) (first : Values) (by : ℕ) (core : Core) (found next : ℕ) → Sound sizes first core → FoundEnabledByKind sizes by core (Hold next) found → (kind_of (entry_word_at sizes core next) ≡ ready) × (kind_of (found + 1) ≡ held)
 holds_kinds sizes first by core found next sound may =
-    let looks : InWindow core next × (is_entry_of ready may.may.0 (entry_word_at sizes core next) ≡ true) = subst (LooksSound sizes core) may.may.1 (sound.loaded.looks by) in
+    let looks : InWindow core next × (is_entry_of ready may.may.0 (entry_word_at sizes core next) ≡ true) = subst (LooksSound sizes core (core.passes by).pages) may.may.1 (sound.loaded.looks by) in
     let kind = (entry_is ready may.may.0 (entry_word_at sizes core next) looks.1).0 in
     let is : core.words (ENTRY (slot_of_entry sizes next)) ≡ found = may.is in
     (kind, omega (arith, kind, is))
 
 pub returns_kinds : (sizes : Sizes) (first : Values) (by : ℕ) (core : Core) (found next : ℕ) → Sound sizes first core → FoundEnabledByKind sizes by core (Return next) found → (kind_of (entry_word_at sizes core next) ≡ held) × (kind_of (found - 1) ≡ ready)
 returns_kinds sizes first by core found next sound may =
-    let looks : InWindow core next × (is_entry_of held may.may.0 (entry_word_at sizes core next) ≡ true) = subst (LooksSound sizes core) may.may.2 (sound.loaded.looks by) in
+    let looks : InWindow core next × (is_entry_of held may.may.0 (entry_word_at sizes core next) ≡ true) = subst (LooksSound sizes core (core.passes by).pages) may.may.2 (sound.loaded.looks by) in
     let kind = (entry_is held may.may.0 (entry_word_at sizes core next) looks.1).0 in
     let is : core.words (ENTRY (slot_of_entry sizes next)) ≡ found = may.is in
     (kind, omega (arith, kind, is))
@@ -43,7 +43,7 @@ holds_rekind sizes first by core found next sound may = record {
 }
   where
     looks : InWindow core next × (is_entry_of ready may.may.0 (entry_word_at sizes core next) ≡ true)
-    looks = subst (LooksSound sizes core) may.may.1 (sound.loaded.looks by)
+    looks = subst (LooksSound sizes core (core.passes by).pages) may.may.1 (sound.loaded.looks by)
 
     is : core.words (ENTRY (slot_of_entry sizes next)) ≡ found
     is = may.is
@@ -63,7 +63,7 @@ returns_rekind sizes first by core found next sound may = record {
 }
   where
     looks : InWindow core next × (is_entry_of held may.may.0 (entry_word_at sizes core next) ≡ true)
-    looks = subst (LooksSound sizes core) may.may.2 (sound.loaded.looks by)
+    looks = subst (LooksSound sizes core (core.passes by).pages) may.may.2 (sound.loaded.looks by)
 
     is : core.words (ENTRY (slot_of_entry sizes next)) ≡ found
     is = may.is

@@ -36,19 +36,19 @@ steps_of sizes call first = []
 -- what is given back changes a page's buffer alone
 pub given_else : (pass : Pass) (control : Control) (values : Values) (cell : Word) → ((page : ℕ) → cell ≢ PAGE page) → values_given pass control values cell ≡ values cell
 given_else pass (GiveCleanup page) values cell ne = word_else values (PAGE page) (filled (fetched_bytes pass.fetched page) (values (PAGE page))) cell (ne page)
-given_else pass control values cell ne = robbed_else control values cell ne
+given_else pass control values cell ne = robbed_else pass.pages control values cell ne
 
 pub part_stepped : (sizes : Sizes) (pass : Pass) (op : Op) (values : Values) (slot : ℕ) → values_stepped sizes pass op values (ENTRY slot) ≡ values (ENTRY slot)
 part_stepped sizes pass (Pledge page) values slot = word_else values (PAGE page) (patched_by sizes pass.call page (values (PAGE page))) (ENTRY slot) (differ (ENTRY slot) (PAGE page) refl)
 part_stepped sizes pass (Give cell) values slot = given_else pass pass.control values (ENTRY slot) (λ page. differ (ENTRY slot) (PAGE page) refl)
 part_stepped sizes pass op values slot = refl
 
-part_read : (job : Job) (how : CallEnding) (control : Control) (values : Values) (slot : ℕ) → values_read job how control values (ENTRY slot) ≡ values (ENTRY slot)
-part_read (PageRead at bytes) Made (ReadStore page false) values slot = word_else values (PAGE page) (filled bytes (values (PAGE page))) (ENTRY slot) (differ (ENTRY slot) (PAGE page) refl)
-part_read job how control values slot = refl
+part_read : (pages : List ℕ) (job : Job) (how : CallEnding) (control : Control) (values : Values) (slot : ℕ) → values_read pages job how control values (ENTRY slot) ≡ values (ENTRY slot)
+part_read pages (PageRead at bytes) Made (ReadStore page false) values slot = word_else values (PAGE page) (filled bytes (values (PAGE page))) (ENTRY slot) (differ (ENTRY slot) (PAGE page) refl)
+part_read pages job how control values slot = refl
 
 pub part_worked : (pass : Pass) (work : Work) (values : Values) (slot : ℕ) → values_worked pass work values (ENTRY slot) ≡ with_value values work.cell (called work.job work.ending (values work.cell)) (ENTRY slot)
-part_worked pass work values slot = part_read work.job work.ending pass.control (with_value values work.cell (called work.job work.ending (values work.cell))) slot
+part_worked pass work values slot = part_read pass.pages work.job work.ending pass.control (with_value values work.cell (called work.job work.ending (values work.cell))) slot
 
 -- no step changes how many lines a part has
 pub one_lines : StepsKeepLines → (step : LineStep) (part : Part) → length (after_line_step step part) ≡ length part

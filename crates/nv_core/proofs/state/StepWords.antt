@@ -56,7 +56,7 @@ page_slot sizes call page number allowed is = mod_below number sizes.entries (le
 -- what it needs that they are made on words of the mount
 record Grounds (sizes : Sizes) (values : Values) (pass : Pass) : Type 0 where
   stands : ControlFacts sizes pass
-  knows : KnowsAt sizes values pass.control
+  knows : KnowsAt sizes values pass.pages pass.control
   gives : (cell : Word) → MayGive pass cell pass.control → IsWord sizes cell
   by_cleaner : (cleaner_op : CleanerOp) → CleanerEnabled sizes pass cleaner_op pass.control → IsWord sizes (cleaner_word sizes cleaner_op)
 
@@ -64,8 +64,8 @@ module _ (sizes : Sizes) (values : Values) (pass : Pass) (grounds : Grounds size
   stands_at : (control : Control) → pass.control ≡ control → FactsAt sizes pass control
   stands_at control is = subst (FactsAt sizes pass) is grounds.stands.at
 
-  knows_at : (control : Control) → pass.control ≡ control → KnowsAt sizes values control
-  knows_at control is = subst (KnowsAt sizes values) is grounds.knows
+  knows_at : (control : Control) → pass.control ≡ control → KnowsAt sizes values pass.pages control
+  knows_at control is = subst (KnowsAt sizes values pass.pages) is grounds.knows
 
   file_known : (file : ℕ) → IsAllowed sizes pass.call → file ≡ file_of pass.call → file < sizes.files
   file_known file allowed is = subst (λ f. f < sizes.files) (sym is) allowed.known
@@ -123,7 +123,7 @@ do_word sizes by core op grounds may = step_word sizes core.values (core.passes 
 begun_grounds : (sizes : Sizes) (values : Values) (call : FileCall) (pass : Pass) → IsAllowed sizes (plain_call call) → Grounds sizes values (begun sizes call pass)
 begun_grounds sizes values call pass allowed = record {
   stands = control_facts_begins sizes call pass allowed;
-  knows = if_both (KnowsAt sizes values) (page_count sizes (plain_call call) == 0) LoadStop (TakePage (first_page sizes (plain_call call))) (λ _. tt) (λ _. tt);
+  knows = if_both (KnowsAt sizes values []) (page_count sizes (plain_call call) == 0) LoadStop (TakePage (first_page sizes (plain_call call))) (λ _. tt) (λ _. tt);
   gives = λ cell may. absurd (if_both (λ s. IsGivingBack s → ⊥) (page_count sizes (plain_call call) == 0) LoadStop (TakePage (first_page sizes (plain_call call))) (λ _ z. z) (λ _ z. z) (gives_back (begun sizes call pass) cell (first_control sizes (plain_call call)) may));
   by_cleaner = λ cleaner_op may. absurd (if_both (λ s. CleanerEnabled sizes (begun sizes call pass) cleaner_op s → ⊥) (page_count sizes (plain_call call) == 0) LoadStop (TakePage (first_page sizes (plain_call call))) (λ _ z. z) (λ _ z. z) may);
 }

@@ -108,9 +108,9 @@ to_look : (pass : Pass) (found : ℕ) (control : Control) → IsAtCall control �
 to_look pass found (LoadEntry page number) at = if_both IsAtCall (is_entry_of ready page found) (HoldEntry page number) (scanning pass page (number + 1)) (λ _. tt) (λ _. to_scanning pass page (number + 1))
 to_look pass found control at = at
 
-to_hinted : (sizes : Sizes) (pass : Pass) (buffer victim : ℕ) (control : Control) → IsAtCall control → IsAtCall (hinted sizes pass.call buffer victim control)
-to_hinted sizes pass buffer victim (Searching page tries search) at = tt
-to_hinted sizes pass buffer victim control at = at
+to_hinted : (pass : Pass) (buffer victim : ℕ) (control : Control) → IsAtCall control → IsAtCall (hinted pass.pages buffer victim control)
+to_hinted pass buffer victim (Searching page tries search) at = tt
+to_hinted pass buffer victim control at = at
 
 to_load : (sizes : Sizes) (pass : Pass) (word : Word) (found : ℕ) → IsAtCall pass.control → IsAtCall (after_load sizes pass word found)
 to_load sizes pass (LENGTH file) found at = if_both IsAtCall (exceeds pass found && not pass.sized) TakeSize LoadStop (λ _. tt) (λ _. tt)
@@ -123,7 +123,7 @@ to_load sizes pass HEAD found at = to_head sizes pass found pass.control
 to_load sizes pass TAIL found at = to_tail sizes pass found pass.control
 to_load sizes pass (ENTRY slot) found at = to_look pass found pass.control at
 to_load sizes pass (DIRTY page) found at = if_both IsAtCall (found == 0) (TakeStore page false) (TakeCleanup page) (λ _. tt) (λ _. tt)
-to_load sizes pass (HINT buffer) found at = to_hinted sizes pass buffer found pass.control at
+to_load sizes pass (HINT buffer) found at = to_hinted pass buffer found pass.control at
 to_load sizes pass word found at = at
 
 to_copying : (control : Control) → IsAtCall control → IsAtCall (copying control)

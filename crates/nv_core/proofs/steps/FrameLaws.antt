@@ -35,7 +35,7 @@ module _ (sizes : Sizes) (pass : Pass) (values : Values) (cell : Word) (none : t
   page_away : (value : Value) (page : ℕ) → times (PAGE page) pass.owned ≡ 1 → with_value values (PAGE page) value cell ≡ values cell
   page_away value page one = away pass.owned values (PAGE page) value cell (omega (arith, one)) none
 
-  robbed_away : (control : Control) → FactsAt sizes pass control → PagesAt sizes pass control → HoldsLocks sizes pass control → values_robbed control values cell ≡ values cell
+  robbed_away : (control : Control) → FactsAt sizes pass control → PagesAt sizes pass control → HoldsLocks sizes pass control → values_robbed pass.pages control values cell ≡ values cell
   robbed_away (Searching page tries (GiveVictim buffer victim)) stands pages held =
       away pass.owned (with_value values (PAGE page) (received (values (PAGE victim)) (values (PAGE page)))) (PAGE victim) (emptied (values (PAGE victim))) cell
       (given_held sizes pass (PAGE victim) (Searching page tries (GiveVictim buffer victim)) stands pages held refl) none
@@ -46,7 +46,7 @@ module _ (sizes : Sizes) (pass : Pass) (values : Values) (cell : Word) (none : t
   given_away (GiveCleanup page) stands pages held = page_away (filled (fetched_bytes pass.fetched page) (values (PAGE page))) page (whole_holds sizes pass (GiveCleanup page) tt pages held page stands.1)
   given_away control stands pages held = robbed_away control stands pages held
 
-  read_away : (job : Job) (how : CallEnding) (control : Control) → FactsAt sizes pass control → PagesAt sizes pass control → HoldsLocks sizes pass control → values_read job how control values cell ≡ values cell
+  read_away : (job : Job) (how : CallEnding) (control : Control) → FactsAt sizes pass control → PagesAt sizes pass control → HoldsLocks sizes pass control → values_read pass.pages job how control values cell ≡ values cell
   read_away (PageRead at bytes) Made (ReadStore page false) stands pages held = page_away (filled bytes (values (PAGE page))) page (whole_holds sizes pass (ReadStore page false) tt pages held page stands.1)
   read_away job how control stands pages held = refl
 

@@ -180,7 +180,7 @@ module _ (sizes : Sizes) (pass : Pass) (one other : Values) (holds : Ownership s
     here = may.here;
   }
 
-  copied_same : (v w : Values) (job : Job) (how : CallEnding) (control : Control) → AgreeOn pass v w → AgreeOn pass (values_read job how control v) (values_read job how control w)
+  copied_same : (v w : Values) (job : Job) (how : CallEnding) (control : Control) → AgreeOn pass v w → AgreeOn pass (values_read pass.pages job how control v) (values_read pass.pages job how control w)
   copied_same v w (PageRead at bytes) Made (ReadStore page false) alike = with_same pass v w (PAGE page) (filled bytes (v (PAGE page))) (filled bytes (w (PAGE page))) alike (λ has. ap (filled bytes) (alike (PAGE page) has))
   copied_same v w job how control alike = alike
 

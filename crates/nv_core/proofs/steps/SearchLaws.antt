@@ -1,10 +1,10 @@
 -- Searches, by their steps: where a pass stands at each, and where then.
 use Rattle.std.proofs.Common.{◌≡◌, ℕ, ◌+◌, ◌==◌, if◌then◌else◌, inl, inr, sym, subst}
 use Rattle.nv_core.specs.state.Words.{Sizes, HINT, PAGE}
-use Rattle.nv_core.specs.state.Passes.{Control, TakePage, LoadLength, VisitPage, Search, LoadHint, TakeVictim, GiveVictim, VictimGiven, NotFound, Searching, Pass, first_page, end_page}
+use Rattle.nv_core.specs.state.Passes.{Control, TakePage, LoadLength, VisitPage, Search, LoadHint, TakeVictim, GiveVictim, VictimGiven, NotFound, Searching, Pass, end_page}
 use Rattle.nv_core.specs.steps.Ops.{Take}
 use Rattle.nv_core.specs.steps.ControlSteps.{control_after, after_load, after_page, refused, hinted, leaving}
-use Rattle.nv_core.specs.invariant.Ownership.{is_among}
+use Rattle.nv_core.specs.invariant.CleanerOwnership.{count_in}
 use Rattle.nv_core.specs.steps.Order.{Values}
 use Rattle.nv_core.specs.steps.StepKinds.{IsMiss, JustNow, AfterTries, MayTurn, MayLookUp, IsHinting, IsSeeking, MayHint, MayTake}
 
@@ -26,8 +26,8 @@ pub hinting_at : (P : Control → Type 0) (pass : Pass) (buffer : ℕ) → ((pag
 hinting_at P pass buffer all may = subst P (sym may.is) (all may.page may.tries)
 
 pub hinting_next : (P : Control → Type 0) (sizes : Sizes) (pass : Pass) (buffer found : ℕ) (may : IsHinting pass.control buffer)
-    → P (Searching may.page may.tries (if is_among (first_page sizes pass.call) (end_page sizes pass.call) found then NotFound else TakeVictim buffer found)) → P (after_load sizes pass (HINT buffer) found)
-hinting_next P sizes pass buffer found may all = subst (λ s. P (hinted sizes pass.call buffer found s)) (sym may.is) all
+    → P (Searching may.page may.tries (if count_in pass.pages found == 0 then TakeVictim buffer found else NotFound)) → P (after_load sizes pass (HINT buffer) found)
+hinting_next P sizes pass buffer found may all = subst (λ s. P (hinted pass.pages buffer found s)) (sym may.is) all
 
 -- a page's lock is tried: of the call's next page, or of a victim
 pub tried_at : (P : Control → Type 0) (pass : Pass) (page : ℕ) → P (TakePage page) → ((missed tries buffer : ℕ) → P (Searching missed tries (TakeVictim buffer page))) → MayTake pass (PAGE page) → P pass.control

@@ -1,16 +1,17 @@
 -- Valid buffers: what a page's buffer has where it is valid, and what a read has gathered.
-use Rattle.std.specs.Prelude.{◌≡◌, ◌≢◌, ◌⊎◌, ℕ, ◌+◌, ◌-◌, ◌%◌, ◌<◌, nat_lt, true, false, if◌then◌else◌, List, [], ◌∷◌, length}
+use Rattle.std.specs.Prelude.{◌≡◌, ◌≢◌, ◌⊎◌, ℕ, ◌+◌, ◌-◌, ◌%◌, ◌<◌, ◌==◌, true, false, if◌then◌else◌, List, [], ◌∷◌, length, take}
 use Rattle.nv_plain.specs.Files.{Files, overwritten}
 use Rattle.nv_plain.specs.Pieces.{piece_of, piece_bytes}
 use Rattle.nv_plain.specs.declared.call.FileCall.{FileCall}
 use Rattle.nv_plain.specs.declared.call.FileCall.TheVariants.{Write}
 use Rattle.nv_core.specs.state.Words.{Sizes, PAGE}
 use Rattle.nv_core.specs.state.Values.{is_valid, bytes_in}
-use Rattle.nv_core.specs.state.Passes.{Control, TakePage, LoadLength, TakeSize, LoadStop, LoadOrder, VisitPage, TakeCleanup, TakeStore, ReadStore, GiveStore, ReadLoadHead, ReadLoadTail, LoadEntry, HoldEntry, ReadPiece, ReturnEntry, GiveCleanup, Searching, PledgePage, ReadyEntry, TakePlace, is_read, first_page, times}
+use Rattle.nv_core.specs.state.Passes.{Control, TakePage, LoadLength, TakeSize, LoadStop, LoadOrder, VisitPage, TakeCleanup, TakeStore, ReadStore, GiveStore, ReadLoadHead, ReadLoadTail, LoadEntry, HoldEntry, ReadPiece, ReturnEntry, GiveCleanup, Searching, PledgePage, ReadyEntry, TakePlace, is_read, first_page, nth_of, times, page_named}
 use Rattle.nv_core.specs.steps.Order.{Values, page_bytes}
 use Rattle.nv_core.specs.invariant.ControlFacts.{IsPage}
 use Rattle.nv_core.specs.state.Core.{Core}
 use Rattle.nv_core.specs.content.PagesAfter.{page_now}
+use Rattle.nv_core.specs.invariant.CleanerOwnership.{count_in}
 
 -- a page, overwritten by a write's piece on it
 abbrev pub with_own_pieces : Sizes → FileCall → (page : ℕ) → List ℕ → List ℕ
@@ -20,21 +21,23 @@ with_own_pieces sizes (Write file at bytes) page old =
 with_own_pieces sizes call page old = old
 
 -- What the buffer of a page owned has, by where its pass stands: a writer's pledged pages have its pieces before it takes its place.
-abbrev pub patched_page : Sizes → FileCall → Control → (page : ℕ) → List ℕ → List ℕ
-patched_page sizes call (PledgePage next) page old = if nat_lt page next then with_own_pieces sizes call page old else old
-patched_page sizes call (ReadyEntry number) page old = with_own_pieces sizes call page old
-patched_page sizes call TakePlace page old = with_own_pieces sizes call page old
-patched_page sizes call control page old = old
+abbrev pub patched_page : Sizes → FileCall → (pages : List ℕ) → Control → (page : ℕ) → List ℕ → List ℕ
+patched_page sizes call pages (PledgePage next) page old = if count_in (take (nth_of sizes call next) pages) page == 0 then old else with_own_pieces sizes call page old
+patched_page sizes call pages (ReadyEntry number) page old = with_own_pieces sizes call page old
+patched_page sizes call pages TakePlace page old = with_own_pieces sizes call page old
+patched_page sizes call pages control page old = old
 
 -- What a read has of each page that it has passed, and of each other page of it whose buffer is valid, is what the page is now.
-abbrev pub Gathered : Sizes → (now : ℕ → List ℕ) → Values → FileCall → (fetched : List (ℕ × List ℕ)) → (next : ℕ) → Type 0
-Gathered sizes now values call fetched next =
-    (page : ℕ) → IsPage sizes call page → (page < next) ⊎ (is_valid (values (PAGE page)) ≡ true) → page_bytes fetched values page ≡ now page
+abbrev pub Gathered : Sizes → (now : ℕ → List ℕ) → Values → FileCall → (pages : List ℕ) → (fetched : List (ℕ × List ℕ)) → (next : ℕ) → Type 0
+Gathered sizes now values call pages fetched next =
+    (name : ℕ) → IsPage sizes call name → (name < next) ⊎ (is_valid (values (PAGE (page_named pages name))) ≡ true)
+    → page_bytes fetched values (page_named pages name) ≡ now (page_named pages name)
 
 -- The same of each page but this one.
-abbrev pub GatheredBut : Sizes → (now : ℕ → List ℕ) → Values → FileCall → (fetched : List (ℕ × List ℕ)) → (next : ℕ) → Type 0
-GatheredBut sizes now values call fetched next =
-    (page : ℕ) → IsPage sizes call page → page ≢ next → (page < next) ⊎ (is_valid (values (PAGE page)) ≡ true) → page_bytes fetched values page ≡ now page
+abbrev pub GatheredBut : Sizes → (now : ℕ → List ℕ) → Values → FileCall → (pages : List ℕ) → (fetched : List (ℕ × List ℕ)) → (next : ℕ) → Type 0
+GatheredBut sizes now values call pages fetched next =
+    (name : ℕ) → IsPage sizes call name → name ≢ next → (name < next) ⊎ (is_valid (values (PAGE (page_named pages name))) ≡ true)
+    → page_bytes fetched values (page_named pages name) ≡ now (page_named pages name)
 
 -- a read has fetched a page
 abbrev pub HasFetched : (fetched : List (ℕ × List ℕ)) → (page : ℕ) → Type 0
@@ -42,32 +45,32 @@ HasFetched [] page = ⊥
 HasFetched (one ∷ rest) page = (one.0 ≡ page) ⊎ HasFetched rest page
 
 -- A read has fetched a page that has entries, whose pieces it still lacks; what it has of the others is right.
-abbrev pub Halfway : Sizes → (now : ℕ → List ℕ) → Values → FileCall → (fetched : List (ℕ × List ℕ)) → (page : ℕ) → Type 0
-Halfway sizes now values call fetched page = GatheredBut sizes now values call fetched page × HasFetched fetched page
+abbrev pub Halfway : Sizes → (now : ℕ → List ℕ) → Values → FileCall → (pages : List ℕ) → (fetched : List (ℕ × List ℕ)) → (next : ℕ) → Type 0
+Halfway sizes now values call pages fetched next = GatheredBut sizes now values call pages fetched next × HasFetched fetched (page_named pages next)
 
 -- By where a pass stands: it has fetched nothing yet, or what it has gathered is right, or its call reads no byte.
-abbrev pub GatheredAt : Sizes → (now : ℕ → List ℕ) → Values → FileCall → (fetched : List (ℕ × List ℕ)) → Control → Type 0
-GatheredAt sizes now values call fetched (TakePage page) = fetched ≡ []
-GatheredAt sizes now values call fetched LoadLength = fetched ≡ []
-GatheredAt sizes now values call fetched TakeSize = fetched ≡ []
-GatheredAt sizes now values call fetched LoadStop = fetched ≡ []
-GatheredAt sizes now values call fetched LoadOrder = fetched ≡ []
-GatheredAt sizes now values call fetched (VisitPage next) = Gathered sizes now values call fetched next
-GatheredAt sizes now values call fetched (TakeCleanup next) = Gathered sizes now values call fetched next
-GatheredAt sizes now values call fetched (TakeStore next dirty) = Gathered sizes now values call fetched next
-GatheredAt sizes now values call fetched (ReadStore next dirty) = Gathered sizes now values call fetched next
-GatheredAt sizes now values call fetched (GiveStore next false) = Gathered sizes now values call fetched (next + 1)
-GatheredAt sizes now values call fetched (GiveStore next true) = Halfway sizes now values call fetched next
-GatheredAt sizes now values call fetched (ReadLoadHead next) = Halfway sizes now values call fetched next
-GatheredAt sizes now values call fetched (ReadLoadTail next) = Halfway sizes now values call fetched next
-GatheredAt sizes now values call fetched (LoadEntry next number) = Halfway sizes now values call fetched next
-GatheredAt sizes now values call fetched (HoldEntry next number) = Halfway sizes now values call fetched next
-GatheredAt sizes now values call fetched (ReadPiece next number) = Halfway sizes now values call fetched next
-GatheredAt sizes now values call fetched (ReturnEntry next number false) = Halfway sizes now values call fetched next
-GatheredAt sizes now values call fetched (GiveCleanup next) = Halfway sizes now values call fetched next
-GatheredAt sizes now values call fetched (Searching next tries search) = Gathered sizes now values call fetched next
-GatheredAt sizes now values call fetched TakePlace = is_read call ≡ false
-GatheredAt sizes now values call fetched control = Unit {0}
+abbrev pub GatheredAt : Sizes → (now : ℕ → List ℕ) → Values → FileCall → (pages : List ℕ) → (fetched : List (ℕ × List ℕ)) → Control → Type 0
+GatheredAt sizes now values call pages fetched (TakePage page) = fetched ≡ []
+GatheredAt sizes now values call pages fetched LoadLength = fetched ≡ []
+GatheredAt sizes now values call pages fetched TakeSize = fetched ≡ []
+GatheredAt sizes now values call pages fetched LoadStop = fetched ≡ []
+GatheredAt sizes now values call pages fetched LoadOrder = fetched ≡ []
+GatheredAt sizes now values call pages fetched (VisitPage next) = Gathered sizes now values call pages fetched next
+GatheredAt sizes now values call pages fetched (TakeCleanup next) = Gathered sizes now values call pages fetched next
+GatheredAt sizes now values call pages fetched (TakeStore next dirty) = Gathered sizes now values call pages fetched next
+GatheredAt sizes now values call pages fetched (ReadStore next dirty) = Gathered sizes now values call pages fetched next
+GatheredAt sizes now values call pages fetched (GiveStore next false) = Gathered sizes now values call pages fetched (next + 1)
+GatheredAt sizes now values call pages fetched (GiveStore next true) = Halfway sizes now values call pages fetched next
+GatheredAt sizes now values call pages fetched (ReadLoadHead next) = Halfway sizes now values call pages fetched next
+GatheredAt sizes now values call pages fetched (ReadLoadTail next) = Halfway sizes now values call pages fetched next
+GatheredAt sizes now values call pages fetched (LoadEntry next number) = Halfway sizes now values call pages fetched next
+GatheredAt sizes now values call pages fetched (HoldEntry next number) = Halfway sizes now values call pages fetched next
+GatheredAt sizes now values call pages fetched (ReadPiece next number) = Halfway sizes now values call pages fetched next
+GatheredAt sizes now values call pages fetched (ReturnEntry next number false) = Halfway sizes now values call pages fetched next
+GatheredAt sizes now values call pages fetched (GiveCleanup next) = Halfway sizes now values call pages fetched next
+GatheredAt sizes now values call pages fetched (Searching next tries search) = Gathered sizes now values call pages fetched next
+GatheredAt sizes now values call pages fetched TakePlace = is_read call ≡ false
+GatheredAt sizes now values call pages fetched control = Unit {0}
 
 -- Where PAGE is free and its buffer is valid, the buffer is the page after the history. Owned it is that too, but for the pieces of a write
 -- that isn't placed yet.
@@ -75,5 +78,5 @@ pub record ValidBuffers (sizes : Sizes) (opening : Files) (core : Core) : Type 0
   pub free : (page : ℕ) → core.words (PAGE page) ≡ 0 → is_valid (core.values (PAGE page)) ≡ true
       → bytes_in (core.values (PAGE page)) ≡ page_now sizes opening core page
   pub held : (number page : ℕ) → times (PAGE page) (core.passes number).owned ≡ 1 → is_valid (core.values (PAGE page)) ≡ true
-      → bytes_in (core.values (PAGE page)) ≡ patched_page sizes (core.passes number).call (core.passes number).control page (page_now sizes opening core page)
-  pub gathered : (number : ℕ) → GatheredAt sizes (page_now sizes opening core) core.values (core.passes number).call (core.passes number).fetched (core.passes number).control
+      → bytes_in (core.values (PAGE page)) ≡ patched_page sizes (core.passes number).call (core.passes number).pages (core.passes number).control page (page_now sizes opening core page)
+  pub gathered : (number : ℕ) → GatheredAt sizes (page_now sizes opening core) core.values (core.passes number).call (core.passes number).pages (core.passes number).fetched (core.passes number).control

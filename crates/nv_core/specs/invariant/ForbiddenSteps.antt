@@ -119,7 +119,7 @@ NoEntryHeldTwice =
 abbrev pub NoOtherCleanup : Type 0
 NoOtherCleanup =
     (sizes : Sizes) (first : Values) (core : Core) (by other page : ℕ) → Sound sizes first core
-    → cleanup_held (core.passes by).control page ≡ 1 → times (CLEANUP page) (core.passes other).owned ≡ 1 → other ≡ by
+    → cleanup_held (core.passes by).pages (core.passes by).control page ≡ 1 → times (CLEANUP page) (core.passes other).owned ≡ 1 → other ≡ by
 
 -- A page has no more entries than the log, but for one that is pledged and one that a cleaner has cleaned: DIRTY says no more.
 abbrev pub NoDirtyAboveTheLog : Type 0

@@ -1,7 +1,7 @@
 -- What was loaded: how the words that a pass has loaded stand to the words as they are.
-use Rattle.std.specs.Prelude.{◌≡◌, ◌≢◌, ℕ, ◌+◌, ◌≤◌, true, false}
+use Rattle.std.specs.Prelude.{◌≡◌, ◌≢◌, ℕ, ◌+◌, ◌≤◌, true, false, List}
 use Rattle.nv_core.specs.state.Words.{Sizes, HEAD, TAIL, LENGTH, DIRTY, ready, held, page_of, was_readied, is_entry_of}
-use Rattle.nv_core.specs.state.Passes.{Control, TakeStore, ReadStore, GiveStore, ReadLoadTail, LoadEntry, HoldEntry, ReadPiece, ReturnEntry, SetStopAfterPiece, Pass, file_of}
+use Rattle.nv_core.specs.state.Passes.{Control, TakeStore, ReadStore, GiveStore, ReadLoadTail, LoadEntry, HoldEntry, ReadPiece, ReturnEntry, SetStopAfterPiece, Pass, file_of, page_named}
 use Rattle.nv_core.specs.steps.ControlSteps.{at_stop, at_growth, IsInPhases, exceeds}
 use Rattle.nv_core.specs.state.Core.{Core}
 use Rattle.nv_core.specs.invariant.LogWindow.{InWindow, entry_word_at}
@@ -11,11 +11,11 @@ abbrev pub HasMeasured : Control → Type 0
 HasMeasured control = IsInPhases at_stop at_growth control
 
 -- a pass has loaded a page's DIRTY as 0, and its read of the store isn't over
-abbrev pub SawClean : Control → (page : ℕ) → Type 0
-SawClean (TakeStore next false) page = next ≡ page
-SawClean (ReadStore next false) page = next ≡ page
-SawClean (GiveStore next false) page = next ≡ page
-SawClean control page = ⊥
+abbrev pub SawClean : (pages : List ℕ) → Control → (page : ℕ) → Type 0
+SawClean pages (TakeStore next false) page = page_named pages next ≡ page
+SawClean pages (ReadStore next false) page = page_named pages next ≡ page
+SawClean pages (GiveStore next false) page = page_named pages next ≡ page
+SawClean pages control page = ⊥
 
 -- no entry that was made ready is of a page and has a number of the window from one on
 abbrev pub NoneFrom : Sizes → Core → (page from : ℕ) → Type 0
@@ -41,12 +41,12 @@ Bounds sizes core pass control = Unit {0}
 
 -- what it knows of the entry that it has found: it is that of its number, ready and of the page, or, once the read holds it, held and of
 -- the page
-abbrev pub LooksSound : Sizes → Core → Control → Type 0
-LooksSound sizes core (HoldEntry page number) = InWindow core number × (is_entry_of ready page (entry_word_at sizes core number) ≡ true)
-LooksSound sizes core (ReadPiece page number) = InWindow core number × (is_entry_of held page (entry_word_at sizes core number) ≡ true)
-LooksSound sizes core (ReturnEntry page number failed) = InWindow core number × (is_entry_of held page (entry_word_at sizes core number) ≡ true)
-LooksSound sizes core (SetStopAfterPiece page number) = InWindow core number × (is_entry_of held page (entry_word_at sizes core number) ≡ true)
-LooksSound sizes core control = Unit {0}
+abbrev pub LooksSound : Sizes → Core → (pages : List ℕ) → Control → Type 0
+LooksSound sizes core pages (HoldEntry page number) = InWindow core number × (is_entry_of ready (page_named pages page) (entry_word_at sizes core number) ≡ true)
+LooksSound sizes core pages (ReadPiece page number) = InWindow core number × (is_entry_of held (page_named pages page) (entry_word_at sizes core number) ≡ true)
+LooksSound sizes core pages (ReturnEntry page number failed) = InWindow core number × (is_entry_of held (page_named pages page) (entry_word_at sizes core number) ≡ true)
+LooksSound sizes core pages (SetStopAfterPiece page number) = InWindow core number × (is_entry_of held (page_named pages page) (entry_word_at sizes core number) ≡ true)
+LooksSound sizes core pages control = Unit {0}
 
 -- HEAD, TAIL and LENGTH as a pass saw them are at most the words, and some pass saw HEAD, and some TAIL, as they are. A call that
 -- reaches past the length that it loaded has taken SIZE, LENGTH that was loaded under SIZE is still LENGTH, and a DIRTY that was
@@ -62,6 +62,6 @@ pub record Loaded (sizes : Sizes) (core : Core) : Type 0 where
       → (core.passes number).sized ≡ true
   pub length_is : (number : ℕ) → HasMeasured (core.passes number).control → (core.passes number).sized ≡ true
       → (core.passes number).length ≡ core.words (LENGTH (file_of (core.passes number).call))
-  pub clean : (number page : ℕ) → SawClean (core.passes number).control page → core.words (DIRTY page) ≡ 0
+  pub clean : (number page : ℕ) → SawClean (core.passes number).pages (core.passes number).control page → core.words (DIRTY page) ≡ 0
   pub bounds : (number : ℕ) → Bounds sizes core (core.passes number) (core.passes number).control
-  pub looks : (number : ℕ) → LooksSound sizes core (core.passes number).control
+  pub looks : (number : ℕ) → LooksSound sizes core (core.passes number).pages (core.passes number).control

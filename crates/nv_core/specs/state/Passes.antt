@@ -109,6 +109,10 @@ pub record Pass : Type 0 where
   -- what it has put back of what its cells keep, on its way into pass 0, or, as pass 0, when the mount is closed
   pub left : List Word
 
+-- The page that a control state names, of the pages of its pass: so far it is named by its number.
+abbrev pub page_named : (pages : List ℕ) → (name : ℕ) → ℕ
+page_named pages name = name
+
 -- what a read has fetched of a page
 abbrev pub fetched_bytes : List (ℕ × List ℕ) → (page : ℕ) → List ℕ
 fetched_bytes [] page = []

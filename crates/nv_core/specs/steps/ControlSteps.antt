@@ -4,7 +4,7 @@ use Rattle.nv_plain.specs.declared.call.FileCall.{FileCall}
 use Rattle.nv_core.specs.state.Words.{Sizes, Word, STOP, ORDER, HEAD, TAIL, LENGTH, SIZE, STORE, ENTRY, HINT, PAGE, CLEANUP, DIRTY, ready, is_entry_of, slot_of_entry}
 use Rattle.nv_core.specs.state.Passes.{Control, Idle, TakePage, LoadLength, TakeSize, LoadStop, LoadOrder, VisitPage, TakeCleanup, Search, LoadHint, TakeVictim, GiveVictim, VictimGiven, NotFound, HintSet, Searching, TakeStore, ReadStore, GiveStore, ReadLoadHead, ReadLoadTail, LoadEntry, HoldEntry, ReadPiece, ReturnEntry, GiveCleanup, WriteLoadHead, WriteLoadTail, DrawNumbers, SeizeEntry, CommitGroup, PledgePage, ReadyEntry, TakePlace, GrowLength, GiveSize, GivePage, GiveBack, SetStopAfterPiece, SetStopAfterCommit, BreakEntry, Pass, at_of, len_of, is_write, is_read, page_count, first_page, end_page, without, Cleaning}
 use Rattle.nv_core.specs.steps.Ops.{Op, Load, Take, Give, Place, Stop, Draw, Seize, Pledge, Ready, Grow, Break, Turn, Hint, Hold, Return, moved, cleaner_move, ByCleaner}
-use Rattle.nv_core.specs.invariant.Ownership.{is_among}
+use Rattle.nv_core.specs.invariant.CleanerOwnership.{count_in}
 use Rattle.nv_core.specs.state.Cleaner.{CleanerOp, TakeCleaner, TakeHeader}
 use Rattle.nv_core.specs.steps.CleanerSteps.{new_batch, after_cleaner_op}
 
@@ -103,11 +103,10 @@ abbrev pub after_look : Pass → (found : ℕ) → Control → Control
 after_look pass found (LoadEntry page number) = if is_entry_of ready page found then HoldEntry page number else scanning pass page (number + 1)
 after_look pass found control = control
 
--- a hinted page is tried next, unless it is one of the call's own
-abbrev pub hinted : Sizes → FileCall → (buffer victim : ℕ) → Control → Control
-hinted sizes call buffer victim (Searching page tries search) =
-    Searching page tries (if is_among (first_page sizes call) (end_page sizes call) victim then NotFound else TakeVictim buffer victim)
-hinted sizes call buffer victim control = control
+-- a hinted page is tried next, unless it is one of the pass's own
+abbrev pub hinted : (pages : List ℕ) → (buffer victim : ℕ) → Control → Control
+hinted pages buffer victim (Searching page tries search) = Searching page tries (if count_in pages victim == 0 then TakeVictim buffer victim else NotFound)
+hinted pages buffer victim control = control
 
 abbrev pub after_load : Sizes → Pass → Word → (found : ℕ) → Control
 after_load sizes pass (LENGTH file) found = if exceeds pass found && not pass.sized then TakeSize else LoadStop
@@ -117,7 +116,7 @@ after_load sizes pass HEAD found = after_head sizes pass found pass.control
 after_load sizes pass TAIL found = after_tail sizes pass found pass.control
 after_load sizes pass (ENTRY slot) found = after_look pass found pass.control
 after_load sizes pass (DIRTY page) found = if found == 0 then TakeStore page false else TakeCleanup page
-after_load sizes pass (HINT buffer) found = hinted sizes pass.call buffer found pass.control
+after_load sizes pass (HINT buffer) found = hinted pass.pages buffer found pass.control
 after_load sizes pass word found = pass.control
 
 -- the store is read next

@@ -52,13 +52,13 @@ sort_called job how (ABuffer buffer) = refl
 sort_steady : Steady sort_of
 sort_steady = record { filled_is = sort_filled; patched_is = sort_patched }
 
-sort_robbed : (control : Control) (values : Values) (cell : Word) → sort_of (values_robbed control values cell) ≡ sort_of (values cell)
-sort_robbed (Searching page tries (GiveVictim buffer victim)) values =
+sort_robbed : (pages : List ℕ) (control : Control) (values : Values) (cell : Word) → sort_of (values_robbed pages control values cell) ≡ sort_of (values cell)
+sort_robbed pages (Searching page tries (GiveVictim buffer victim)) values =
     by_word (λ other v. sort_of v ≡ sort_of (values other)) (with_value values (PAGE page) (received (values (PAGE victim)) (values (PAGE page)))) (PAGE victim) (emptied (values (PAGE victim)))
     (sort_emptied (values (PAGE victim)))
     (λ other ne. by_word (λ other v. sort_of v ≡ sort_of (values other)) values (PAGE page) (received (values (PAGE victim)) (values (PAGE page)))
     (sort_received (values (PAGE victim)) (values (PAGE page))) (λ other ne. refl) other)
-sort_robbed control values = λ cell. refl
+sort_robbed pages control values = λ cell. refl
 
 sort_worked : (pass : Pass) (work : Work) (values : Values) (cell : Word) → sort_of (values_worked pass work values cell) ≡ sort_of (values cell)
 sort_worked pass work values cell =
