@@ -1,7 +1,9 @@
 //! The session of the first thread, which owns the mount.
 ghost use Rattle.std.specs.Prelude.{◌≡◌, ◌+◌, ◌≤◌, ◌^◌, ◌↔◌, Err, OnErr, OnOk, length};
+ghost use Rattle.nv_core.specs.steps.Opening.{IsMount};
 ghost use Rattle.nv_table.specs.invariant.Idle.{IsIdle};
 ghost use Rattle.nv_table.specs.passes.Alone.{IsAlone};
+ghost use Rattle.nv_table.specs.state.Opened.{IsRunOf, mount_of};
 ghost use Rattle.nv_table.specs.state.States.{IsOf};
 ghost use Rattle.nv_table.specs.state.Views.{made_of};
 ghost use Rattle.nv_clean.specs.Alone.{IsAnsweredAlone};
@@ -46,13 +48,15 @@ impl<T: Bench> Model for FirstSession<T> {
 }
 
 impl<T: Bench> FirstSession<T> {
-    /// A law: its pass is of its mount, between two calls, and no other pass is out.
+    /// A law: its pass is of its mount, between two calls, and no other pass is out; and what it has seen is a run of the core.
     pub fn is_alone(&self)
         ensures board { IsOf self.now.mount.board self.now.pass }
         ensures idle { IsIdle self.now.pass }
         ensures alone { IsAlone self.now.pass.view }
+        ensures mount { IsMount (mount_of self.now.pass.view.opened) }
+        ensures run { IsRunOf self.now.pass.view.opened self.now.pass.view.run }
     {
-        let _ = &self.pass;
+        self.pass.sees_a_run();
     }
 
     /// Reads from the file of a descriptor, as `Session::read`.

@@ -9,6 +9,7 @@ ghost use Rattle.nv_core.specs.log.LogContent.{OpensLog};
 ghost use Rattle.nv_table.specs.ends.Begun.{begun_sizes};
 ghost use Rattle.nv_table.specs.state.Opened.{mount_of};
 ghost use Rattle.nv_table.specs.state.SlotValues.{part_value, store_value, slot_value};
+ghost use Rattle.nv_table.specs.state.Views.{made_of};
 ghost use Rattle.nv_mount.specs.ClosedAtRest.{HasEmptiedLog};
 ghost use Rattle.nv_mount.specs.Mounts.{IsOpened};
 ghost use Rattle.nv_mount.specs.Telling.{AllDevicesTell, HasLongParts, IsTelling, StoresHave};
@@ -22,8 +23,8 @@ use std::alloc::Global;
 
 impl<T: Bench + Drop> FirstSession<T> {
     /// Opens a mount over a region that is open, with the stores of its files, as `open` gives them; and with it the first thread's
-    /// session, which keeps the bench that has lent them. Each file has 1 to 1,024 pages. There are as many buffers as pages, but at most
-    /// `cache`, which is 1 to 16,384. At an error all of it is dropped.
+    /// session, which keeps the bench that has lent them. No other session is made. Each file has 1 to 1,024 pages. There are as many
+    /// buffers as pages, but at most `cache`, which is 1 to 16,384. At an error all of it is dropped.
     pub fn open(
         alloc: Global,
         bench: T,
@@ -47,6 +48,7 @@ impl<T: Bench + Drop> FirstSession<T> {
             T.Store.device T.Store.history T.Store.fault_count
             (begun_sizes opened.region.geometry.page opened.region.geometry.entries (length opened.region.names) pages cache)
             opened.region.next opened.region.parts.items opened.stores.items fds first.mount first.pass) }
+        ensures made { IfOk result (λ first. made_of first.pass.view ≡ 0) }
         ensures files { IfOk result (λ first. (files : Files) → StoresHave (map T.Store.history opened.stores.items) files → Opens (mount_of first.mount.board.opened) files) }
         ensures log { IfOk result (λ first. AllDevicesTell (map T.Part.history opened.region.parts.items) → OpensLog (mount_of first.mount.board.opened) opened.region.next) }
         ensures region { IfOk result (λ first. AllDevicesTell (map T.Part.history opened.region.parts.items) → OpensRegion (mount_of first.mount.board.opened) opened.region.names) }

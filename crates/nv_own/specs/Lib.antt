@@ -1,0 +1,2 @@
+-- Owned: the files of a mount that nobody shares.
+pub mod Owned
