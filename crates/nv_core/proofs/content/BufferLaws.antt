@@ -1,6 +1,6 @@
 -- Buffers: what a step leaves of what its pass's pages have, and of what a read has gathered.
-use Rattle.std.proofs.Common.{◌≡◌, ◌≢◌, ℕ, ◌+◌, ◌^◌, ◌≤◌, ◌==◌, nat_lt, nat_le, not, ◌&&◌, true, false, if◌then◌else◌, List, [], ◌∷◌, Option, inl, inr, refl, sym, ap, subst, ◌∙◌, arith}
-use Rattle.std.specs.Prelude.{Some, None}
+use Rattle.std.proofs.Common.{◌≡◌, ◌≢◌, ℕ, ◌+◌, ◌^◌, ◌≤◌, ◌==◌, nat_lt, nat_le, not, ◌&&◌, true, false, if◌then◌else◌, List, [], ◌∷◌, Option, inl, inr, refl, sym, ap, subst, ◌∙◌, arith, ◌<◌}
+use Rattle.std.specs.Prelude.{Some, None, slice_index}
 use Rattle.std.proofs.lemmas.Bool.{cases_lt, eq-eqb, ne_eqb}
 use Rattle.nv_plain.specs.declared.call.FileCall.{FileCall}
 use Rattle.nv_core.specs.state.Words.{Sizes, Word, STOP, ORDER, HEAD, TAIL, SIZE, LENGTH, STORE, ENTRY, PAGE, CLEANUP, DIRTY, ready, is_entry_of, same, HINT, CLEANER, HEADER, is_lock, slot_of_entry}
@@ -101,12 +101,13 @@ last_held : (cell : Word) (owned : List Word) → IsLastTaken cell owned → 1 �
 last_held cell [] last = absurd last
 last_held cell (first ∷ rest) last = subst (λ w. 1 ≤ times cell (w ∷ rest)) (sym last) (let t = times_here cell rest in omega (arith, t))
 
-pub page_given : (sizes : Sizes) (pass : Pass) (page : ℕ) (control : Control) → ((next : ℕ) → control ≡ GivePage next → IsPage sizes pass.call next) → PagesAt sizes pass control → HoldsLocks sizes pass control → MayGive pass (PAGE page) control → 1 ≤ times (PAGE page) pass.owned
+pub page_given : (sizes : Sizes) (pass : Pass) (page : ℕ) (control : Control) → ((next : ℕ) → control ≡ GivePage next → next < page_count sizes pass.call) → PagesAt sizes pass control → HoldsLocks sizes pass control → MayGive pass (PAGE page) control → 1 ≤ times (PAGE page) pass.owned
 page_given sizes pass page (GivePage next) on pages held may =
     subst (λ p. 1 ≤ times (PAGE p) pass.owned) (sym may) (
-    let a = held (PAGE next) (λ slot. differ (PAGE next) (ENTRY slot) refl) in
-    let b = end_less sizes pass.call pass.pages pages next next (on next refl) in
-    let c : one_if (next == next) ≡ 1 = when_true (next == next) 1 0 (eq-eqb next next refl) in omega (arith, a, b, c)
+    let own = slice_index pass.pages next in
+    let a = held (PAGE own) (λ slot. differ (PAGE own) (ENTRY slot) refl) in
+    let b = end_less sizes pass.call pass.pages pages next own (on next refl) in
+    let c : one_if (own == own) ≡ 1 = when_true (own == own) 1 0 (eq-eqb own own refl) in omega (arith, a, b, c)
     )
 page_given sizes pass page (Searching missed tries (GiveVictim buffer victim)) on pages held may =
     let a = held (PAGE page) (λ slot. differ (PAGE page) (ENTRY slot) refl) in
@@ -263,7 +264,7 @@ module _ (sizes : Sizes) (values : Values) (pass : Pass) (page : ℕ) (old : Lis
   old_leaving owned = leaving_both (λ s. patched_page sizes pass.call pass.pages s page old ≡ old) owned (λ _. refl) (λ _. refl)
 
   old_giving : patched_page sizes pass.call pass.pages (giving sizes pass.call) page old ≡ old
-  old_giving = if_both (λ s. patched_page sizes pass.call pass.pages s page old ≡ old) (page_count sizes pass.call == 0) Idle (GivePage (first_page sizes pass.call)) (λ _. refl) (λ _. refl)
+  old_giving = if_both (λ s. patched_page sizes pass.call pass.pages s page old ≡ old) (page_count sizes pass.call == 0) Idle (GivePage 0) (λ _. refl) (λ _. refl)
 
   pub old_ending : patched_page sizes pass.call pass.pages (ending sizes pass) page old ≡ old
   old_ending = if_both (λ s. patched_page sizes pass.call pass.pages s page old ≡ old) pass.sized GiveSize (giving sizes pass.call) (λ _. refl) (λ _. old_giving)
@@ -306,7 +307,7 @@ module _ (sizes : Sizes) (values : Values) (pass : Pass) (page : ℕ) (old : Lis
   old_give : (cell : Word) (control : Control) → IsGivingBack control → patched_page sizes pass.call pass.pages (after_give sizes pass cell control) page old ≡ old
   old_give cell GiveBack back = old_leaving (without cell pass.owned)
   old_give cell GiveSize back = old_giving
-  old_give cell (GivePage next) back = if_both (λ s. patched_page sizes pass.call pass.pages s page old ≡ old) (next + 1 == end_page sizes pass.call) Idle (GivePage (next + 1)) (λ _. refl) (λ _. refl)
+  old_give cell (GivePage next) back = if_both (λ s. patched_page sizes pass.call pass.pages s page old ≡ old) (next + 1 == page_count sizes pass.call) Idle (GivePage (next + 1)) (λ _. refl) (λ _. refl)
   old_give cell (GiveStore next dirty) back = if_both (λ s. patched_page sizes pass.call pass.pages s page old ≡ old) dirty (ReadLoadHead next) (VisitPage (next + 1)) (λ _. refl) (λ _. refl)
   old_give cell (GiveCleanup next) back = refl
   old_give cell (Searching next tries search) back = refl

@@ -5,7 +5,7 @@ use Rattle.nv_plain.specs.declared.call.FileCall.{FileCall}
 use Rattle.nv_plain.specs.declared.call.FileCall.TheVariants.{Read, Write, Readv, Writev, Sync}
 use Rattle.nv_core.specs.state.Words.{Sizes, Word, STOP, ORDER, HEAD, TAIL, SIZE, LENGTH, STORE, ENTRY, PAGE, CLEANUP, DIRTY, ready, is_entry_of, HINT, slot_of_entry}
 use Rattle.nv_core.specs.state.Values.{is_valid, bytes_in}
-use Rattle.nv_core.specs.state.Passes.{Control, Idle, TakePage, LoadLength, TakeSize, LoadStop, LoadOrder, VisitPage, TakeStore, ReadStore, GiveStore, ReadLoadHead, ReadLoadTail, LoadEntry, HoldEntry, ReadPiece, ReturnEntry, GiveCleanup, TakeCleanup, WriteLoadHead, WriteLoadTail, DrawNumbers, SeizeEntry, CommitGroup, PledgePage, ReadyEntry, TakePlace, GrowLength, GiveSize, GivePage, GiveBack, SetStopAfterRead, SetStopAfterPiece, SetStopAfterCommit, BreakEntry, Pass, is_write, is_read, page_count, first_page, end_page, without, times, Searching, LoadHint, TakeVictim, GiveVictim, VictimGiven, NotFound}
+use Rattle.nv_core.specs.state.Passes.{Control, Idle, TakePage, LoadLength, TakeSize, LoadStop, LoadOrder, VisitPage, TakeStore, ReadStore, GiveStore, ReadLoadHead, ReadLoadTail, LoadEntry, HoldEntry, ReadPiece, ReturnEntry, GiveCleanup, TakeCleanup, WriteLoadHead, WriteLoadTail, DrawNumbers, SeizeEntry, CommitGroup, ReadyEntry, TakePlace, GrowLength, GiveSize, GivePage, GiveBack, SetStopAfterRead, SetStopAfterPiece, SetStopAfterCommit, BreakEntry, Pass, is_write, is_read, page_count, first_page, end_page, without, times, Searching, LoadHint, TakeVictim, GiveVictim, VictimGiven, NotFound}
 use Rattle.nv_core.specs.steps.Ops.{Op, Load, Take, Give, Place, Stop, Draw, Seize, Pledge, Ready, Grow, Break, Hold, Return, Turn, Hint, ByCleaner, cleaner_move, moved}
 use Rattle.nv_core.specs.steps.ControlSteps.{control_after, after_load, after_give, after_stop, after_head, after_tail, after_look, after_hold, after_return, scanning, leaving, giving, ending, ordered, copying, exceeds}
 use Rattle.nv_core.specs.steps.Order.{Values, IsFailing, page_bytes}
@@ -14,7 +14,7 @@ use Rattle.nv_core.specs.invariant.ControlFacts.{FactsAt, IsPage, PagesAt}
 use Rattle.nv_core.specs.invariant.Ownership.{HoldsLocks}
 use Rattle.nv_core.specs.content.ValidBuffers.{Gathered, Halfway, GatheredAt}
 use Rattle.nv_core.proofs.steps.CleanerControls.{tended_to}
-use Rattle.nv_core.proofs.state.Choices.{if_both, leaving_both, IsGivingBack, gives_back}
+use Rattle.nv_core.proofs.state.Choices.{if_both, leaving_both, IsGivingBack, gives_back, pledged_next}
 use Rattle.nv_core.proofs.content.BufferLaws.{whole_holds, IsUnfilling, searching_holds}
 use Rattle.nv_core.proofs.steps.SearchLaws.{hinting_next, tried_next}
 use Rattle.nv_core.specs.steps.PassSteps.{pages_after}
@@ -85,7 +85,7 @@ module _ (sizes : Sizes) (now : ℕ → List ℕ) (values : Values) (pass : Pass
   at_leaving owned = leaving_both (GatheredAt sizes now values pass.call pass.pages pass.fetched) owned (λ _. tt) (λ _. tt)
 
   at_giving : GatheredAt sizes now values pass.call pass.pages pass.fetched (giving sizes pass.call)
-  at_giving = if_both (GatheredAt sizes now values pass.call pass.pages pass.fetched) (page_count sizes pass.call == 0) Idle (GivePage (first_page sizes pass.call)) (λ _. tt) (λ _. tt)
+  at_giving = if_both (GatheredAt sizes now values pass.call pass.pages pass.fetched) (page_count sizes pass.call == 0) Idle (GivePage 0) (λ _. tt) (λ _. tt)
 
   pub at_ending : GatheredAt sizes now values pass.call pass.pages pass.fetched (ending sizes pass)
   at_ending = if_both (GatheredAt sizes now values pass.call pass.pages pass.fetched) pass.sized GiveSize (giving sizes pass.call) (λ _. tt) (λ _. at_giving)
@@ -154,7 +154,7 @@ module _ (sizes : Sizes) (now : ℕ → List ℕ) (values : Values) (pass : Pass
   at_give : (cell : Word) (control : Control) → IsGivingBack control → ((page : ℕ) → control ≡ GiveCleanup page → ⊥) → GatheredAt sizes now values pass.call pass.pages pass.fetched control → GatheredAt sizes now values pass.call pass.pages pass.fetched (after_give sizes pass cell control)
   at_give cell GiveBack back other was = at_leaving (without cell pass.owned)
   at_give cell GiveSize back other was = at_giving
-  at_give cell (GivePage page) back other was = if_both (GatheredAt sizes now values pass.call pass.pages pass.fetched) (page + 1 == end_page sizes pass.call) Idle (GivePage (page + 1)) (λ _. tt) (λ _. tt)
+  at_give cell (GivePage page) back other was = if_both (GatheredAt sizes now values pass.call pass.pages pass.fetched) (page + 1 == page_count sizes pass.call) Idle (GivePage (page + 1)) (λ _. tt) (λ _. tt)
   at_give cell (GiveStore page true) back other was = was
   at_give cell (GiveStore page false) back other was = was
   at_give cell (GiveCleanup page) back other was = absurd (other page refl)
@@ -180,7 +180,7 @@ module _ (sizes : Sizes) (now : ℕ → List ℕ) (values : Values) (pass : Pass
   gathered_on Stop found other may stands right was = at_stop pass.control may
   gathered_on Draw found other may stands right was = if_both (GatheredAt sizes now values pass.call pass.pages pass.fetched) (found == pass.head) (SeizeEntry found) (leaving pass.owned) (λ _. tt) (λ _. at_leaving pass.owned)
   gathered_on (Seize next) found other may stands right was = if_both (GatheredAt sizes now values pass.call pass.pages pass.fetched) (next + 1 == pass.first + pass.entries) (CommitGroup 0) (SeizeEntry (next + 1)) (λ _. tt) (λ _. tt)
-  gathered_on (Pledge page) found other may stands right was = if_both (GatheredAt sizes now values pass.call pass.pages pass.fetched) (page + 1 == end_page sizes pass.call) (ReadyEntry (if pass.entries == 1 then pass.first else pass.first + 1)) (PledgePage (page + 1)) (λ _. tt) (λ _. tt)
+  gathered_on (Pledge page) found other may stands right was = pledged_next (GatheredAt sizes now values pass.call pass.pages pass.fetched) sizes pass may.0 may.1 (λ _. tt) (λ _. tt)
   gathered_on (Ready next) found other may stands right was = if_both (GatheredAt sizes now values pass.call pass.pages pass.fetched) (next == pass.first) TakePlace (ReadyEntry (if next + 1 == pass.first + pass.entries then pass.first else next + 1))
       (λ _. write_only pass.call (let s : FactsAt sizes pass (ReadyEntry next) = subst (FactsAt sizes pass) may stands in s.0.write)) (λ _. tt)
   gathered_on Grow found other may stands right was = at_ending

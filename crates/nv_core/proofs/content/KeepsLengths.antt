@@ -10,7 +10,7 @@ use Rattle.nv_plain.specs.declared.call.Reply.{Reply}
 use Rattle.nv_core.proofs.content.MadeLaws.{made_now}
 use Rattle.nv_core.specs.state.Words.{Sizes, Word, STOP, ORDER, HEAD, TAIL, SIZE, LENGTH, STORE, ENTRY, PAGE, DIRTY, index, HINT, CLEANUP, ready, is_entry_of, slot_of_entry}
 use Rattle.nv_core.specs.state.Values.{CallEnding, Made, Failed, Refused}
-use Rattle.nv_core.specs.state.Passes.{Control, Idle, TakePage, LoadLength, TakeSize, LoadStop, LoadOrder, VisitPage, TakeStore, ReadStore, GiveStore, TakeCleanup, WriteLoadHead, WriteLoadTail, DrawNumbers, SeizeEntry, CommitGroup, PledgePage, ReadyEntry, TakePlace, GrowLength, GiveSize, GivePage, GiveBack, SetStopAfterRead, SetStopAfterCommit, BreakEntry, Pass, file_of, at_of, len_of, is_write, is_read, page_count, first_page, end_page, without, times, Searching, ReadLoadHead, LoadEntry, HoldEntry, ReadPiece, GiveCleanup, SetStopAfterPiece, Cleaning, plain_call}
+use Rattle.nv_core.specs.state.Passes.{Control, Idle, TakePage, LoadLength, TakeSize, LoadStop, LoadOrder, VisitPage, TakeStore, ReadStore, GiveStore, TakeCleanup, WriteLoadHead, WriteLoadTail, DrawNumbers, SeizeEntry, CommitGroup, PledgePage, ReadyEntry, TakePlace, GrowLength, GiveSize, GivePage, GiveBack, SetStopAfterRead, SetStopAfterCommit, BreakEntry, Pass, file_of, at_of, len_of, is_write, is_read, page_count, first_page, without, times, Searching, ReadLoadHead, LoadEntry, HoldEntry, ReadPiece, GiveCleanup, SetStopAfterPiece, Cleaning, plain_call}
 use Rattle.nv_core.specs.steps.Ops.{Op, Load, Take, Give, Place, Stop, Draw, Seize, Pledge, Ready, Grow, Break, Split, PutBack, Join, Turn, Hint, Hold, Return, ByCleaner, cleaner_move, moved}
 use Rattle.nv_core.specs.steps.ControlSteps.{control_after, after_load, after_give, after_stop, leaving, giving, ending, ordered, copying, exceeds, scanning, after_head, after_tail, after_look, after_hold, after_return}
 use Rattle.nv_core.specs.steps.PassSteps.{added, as_answered}
@@ -26,7 +26,7 @@ use Rattle.nv_core.specs.content.Lengths.{length_now, IsGrowing, Extends, Length
 use Rattle.nv_core.specs.invariant.Sound.{Sound}
 use Rattle.nv_core.specs.content.PlainLaws.{PlainLaws}
 use Rattle.nv_core.proofs.state.Changes.{by_number, number_here, number_else, word_here, word_else}
-use Rattle.nv_core.proofs.state.Choices.{if_both, when_true, when_false, leaving_both, IsGivingBack, gives_back, step_idle, page_tried}
+use Rattle.nv_core.proofs.state.Choices.{if_both, when_true, when_false, leaving_both, IsGivingBack, gives_back, step_idle, page_tried, pledged_next}
 use Rattle.nv_core.proofs.steps.WordLaws.{untouched, touches}
 use Rattle.nv_core.proofs.invariant.KeepsLoaded.{holds_size, held_by_one}
 use Rattle.nv_core.proofs.steps.Placed.{IsUnplaced, same_history}
@@ -78,7 +78,7 @@ step_growing sizes values pass (Place reply) un may = place_growing sizes values
 step_growing sizes values pass Stop un may = λ is. subst IsFailing is may
 step_growing sizes values pass Draw un may = unlike _ may (λ z. z)
 step_growing sizes values pass (Seize number) un may = unlike _ may (λ z. z)
-step_growing sizes values pass (Pledge page) un may = unlike _ may (λ z. z)
+step_growing sizes values pass (Pledge page) un may = unlike _ may.1 (λ z. z)
 step_growing sizes values pass (Ready number) un may = unlike _ may (λ z. z)
 step_growing sizes values pass Grow un may = absurd un
 step_growing sizes values pass (Break number) un may = unlike _ may (λ z. z)
@@ -94,7 +94,7 @@ ungrown_leaving : (owned : List Word) → IsGrow (leaving owned) → ⊥
 ungrown_leaving owned = leaving_both (λ s. IsGrow s → ⊥) owned (λ _ z. z) (λ _ z. z)
 
 ungrown_giving : (sizes : Sizes) (call : FileCall) → IsGrow (giving sizes call) → ⊥
-ungrown_giving sizes call = if_both (λ s. IsGrow s → ⊥) (page_count sizes call == 0) Idle (GivePage (first_page sizes call)) (λ _ z. z) (λ _ z. z)
+ungrown_giving sizes call = if_both (λ s. IsGrow s → ⊥) (page_count sizes call == 0) Idle (GivePage 0) (λ _ z. z) (λ _ z. z)
 
 ungrown_ending : (sizes : Sizes) (pass : Pass) → IsGrow (ending sizes pass) → ⊥
 ungrown_ending sizes pass = if_both (λ s. IsGrow s → ⊥) pass.sized GiveSize (giving sizes pass.call) (λ _ z. z) (λ _. ungrown_giving sizes pass.call)
@@ -135,7 +135,7 @@ take_grows sizes pass cell found may = absurd may
 give_grows : (sizes : Sizes) (pass : Pass) (cell : Word) (control : Control) → IsGivingBack control → IsGrow (after_give sizes pass cell control) → ⊥
 give_grows sizes pass cell GiveBack may = ungrown_leaving (without cell pass.owned)
 give_grows sizes pass cell GiveSize may = ungrown_giving sizes pass.call
-give_grows sizes pass cell (GivePage page) may = if_both (λ s. IsGrow s → ⊥) (page + 1 == end_page sizes pass.call) Idle (GivePage (page + 1)) (λ _ z. z) (λ _ z. z)
+give_grows sizes pass cell (GivePage page) may = if_both (λ s. IsGrow s → ⊥) (page + 1 == page_count sizes pass.call) Idle (GivePage (page + 1)) (λ _ z. z) (λ _ z. z)
 give_grows sizes pass cell (GiveStore page dirty) may = if_both (λ s. IsGrow s → ⊥) dirty (ReadLoadHead page) (VisitPage (page + 1)) (λ _ z. z) (λ _ z. z)
 give_grows sizes pass cell (GiveCleanup page) may = λ z. z
 give_grows sizes pass cell (Searching page tries search) may = λ z. z
@@ -155,7 +155,7 @@ none_grows sizes values pass found Stop un may = stops pass.control may
     stops control may = absurd may
 none_grows sizes values pass found Draw un may = if_both (λ s. IsGrow s → ⊥) (found == pass.head) (SeizeEntry found) (leaving pass.owned) (λ _ z. z) (λ _. ungrown_leaving pass.owned)
 none_grows sizes values pass found (Seize next) un may = if_both (λ s. IsGrow s → ⊥) (next + 1 == pass.first + pass.entries) (CommitGroup 0) (SeizeEntry (next + 1)) (λ _ z. z) (λ _ z. z)
-none_grows sizes values pass found (Pledge page) un may = if_both (λ s. IsGrow s → ⊥) (page + 1 == end_page sizes pass.call) (ReadyEntry (if pass.entries == 1 then pass.first else pass.first + 1)) (PledgePage (page + 1)) (λ _ z. z) (λ _ z. z)
+none_grows sizes values pass found (Pledge page) un may = pledged_next (λ s. IsGrow s → ⊥) sizes pass may.0 may.1 (λ _ z. z) (λ _ z. z)
 none_grows sizes values pass found (Ready next) un may = if_both (λ s. IsGrow s → ⊥) (next == pass.first) TakePlace (ReadyEntry (if next + 1 == pass.first + pass.entries then pass.first else next + 1)) (λ _ z. z) (λ _ z. z)
 none_grows sizes values pass found Grow un may = ungrown_ending sizes pass
 none_grows sizes values pass found (Break next) un may = if_both (λ s. IsGrow s → ⊥) (next + 1 == pass.first + pass.entries) (leaving (without (ENTRY (slot_of_entry sizes next)) pass.owned)) (BreakEntry (next + 1))
@@ -444,7 +444,7 @@ due_growing : (sizes : Sizes) (values : Values) (pass : Pass) (work : Work) (con
 due_growing sizes values pass work control due is = subst (CallDue sizes values pass work) is due
 
 worked_growing : (sizes : Sizes) (values : Values) (pass : Pass) (work : Work) (how : CallEnding) (control : Control) → CallDue sizes values pass work control → IsGrow (control_worked sizes pass how control) → ⊥
-worked_growing sizes values pass work Made (CommitGroup calls) due = if_both (λ s. IsGrow s → ⊥) (calls + 1 == length (commit_steps sizes pass pass.call)) (PledgePage (first_page sizes pass.call)) (CommitGroup (calls + 1)) (λ _ z. z) (λ _ z. z)
+worked_growing sizes values pass work Made (CommitGroup calls) due = if_both (λ s. IsGrow s → ⊥) (calls + 1 == length (commit_steps sizes pass pass.call)) (PledgePage 0) (CommitGroup (calls + 1)) (λ _ z. z) (λ _ z. z)
 worked_growing sizes values pass work Made (ReadStore page dirty) due = λ z. z
 worked_growing sizes values pass work Made (ReadPiece page number) due = λ z. z
 worked_growing sizes values pass work (Failed came faults) (CommitGroup calls) due = λ z. z

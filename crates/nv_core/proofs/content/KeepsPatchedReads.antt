@@ -11,7 +11,7 @@ use Rattle.nv_pmem.specs.Laws.{LoadsAreAnImage}
 use Rattle.nv_entry.specs.Commits.{after_some, GroupsBecomeWhole}
 use Rattle.nv_core.specs.state.Words.{Sizes, Word, STOP, ORDER, HEAD, TAIL, SIZE, LENGTH, STORE, ENTRY, PAGE, CLEANUP, DIRTY, kind_of, page_of, filling, ready, held, is_entry_of, is_shut, HINT, slot_of_entry}
 use Rattle.nv_core.specs.state.Values.{Value, Bare, APart, AStore, ABuffer, PageRead, PieceRead, CallEnding, Made, Failed, Refused}
-use Rattle.nv_core.specs.state.Passes.{Control, Idle, TakePage, LoadLength, TakeSize, LoadStop, LoadOrder, VisitPage, TakeCleanup, TakeStore, ReadStore, GiveStore, ReadLoadHead, ReadLoadTail, LoadEntry, HoldEntry, ReadPiece, ReturnEntry, GiveCleanup, WriteLoadHead, WriteLoadTail, DrawNumbers, SeizeEntry, CommitGroup, PledgePage, ReadyEntry, TakePlace, GrowLength, GiveSize, GivePage, GiveBack, SetStopAfterRead, SetStopAfterPiece, SetStopAfterCommit, BreakEntry, Pass, fetched_bytes, IsHeldEntry, file_of, is_write, is_read, page_count, first_page, end_page, without, times, Searching, Cleaning, IsHeldByCleaner, plain_call}
+use Rattle.nv_core.specs.state.Passes.{Control, Idle, TakePage, LoadLength, TakeSize, LoadStop, LoadOrder, VisitPage, TakeCleanup, TakeStore, ReadStore, GiveStore, ReadLoadHead, ReadLoadTail, LoadEntry, HoldEntry, ReadPiece, ReturnEntry, GiveCleanup, WriteLoadHead, WriteLoadTail, DrawNumbers, SeizeEntry, CommitGroup, PledgePage, ReadyEntry, TakePlace, GrowLength, GiveSize, GivePage, GiveBack, SetStopAfterRead, SetStopAfterPiece, SetStopAfterCommit, BreakEntry, Pass, fetched_bytes, IsHeldEntry, file_of, is_write, is_read, page_count, first_page, without, times, Searching, Cleaning, IsHeldByCleaner, plain_call}
 use Rattle.nv_core.specs.steps.Ops.{Op, Load, Take, Give, Place, Stop, Draw, Seize, Pledge, Ready, Grow, Break, Hold, Return, Split, PutBack, Join, Turn, Hint, ByCleaner, cleaner_move, moved}
 use Rattle.nv_core.specs.steps.ControlSteps.{control_after, after_load, after_give, after_stop, after_head, after_tail, after_look, after_hold, after_return, scanning, leaving, giving, ending, ordered, copying, exceeds}
 use Rattle.nv_core.specs.steps.PassSteps.{head_after, begun, pages_after}
@@ -44,7 +44,7 @@ use Rattle.nv_core.specs.log.LogContent.{LogContent}
 use Rattle.nv_core.specs.invariant.Sound.{Sound}
 use Rattle.nv_core.specs.content.PlainLaws.{PlainLaws}
 use Rattle.nv_core.proofs.state.Changes.{by_number, differ}
-use Rattle.nv_core.proofs.state.Choices.{if_both, when_true, not_both, leaving_both, busy, IsGivingBack, gives_back, step_idle, page_tried}
+use Rattle.nv_core.proofs.state.Choices.{if_both, when_true, not_both, leaving_both, busy, IsGivingBack, gives_back, step_idle, page_tried, pledged_next}
 use Rattle.nv_core.proofs.invariant.KeepsLoaded.{tail_up}
 use Rattle.nv_core.proofs.invariant.KeepsLocks.{entry_is, held_was}
 use Rattle.nv_core.proofs.steps.Placed.{IsUnplaced, same_history}
@@ -241,7 +241,7 @@ module _ (plain : PlainLaws) (sizes : Sizes) (first : Values) (opening : Files) 
   c_leaving head owned = leaving_both (At head) owned (λ _. tt) (λ _. tt)
 
   c_giving : (head : ℕ) → At head (giving sizes pass.call)
-  c_giving head = if_both (At head) (page_count sizes pass.call == 0) Idle (GivePage (first_page sizes pass.call)) (λ _. tt) (λ _. tt)
+  c_giving head = if_both (At head) (page_count sizes pass.call == 0) Idle (GivePage 0) (λ _. tt) (λ _. tt)
 
   c_ending : (head : ℕ) → At head (ending sizes pass)
   c_ending head = if_both (At head) pass.sized GiveSize (giving sizes pass.call) (λ _. tt) (λ _. c_giving head)
@@ -327,7 +327,7 @@ module _ (plain : PlainLaws) (sizes : Sizes) (first : Values) (opening : Files) 
   c_give : (cell : Word) (control : Control) → IsGivingBack control → At pass.head control → At pass.head (after_give sizes pass cell control)
   c_give cell GiveBack back before = c_leaving pass.head (without cell pass.owned)
   c_give cell GiveSize back before = c_giving pass.head
-  c_give cell (GivePage page) back before = if_both (At pass.head) (page + 1 == end_page sizes pass.call) Idle (GivePage (page + 1)) (λ _. tt) (λ _. tt)
+  c_give cell (GivePage page) back before = if_both (At pass.head) (page + 1 == page_count sizes pass.call) Idle (GivePage (page + 1)) (λ _. tt) (λ _. tt)
   c_give cell (GiveStore page true) back before = before
   c_give cell (GiveStore page false) back before = tt
   c_give cell (GiveCleanup page) back before = tt
@@ -352,7 +352,7 @@ module _ (plain : PlainLaws) (sizes : Sizes) (first : Values) (opening : Files) 
   c_step Stop found un may step before = c_stop pass.control step
   c_step Draw found un may step before = if_both (At (head_after sizes pass Draw found)) (found == pass.head) (SeizeEntry found) (leaving pass.owned) (λ _. tt) (λ _. c_leaving (head_after sizes pass Draw found) pass.owned)
   c_step (Seize next) found un may step before = if_both (At pass.head) (next + 1 == pass.first + pass.entries) (CommitGroup 0) (SeizeEntry (next + 1)) (λ _. tt) (λ _. tt)
-  c_step (Pledge page) found un may step before = if_both (At pass.head) (page + 1 == end_page sizes pass.call) (ReadyEntry (if pass.entries == 1 then pass.first else pass.first + 1)) (PledgePage (page + 1)) (λ _. tt) (λ _. tt)
+  c_step (Pledge page) found un may step before = pledged_next (At pass.head) sizes pass step.0 step.1 (λ _. tt) (λ _. tt)
   c_step (Ready next) found un may step before = if_both (At pass.head) (next == pass.first) TakePlace (ReadyEntry (if next + 1 == pass.first + pass.entries then pass.first else next + 1)) (λ _. tt) (λ _. tt)
   c_step Grow found un may step before = c_ending pass.head
   c_step (Break next) found un may step before = if_both (At pass.head) (next + 1 == pass.first + pass.entries) (leaving (without (ENTRY (slot_of_entry sizes next)) pass.owned)) (BreakEntry (next + 1)) (λ _. c_leaving pass.head (without (ENTRY (slot_of_entry sizes next)) pass.owned)) (λ _. tt)
@@ -457,7 +457,7 @@ patched_step plain sizes first opening tails log placed core by op found count s
     here (Place reply) may =
         if_both (PatchedAt sizes log opening (after_step sizes by (Place reply) found core) (core.passes by).pages (core.passes by).fetched (core.passes by).head) (is_write (core.passes by).call && exceeds (core.passes by) (core.passes by).length) GrowLength (ending sizes (core.passes by))
         (λ _. tt) (λ _. if_both (PatchedAt sizes log opening (after_step sizes by (Place reply) found core) (core.passes by).pages (core.passes by).fetched (core.passes by).head) (core.passes by).sized GiveSize (giving sizes (core.passes by).call)
-        (λ _. tt) (λ _. if_both (PatchedAt sizes log opening (after_step sizes by (Place reply) found core) (core.passes by).pages (core.passes by).fetched (core.passes by).head) (page_count sizes (core.passes by).call == 0) Idle (GivePage (first_page sizes (core.passes by).call)) (λ _. tt) (λ _. tt)))
+        (λ _. tt) (λ _. if_both (PatchedAt sizes log opening (after_step sizes by (Place reply) found core) (core.passes by).pages (core.passes by).fetched (core.passes by).head) (page_count sizes (core.passes by).call == 0) Idle (GivePage 0) (λ _. tt) (λ _. tt)))
     here (ByCleaner cleaner_op) may = tended_to (PatchedAt sizes (log_stepped sizes (core.passes by) (ByCleaner cleaner_op) found log) opening (after_step sizes by (ByCleaner cleaner_op) found core) (core.passes by).pages (core.passes by).fetched (head_after sizes (core.passes by) (ByCleaner cleaner_op) found)) tt (λ _ _. tt)
         sizes (core.passes by) (moved (cleaner_move sizes cleaner_op found) (core.passes by).owned) cleaner_op found (core.passes by).control may.may
     here (Load word) may = own (Load word) tt may may.may
@@ -638,7 +638,7 @@ module _ (plain : PlainLaws) (loads : LoadsAreAnImage) (becomes : GroupsBecomeWh
           go : (how : CallEnding) → work.ending ≡ how → (control : Control) → (core.passes by).control ≡ control → CallDue sizes core.values (core.passes by) work control
               → PatchedAt sizes worked_log opening worked_now (core.passes by).pages fetched_now (core.passes by).head (control_worked sizes (core.passes by) how control)
           go Made how (CommitGroup calls) at due = if_both (PatchedAt sizes worked_log opening worked_now (core.passes by).pages fetched_now (core.passes by).head)
-              (calls + 1 == length (commit_steps sizes (core.passes by) (core.passes by).call)) (PledgePage (first_page sizes (core.passes by).call)) (CommitGroup (calls + 1)) (λ _. tt) (λ _. tt)
+              (calls + 1 == length (commit_steps sizes (core.passes by) (core.passes by).call)) (PledgePage 0) (CommitGroup (calls + 1)) (λ _. tt) (λ _. tt)
           go Made how (ReadStore page false) at due = tt
           go Made how (ReadStore page true) at due = fetched_stores page at how due
           go Made how (ReadPiece page number) at due = fetched_piece page number at how due

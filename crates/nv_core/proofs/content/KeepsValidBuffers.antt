@@ -8,7 +8,7 @@ use Rattle.nv_plain.specs.declared.call.Reply.{Reply}
 use Rattle.nv_store.specs.Store.{Store}
 use Rattle.nv_core.specs.state.Words.{Sizes, Word, PAGE, CLEANUP, DIRTY, ENTRY, STORE, same, index, HEADER, slot_of_entry}
 use Rattle.nv_core.specs.state.Values.{Value, AStore, ABuffer, Job, PartStep, PageRead, PieceRead, CallEnding, Made, Failed, called, filled, is_valid, bytes_in, Refused}
-use Rattle.nv_core.specs.state.Passes.{Control, Idle, TakePage, LoadStop, LoadOrder, VisitPage, ReadStore, GiveStore, ReadPiece, GiveCleanup, CommitGroup, PledgePage, ReadyEntry, TakePlace, GrowLength, GivePage, Pass, fetched_bytes, IsAllowed, is_write, is_read, file_of, times, page_count, first_page, end_page, Searching, GiveVictim, Cleaning, plain_call, nth_of}
+use Rattle.nv_core.specs.state.Passes.{Control, Idle, TakePage, LoadStop, LoadOrder, VisitPage, ReadStore, GiveStore, ReadPiece, GiveCleanup, CommitGroup, PledgePage, TakePlace, GrowLength, GivePage, Pass, fetched_bytes, IsAllowed, is_write, is_read, file_of, times, page_count, first_page, Searching, GiveVictim, Cleaning, plain_call}
 use Rattle.nv_core.specs.steps.Ops.{Op, Take, Give, Place, Pledge, Split, PutBack, Join, moved, Comes, Stays, patched_by, ByCleaner}
 use Rattle.nv_core.specs.steps.ControlSteps.{after_give, exceeds, ending}
 use Rattle.nv_core.specs.steps.PassSteps.{begun}
@@ -32,7 +32,7 @@ use Rattle.nv_core.proofs.invariant.KeepsLocks.{cleaner_give_one}
 use Rattle.nv_core.proofs.log.KeepsStores.{keeps_stores, no_refusal}
 use Rattle.nv_core.specs.content.PlainLaws.{PlainLaws}
 use Rattle.nv_core.proofs.state.Changes.{by_number, by_word, word_here, word_else, same_true, differ}
-use Rattle.nv_core.proofs.state.Choices.{if_both, when_true, when_false, gives_back, step_idle, busy}
+use Rattle.nv_core.proofs.state.Choices.{if_both, when_true, when_false, gives_back, step_idle, busy, pledged_next}
 use Rattle.nv_core.proofs.invariant.LockLaws.{only_holder, times_else}
 use Rattle.nv_core.proofs.steps.WordLaws.{untouched}
 use Rattle.nv_core.proofs.invariant.KeepsLoaded.{pledged_page}
@@ -44,7 +44,7 @@ use Rattle.nv_core.proofs.state.ValueLaws.{robbed_valid, IsUnmoving}
 use Rattle.nv_core.proofs.invariant.KeepsSearches.{robbed_apart, rob_stands, rob_others, rob_pages}
 use Rattle.nv_core.proofs.content.GatheredLaws.{gathered_same, gathered_on, AreRight, at_ending, page_bytes_same}
 use Rattle.nv_core.specs.invariant.CleanerOwnership.{count_in}
-use Rattle.nv_core.proofs.invariant.PageLists.{count_taken, front_more, front_none, front_all, pages_once}
+use Rattle.nv_core.proofs.invariant.PageLists.{count_taken, front_more, front_all, pages_once, place_among, count_nothing}
 
 -- ---- a step that neither places nor pledges
 
@@ -302,21 +302,27 @@ bytes_patched sizes call page value valid = refl
 
 module _ (sizes : Sizes) (first : Values) (opening : Files) (by : ℕ) (core : Core) (own : ℕ) (found : ℕ)
     (sound : Sound sizes first core) (may : FoundEnabledByKind sizes by core (Pledge own) found) (was : ValidBuffers sizes opening core) where
-  locks : HoldsLocks sizes (core.passes by) (PledgePage own)
-  locks = subst (HoldsLocks sizes (core.passes by)) may.may (sound.ownership by).locks
+  abbrev place : ℕ
+  place = may.may.0
 
-  pages_own : PagesAt sizes (core.passes by) (PledgePage own)
-  pages_own = subst (PagesAt sizes (core.passes by)) may.may (sound.control_facts by).pages
+  locks : HoldsLocks sizes (core.passes by) (PledgePage place)
+  locks = subst (HoldsLocks sizes (core.passes by)) may.may.1 (sound.ownership by).locks
+
+  pages_own : PagesAt sizes (core.passes by) (PledgePage place)
+  pages_own = subst (PagesAt sizes (core.passes by)) may.may.1 (sound.control_facts by).pages
 
   has_own : times (PAGE own) (core.passes by).owned ≡ 1
-  has_own = pledged_page sizes (core.passes by) own (subst (FactsAt sizes (core.passes by)) may.may (sound.control_facts by).at) pages_own locks
+  has_own = pledged_page sizes (core.passes by) own place may.may.2 (subst (FactsAt sizes (core.passes by)) may.may.1 (sound.control_facts by).at) pages_own locks
+
+  low : place < page_count sizes (core.passes by).call
+  low = let stands : FactsAt sizes (core.passes by) (PledgePage place) = subst (FactsAt sizes (core.passes by)) may.may.1 (sound.control_facts by).at in stands.1
 
   is_own : IsPage sizes (core.passes by).call own
-  is_own = let stands : FactsAt sizes (core.passes by) (PledgePage own) = subst (FactsAt sizes (core.passes by)) may.may (sound.control_facts by).at in stands.1
+  is_own = subst (IsPage sizes (core.passes by).call) (sym may.may.2) (place_among sizes (core.passes by).call (core.passes by).pages pages_own place low)
 
   -- the front of its pages, and with this one
-  front_own : (page : ℕ) → count_in (take (nth_of sizes (core.passes by).call (own + 1)) (core.passes by).pages) page ≡ one_if (page == own) + count_in (take (nth_of sizes (core.passes by).call own) (core.passes by).pages) page
-  front_own page = front_more sizes (core.passes by).call (core.passes by).pages pages_own own page is_own
+  front_own : (page : ℕ) → count_in (take (place + 1) (core.passes by).pages) page ≡ one_if (page == own) + count_in (take place (core.passes by).pages) page
+  front_own page = front_more sizes (core.passes by).call (core.passes by).pages pages_own place page low ∙ ap (λ q. one_if (page == q) + count_in (take place (core.passes by).pages) page) (sym may.may.2)
 
   own_once : one_if (own == own) ≡ 1
   own_once = when_true (own == own) 1 0 (eq-eqb own own refl)
@@ -333,16 +339,15 @@ module _ (sizes : Sizes) (first : Values) (opening : Files) (by : ℕ) (core : C
 
   -- the page that is pledged is patched then, and the others as they were
   then_own : (old : List ℕ) → patched_page sizes (core.passes by).call (changed_pass sizes by core (Pledge own) found).pages (changed_pass sizes by core (Pledge own) found).control own old ≡ with_own_pieces sizes (core.passes by).call own old
-  then_own old = if_both (λ s. patched_page sizes (core.passes by).call (core.passes by).pages s own old ≡ with_own_pieces sizes (core.passes by).call own old) (own + 1 == end_page sizes (core.passes by).call)
-      (ReadyEntry (if (core.passes by).entries == 1 then (core.passes by).first else (core.passes by).first + 1)) (PledgePage (own + 1))
-      (λ _. refl) (λ _. when_false (count_in (take (nth_of sizes (core.passes by).call (own + 1)) (core.passes by).pages) own == 0) old (with_own_pieces sizes (core.passes by).call own old)
-      (ne_eqb (count_in (take (nth_of sizes (core.passes by).call (own + 1)) (core.passes by).pages) own) 0 (λ none. let more = front_own own in omega (arith, more, own_once, none))))
+  then_own old = pledged_next (λ s. patched_page sizes (core.passes by).call (core.passes by).pages s own old ≡ with_own_pieces sizes (core.passes by).call own old) sizes (core.passes by) may.may.0 may.may.1
+      (λ _. refl) (λ _. when_false (count_in (take (place + 1) (core.passes by).pages) own == 0) old (with_own_pieces sizes (core.passes by).call own old)
+      (ne_eqb (count_in (take (place + 1) (core.passes by).pages) own) 0 (λ none. let more = front_own own in omega (arith, more, own_once, none))))
 
   before_own : (old : List ℕ) → patched_page sizes (core.passes by).call (core.passes by).pages (core.passes by).control own old ≡ old
-  before_own old = ap (λ s. patched_page sizes (core.passes by).call (core.passes by).pages s own old) may.may
-      ∙ when_true (count_in (take (nth_of sizes (core.passes by).call own) (core.passes by).pages) own == 0) old (with_own_pieces sizes (core.passes by).call own old)
-      (eq-eqb (count_in (take (nth_of sizes (core.passes by).call own) (core.passes by).pages) own) 0 (
-      let more = front_own own in let few = count_taken (core.passes by).pages (nth_of sizes (core.passes by).call (own + 1)) own in
+  before_own old = ap (λ s. patched_page sizes (core.passes by).call (core.passes by).pages s own old) may.may.1
+      ∙ when_true (count_in (take place (core.passes by).pages) own == 0) old (with_own_pieces sizes (core.passes by).call own old)
+      (eq-eqb (count_in (take place (core.passes by).pages) own) 0 (
+      let more = front_own own in let few = count_taken (core.passes by).pages (place + 1) own in
       let once = pages_once sizes (core.passes by).call (core.passes by).pages pages_own own is_own in omega (arith, more, few, once, own_once)
       ))
 
@@ -352,12 +357,11 @@ module _ (sizes : Sizes) (first : Values) (opening : Files) (by : ℕ) (core : C
       let holds = locks (PAGE page) (λ slot. differ (PAGE page) (ENTRY slot) refl) in
       let other : one_if (page == own) ≡ 0 = when_false (page == own) 1 0 (ne_eqb page own ne) in
       let more = front_own page in
-      ap (λ s. patched_page sizes (core.passes by).call (core.passes by).pages s page old) may.may
-      ∙ if_both (λ s. (if count_in (take (nth_of sizes (core.passes by).call own) (core.passes by).pages) page == 0 then old else with_own_pieces sizes (core.passes by).call page old) ≡ patched_page sizes (core.passes by).call (core.passes by).pages s page old) (own + 1 == end_page sizes (core.passes by).call)
-      (ReadyEntry (if (core.passes by).entries == 1 then (core.passes by).first else (core.passes by).first + 1)) (PledgePage (own + 1))
-      (λ e. let all = front_all sizes (core.passes by).call (core.passes by).pages pages_own (own + 1) page (eqb-true (own + 1) (end_page sizes (core.passes by).call) e) in
-      when_false (count_in (take (nth_of sizes (core.passes by).call own) (core.passes by).pages) page == 0) old (with_own_pieces sizes (core.passes by).call page old)
-      (ne_eqb (count_in (take (nth_of sizes (core.passes by).call own) (core.passes by).pages) page) 0 (λ none. omega (arith, all, more, other, holds, has, none))))
+      ap (λ s. patched_page sizes (core.passes by).call (core.passes by).pages s page old) may.may.1
+      ∙ pledged_next (λ s. (if count_in (take place (core.passes by).pages) page == 0 then old else with_own_pieces sizes (core.passes by).call page old) ≡ patched_page sizes (core.passes by).call (core.passes by).pages s page old) sizes (core.passes by) may.may.0 may.may.1
+      (λ e. let all = front_all sizes (core.passes by).call (core.passes by).pages pages_own (place + 1) page (eqb-true (place + 1) (page_count sizes (core.passes by).call) e) in
+      when_false (count_in (take place (core.passes by).pages) page == 0) old (with_own_pieces sizes (core.passes by).call page old)
+      (ne_eqb (count_in (take place (core.passes by).pages) page) 0 (λ none. omega (arith, all, more, other, holds, has, none))))
       (λ _. ap (λ n. if n == 0 then old else with_own_pieces sizes (core.passes by).call page old) (omega (arith, more, other)))
 
   buffers_pledge : ValidBuffers sizes opening (after_step sizes by (Pledge own) found core)
@@ -380,8 +384,7 @@ module _ (sizes : Sizes) (first : Values) (opening : Files) (by : ℕ) (core : C
         ])
         (λ n ne has valid. let far = apart n page ne has in ap bytes_in (value_else page far) ∙ was.held n page has (sym (ap is_valid (value_else page far)) ∙ valid)) n;
     gathered = by_number (λ n (p : Pass). GatheredAt sizes (page_now sizes opening core) (values_stepped sizes (core.passes by) (Pledge own) core.values) p.call p.pages p.fetched p.control) core.passes by (changed_pass sizes by core (Pledge own) found)
-        (if_both (GatheredAt sizes (page_now sizes opening core) (values_stepped sizes (core.passes by) (Pledge own) core.values) (core.passes by).call (core.passes by).pages (core.passes by).fetched) (own + 1 == end_page sizes (core.passes by).call)
-        (ReadyEntry (if (core.passes by).entries == 1 then (core.passes by).first else (core.passes by).first + 1)) (PledgePage (own + 1)) (λ _. tt) (λ _. tt))
+        (pledged_next (GatheredAt sizes (page_now sizes opening core) (values_stepped sizes (core.passes by) (Pledge own) core.values) (core.passes by).call (core.passes by).pages (core.passes by).fetched) sizes (core.passes by) may.may.0 may.may.1 (λ _. tt) (λ _. tt))
         (λ n ne. gathered_same sizes (page_now sizes opening core) (page_now sizes opening core) core.values (values_stepped sizes (core.passes by) (Pledge own) core.values) (core.passes n) (core.passes n).control (sound.control_facts n).at (sound.control_facts n).pages (sound.ownership n).locks
         (λ page has. (value_else page (apart n page ne has), refl)) (was.gathered n));
   }
@@ -546,9 +549,9 @@ read_failed pages job came faults control values = refl
 work_patched : (sizes : Sizes) (values : Values) (pass : Pass) (work : Work) (how : CallEnding) (control : Control) (page : ℕ) (old : List ℕ) → PagesAt sizes pass control → HoldsLocks sizes pass control → CallDue sizes values pass work control → times (PAGE page) pass.owned ≡ 1
     → patched_page sizes pass.call pass.pages control page old ≡ patched_page sizes pass.call pass.pages (control_worked sizes pass how control) page old
 work_patched sizes values pass work Made (CommitGroup calls) page old pages held due has =
-    if_both (λ s. old ≡ patched_page sizes pass.call pass.pages s page old) (calls + 1 == length (commit_steps sizes pass pass.call)) (PledgePage (first_page sizes pass.call)) (CommitGroup (calls + 1))
-    (λ _. sym (when_true (count_in (take (nth_of sizes pass.call (first_page sizes pass.call)) pass.pages) page == 0) old (with_own_pieces sizes pass.call page old)
-    (eq-eqb (count_in (take (nth_of sizes pass.call (first_page sizes pass.call)) pass.pages) page) 0 (front_none sizes pass.call pass.pages page)))) (λ _. refl)
+    if_both (λ s. old ≡ patched_page sizes pass.call pass.pages s page old) (calls + 1 == length (commit_steps sizes pass pass.call)) (PledgePage 0) (CommitGroup (calls + 1))
+    (λ _. sym (when_true (count_in (take 0 pass.pages) page == 0) old (with_own_pieces sizes pass.call page old)
+    (eq-eqb (count_in (take 0 pass.pages) page) 0 (count_nothing pass.pages page)))) (λ _. refl)
 work_patched sizes values pass work Made (ReadStore next dirty) page old pages held due has = refl
 work_patched sizes values pass work Made (ReadPiece next number) page old pages held due has = refl
 work_patched sizes values pass work (Failed came faults) (CommitGroup calls) page old pages held due has = refl
@@ -620,7 +623,7 @@ module _ (sizes : Sizes) (first : Values) (opening : Files) (by : ℕ) (core : C
       (subst (λ s. GatheredAt sizes (page_now sizes opening core) (values_worked (core.passes by) work core.values) (core.passes by).call (core.passes by).pages (worked sizes work (core.passes by)).fetched (control_worked sizes (core.passes by) work.ending s)) (sym at)
       (subst (λ h. GatheredAt sizes (page_now sizes opening core) (values_worked (core.passes by) work core.values) (core.passes by).call (core.passes by).pages (worked sizes work (core.passes by)).fetched (control_worked sizes (core.passes by) h (CommitGroup calls))) (sym how)
       (if_both (GatheredAt sizes (page_now sizes opening core) (values_worked (core.passes by) work core.values) (core.passes by).call (core.passes by).pages (worked sizes work (core.passes by)).fetched)
-      (calls + 1 == length (commit_steps sizes (core.passes by) (core.passes by).call)) (PledgePage (first_page sizes (core.passes by).call)) (CommitGroup (calls + 1)) (λ _. tt) (λ _. tt))))
+      (calls + 1 == length (commit_steps sizes (core.passes by) (core.passes by).call)) (PledgePage 0) (CommitGroup (calls + 1)) (λ _. tt) (λ _. tt))))
     where
       is_copying : Control → Bool
       is_copying (ReadStore page dirty) = true

@@ -2,7 +2,7 @@
 use Rattle.std.proofs.Common.{◌≡◌, ◌≢◌, ℕ, ◌+◌, ◌==◌, nat_lt, nat_le, ◌^◌, not, ◌&&◌, if◌then◌else◌, List, refl, sym, subst, true, false, inl, inr}
 use Rattle.nv_plain.specs.declared.call.Reply.{Reply}
 use Rattle.nv_core.specs.state.Words.{Sizes, Word, STOP, ORDER, HEAD, TAIL, SIZE, LENGTH, STORE, ENTRY, HINT, PAGE, DIRTY, CLEANUP, ready, is_entry_of, slot_of_entry}
-use Rattle.nv_core.specs.state.Passes.{Control, Idle, LoadLength, TakeSize, LoadStop, LoadOrder, VisitPage, TakeStore, GiveStore, TakeCleanup, Searching, WriteLoadHead, WriteLoadTail, DrawNumbers, SeizeEntry, CommitGroup, PledgePage, ReadyEntry, TakePlace, GrowLength, GiveSize, GivePage, GiveBack, SetStopAfterRead, SetStopAfterCommit, BreakEntry, Pass, is_read, is_write, page_count, first_page, end_page, without, times, IsUnseized, IsFilling, ReadLoadHead, LoadEntry, HoldEntry, ReadPiece, ReturnEntry, GiveCleanup, SetStopAfterPiece, IsHeldEntry, Cleaning}
+use Rattle.nv_core.specs.state.Passes.{Control, Idle, LoadLength, TakeSize, LoadStop, LoadOrder, VisitPage, TakeStore, GiveStore, TakeCleanup, Searching, WriteLoadHead, WriteLoadTail, DrawNumbers, SeizeEntry, CommitGroup, PledgePage, ReadyEntry, TakePlace, GrowLength, GiveSize, GivePage, GiveBack, SetStopAfterRead, SetStopAfterCommit, BreakEntry, Pass, is_read, is_write, page_count, first_page, without, times, IsUnseized, IsFilling, ReadLoadHead, LoadEntry, HoldEntry, ReadPiece, ReturnEntry, GiveCleanup, SetStopAfterPiece, IsHeldEntry, Cleaning}
 use Rattle.nv_core.specs.steps.Ops.{Op, Load, Take, Give, Place, Grow, Turn, Hint, Stays, Comes, moved, move_of, cleaner_move, Hold, Return, ByCleaner}
 use Rattle.nv_core.specs.steps.ControlSteps.{control_after, after_load, after_give, leaving, giving, ending, ordered, copying, exceeds, scanning, after_head, after_tail, after_look, after_hold, after_return}
 use Rattle.nv_core.specs.steps.Order.{Values}
@@ -87,7 +87,7 @@ pub bare_scanning : (pass : Pass) (page number : ℕ) → IsBare (scanning pass 
 bare_scanning pass page number = if_both IsBare (nat_lt number pass.head) (LoadEntry page number) (GiveCleanup page) (λ _. tt) (λ _. tt)
 
 bare_giving : (sizes : Sizes) (pass : Pass) → IsBare (giving sizes pass.call)
-bare_giving sizes pass = if_both IsBare (page_count sizes pass.call == 0) Idle (GivePage (first_page sizes pass.call)) (λ _. tt) (λ _. tt)
+bare_giving sizes pass = if_both IsBare (page_count sizes pass.call == 0) Idle (GivePage 0) (λ _. tt) (λ _. tt)
 
 bare_ending : (sizes : Sizes) (pass : Pass) → IsBare (ending sizes pass)
 bare_ending sizes pass = if_both IsBare pass.sized GiveSize (giving sizes pass.call) (λ _. tt) (λ _. bare_giving sizes pass)
@@ -125,7 +125,7 @@ bare_takes sizes pass cell found may = absurd may
 bare_gives : (sizes : Sizes) (pass : Pass) (cell : Word) (control : Control) → IsGivingBack control → IsBare (after_give sizes pass cell control)
 bare_gives sizes pass cell GiveBack may = bare_leaving (without cell pass.owned)
 bare_gives sizes pass cell GiveSize may = bare_giving sizes pass
-bare_gives sizes pass cell (GivePage page) may = if_both IsBare (page + 1 == end_page sizes pass.call) Idle (GivePage (page + 1)) (λ _. tt) (λ _. tt)
+bare_gives sizes pass cell (GivePage page) may = if_both IsBare (page + 1 == page_count sizes pass.call) Idle (GivePage (page + 1)) (λ _. tt) (λ _. tt)
 bare_gives sizes pass cell (GiveStore page dirty) may = if_both IsBare dirty (ReadLoadHead page) (VisitPage (page + 1)) (λ _. tt) (λ _. tt)
 bare_gives sizes pass cell (GiveCleanup page) may = tt
 bare_gives sizes pass cell (Searching page tries search) may = tt

@@ -17,7 +17,7 @@ use Rattle.nv_core.specs.steps.Order.{Values, Work, CallEnabled, CallDue, commit
 use Rattle.nv_core.specs.steps.StepKinds.{MayLoad, MayTake, IsMiss, JustNow, AfterTries, CleanerEnabled, EnabledByKind}
 use Rattle.nv_core.specs.invariant.ControlFacts.{IsPage, HasDrawn, IsSmall, LogHasRoom, IsElsewhere, FactsAt, CleanerFactsAt, ControlFacts, ReadsPage, has_call}
 use Rattle.nv_core.specs.invariant.CleanerOwnership.{count_in}
-use Rattle.nv_core.proofs.state.Choices.{if_both, when_true, not_both, leaving_both, HasCall, step_idle, IsGivingBack, gives_back}
+use Rattle.nv_core.proofs.state.Choices.{if_both, when_true, not_both, leaving_both, HasCall, step_idle, IsGivingBack, gives_back, pledged_next}
 use Rattle.nv_core.proofs.steps.CleanerControls.{tended_to, of_cleaner_worked}
 use Rattle.nv_core.proofs.invariant.CleanerControlFacts.{StoodSweeping, cleaner_stands, cleaner_works}
 use Rattle.nv_core.proofs.steps.SearchLaws.{hinting_next, tried_next}
@@ -30,8 +30,8 @@ out sizes pass owned is = leaving_both (FactsAt sizes pass) owned (λ e. tt) (λ
 
 -- a call with no page has none to give
 gives : (sizes : Sizes) (pass : Pass) → FactsAt sizes pass (giving sizes pass.call)
-gives sizes pass = if_both (FactsAt sizes pass) (page_count sizes pass.call == 0) Idle (GivePage (first_page sizes pass.call)) (λ e. tt)
-    (λ e. let ne = eqb-false (page_count sizes pass.call) 0 e in let some : 1 ≤ page_count sizes pass.call = omega arith in (omega arith, omega arith))
+gives sizes pass = if_both (FactsAt sizes pass) (page_count sizes pass.call == 0) Idle (GivePage 0) (λ e. tt)
+    (λ e. let ne = eqb-false (page_count sizes pass.call) 0 e in omega arith)
 
 ends : (sizes : Sizes) (pass now : Pass) → now.sized ≡ pass.sized → now.call ≡ pass.call → FactsAt sizes now (ending sizes pass)
 ends sizes pass now sized call = if_both (FactsAt sizes now) pass.sized GiveSize (giving sizes pass.call) (λ e. sized ∙ e)
@@ -143,8 +143,8 @@ gives_at : (sizes : Sizes) (pass : Pass) (cell : Word) (found number : ℕ) (his
 gives_at sizes pass cell found number history GiveBack at may = out sizes (stepped sizes number history (Give cell) found pass) (without cell pass.owned) refl
 gives_at sizes pass cell found number history GiveSize at may = gives sizes (stepped sizes number history (Give cell) found pass)
 gives_at sizes pass cell found number history (GivePage page) at may =
-    if_both (FactsAt sizes (stepped sizes number history (Give cell) found pass)) (page + 1 == end_page sizes pass.call) Idle (GivePage (page + 1)) (λ _. tt)
-    (λ last. let ne = eqb-false (page + 1) (end_page sizes pass.call) last in let from = at.0 in let to = at.1 in (omega arith, omega arith))
+    if_both (FactsAt sizes (stepped sizes number history (Give cell) found pass)) (page + 1 == page_count sizes pass.call) Idle (GivePage (page + 1)) (λ _. tt)
+    (λ last. let ne = eqb-false (page + 1) (page_count sizes pass.call) last in let low = at in omega arith)
 gives_at sizes pass cell found number history (GiveStore page dirty) at may =
     if_both (FactsAt sizes (stepped sizes number history (Give cell) found pass)) dirty (ReadLoadHead page) (VisitPage (page + 1)) (λ _. at) (λ _. (at.0, let low = at.1.0 in omega (arith, low)))
 gives_at sizes pass cell found number history (GiveCleanup page) at may = (at.0, let low = at.1.0 in omega (arith, low))
@@ -216,17 +216,15 @@ steps sizes values pass (Seize next) found number history stands tail_loaded may
     if_both (FactsAt sizes (stepped sizes number history (Seize next) found pass)) (next + 1 == pass.first + pass.entries) (CommitGroup 0) (SeizeEntry (next + 1))
     (λ e. drawn) (λ e. (drawn, next_among pass.first pass.entries next at.1 e))
 steps sizes values pass (Pledge page) found number history stands tail_loaded may =
-    let at : HasDrawn sizes pass.call pass.entries × IsPage sizes pass.call page = subst (FactsAt sizes pass) may stands.at in
+    let at : HasDrawn sizes pass.call pass.entries × (may.0 < page_count sizes pass.call) = subst (FactsAt sizes pass) may.1 stands.at in
     let drawn = at.0 in
-    if_both (FactsAt sizes (stepped sizes number history (Pledge page) found pass)) (page + 1 == end_page sizes pass.call)
-    (ReadyEntry (if pass.entries == 1 then pass.first else pass.first + 1)) (PledgePage (page + 1))
+    pledged_next (FactsAt sizes (stepped sizes number history (Pledge page) found pass)) sizes pass may.0 may.1
     (λ e. (
       drawn,
       if_both (IsAmong pass.first pass.entries) (pass.entries == 1) pass.first (pass.first + 1) (λ _. first_among pass.first pass.entries at.0.some)
           (λ one. let ne = eqb-false pass.entries 1 one in let some = at.0.some in (omega arith, omega arith)),
     ))
-    (λ last. let ne = eqb-false (page + 1) (end_page sizes pass.call) last in let from = at.1.0 in let to = at.1.1 in
-    let within : IsPage sizes pass.call (page + 1) = (omega arith, omega arith) in (drawn, within))
+    (λ last. let ne = eqb-false (may.0 + 1) (page_count sizes pass.call) last in let low = at.1 in (drawn, omega (arith, ne, low)))
 steps sizes values pass (Ready next) found number history stands tail_loaded may =
     let at : HasDrawn sizes pass.call pass.entries × IsAmong pass.first pass.entries next = subst (FactsAt sizes pass) may stands.at in
     let drawn = at.0 in
@@ -298,8 +296,8 @@ works : (sizes : Sizes) (values : Values) (pass : Pass) (work : Work) (control :
     → FactsAt sizes (worked sizes work pass) (control_worked sizes pass how control)
 works sizes values pass work (CommitGroup calls) Made at due =
     let drawn = at in
-    if_both (FactsAt sizes (worked sizes work pass)) (calls + 1 == length (commit_steps sizes pass pass.call)) (PledgePage (first_page sizes pass.call)) (CommitGroup (calls + 1))
-    (λ e. let m = at.many in let s = at.some in let within : IsPage sizes pass.call (first_page sizes pass.call) = (omega arith, omega arith) in (drawn, within))
+    if_both (FactsAt sizes (worked sizes work pass)) (calls + 1 == length (commit_steps sizes pass pass.call)) (PledgePage 0) (CommitGroup (calls + 1))
+    (λ e. let m = at.many in let s = at.some in (drawn, omega (arith, m, s)))
     (λ e. drawn)
 works sizes values pass work (CommitGroup calls) (Failed came faults) at due = at
 works sizes values pass work (ReadStore page dirty) Made at due = at

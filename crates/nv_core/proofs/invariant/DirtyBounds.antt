@@ -3,7 +3,7 @@ use Rattle.std.proofs.Common.{ℕ, ◌+◌, ◌-◌, ◌≤◌, ◌==◌, Bool, 
 use Rattle.std.proofs.lemmas.Bool.{eqb-false}
 use Rattle.nv_core.specs.state.Words.{Sizes, ENTRY, PAGE, CLEANUP, is_shut}
 use Rattle.nv_core.specs.state.Cleaner.{CleanEntry, SubtractDirty}
-use Rattle.nv_core.specs.state.Passes.{Control, Cleaning, PledgePage, ReadyEntry, Pass, nth_of, times}
+use Rattle.nv_core.specs.state.Passes.{Control, Cleaning, PledgePage, ReadyEntry, Pass, times}
 use Rattle.nv_core.specs.state.Core.{Core}
 use Rattle.nv_core.specs.steps.Order.{Values}
 use Rattle.nv_core.specs.invariant.Locks.{holds}
@@ -48,7 +48,7 @@ entries_most sizes core page =
 -- a pass that pledges it holds it
 pledged_most : (sizes : Sizes) (pass : Pass) (control : Control) (page : ℕ) → FactsAt sizes pass control → HoldsLocks sizes pass control → pledged sizes pass control page ≤ times (PAGE page) pass.owned
 pledged_most sizes pass (PledgePage next) page at locks =
-    let few = count_taken pass.pages (nth_of sizes pass.call next) page in let same = locks (PAGE page) (λ slot is. cc) in omega (arith, few, same)
+    let few = count_taken pass.pages next page in let same = locks (PAGE page) (λ slot is. cc) in omega (arith, few, same)
 pledged_most sizes pass (ReadyEntry next) page at locks =
     let same = locks (PAGE page) (λ slot is. cc) in
     let front = count_taken pass.pages 1 page in

@@ -7,7 +7,7 @@ use Rattle.nv_plain.specs.declared.call.FileCall.TheVariants.{Read, Write, Readv
 use Rattle.nv_plain.specs.declared.call.Reply.{Reply}
 use Rattle.nv_core.specs.state.Words.{Sizes, Word, ENTRY, slot_of_entry}
 use Rattle.nv_core.specs.state.Values.{CallEnding, Made, Failed, Refused}
-use Rattle.nv_core.specs.state.Passes.{Control, Idle, TakePage, LoadStop, VisitPage, ReadStore, ReadPiece, DrawNumbers, SeizeEntry, CommitGroup, PledgePage, ReadyEntry, TakePlace, GrowLength, SetStopAfterRead, SetStopAfterPiece, SetStopAfterCommit, BreakEntry, Cleaning, Pass, is_write, is_read, page_count, first_page, end_page, without, plain_call}
+use Rattle.nv_core.specs.state.Passes.{Control, Idle, TakePage, LoadStop, VisitPage, ReadStore, ReadPiece, DrawNumbers, SeizeEntry, CommitGroup, PledgePage, ReadyEntry, TakePlace, GrowLength, SetStopAfterRead, SetStopAfterPiece, SetStopAfterCommit, BreakEntry, Cleaning, Pass, is_write, is_read, page_count, first_page, without, plain_call}
 use Rattle.nv_core.specs.steps.Ops.{Op, Load, Take, Give, Place, Stop, Draw, Seize, Pledge, Ready, Grow, Break, Turn, Hint, Hold, Return, ByCleaner}
 use Rattle.nv_core.specs.steps.ControlSteps.{control_after, after_stop, leaving, ending, exceeds}
 use Rattle.nv_core.specs.steps.PassSteps.{stepped, begun, as_answered}
@@ -17,7 +17,7 @@ use Rattle.nv_core.specs.state.Core.{worked, control_worked}
 use Rattle.nv_core.specs.invariant.ControlFacts.{FactsAt, ControlFacts}
 use Rattle.nv_core.specs.invariant.Draws.{entries_of, placed_entries, open_entries, drawn_of}
 use Rattle.nv_core.specs.log.InFlight.{IsFlying}
-use Rattle.nv_core.proofs.state.Choices.{if_both, leaving_both, not_both, unless_true}
+use Rattle.nv_core.proofs.state.Choices.{if_both, leaving_both, not_both, unless_true, pledged_next}
 use Rattle.nv_core.proofs.invariant.ClearLaws.{IsClear, IsPlain, clear_to, clear_from}
 use Rattle.nv_core.proofs.invariant.ControlFactLaws.{worked_control}
 use Rattle.nv_core.proofs.steps.CleanerControls.{of_cleaner_worked}
@@ -121,9 +121,9 @@ module _ (sizes : Sizes) (values : Values) (pass : Pass) (found : ℕ) where
   seized number at = drawn_kept (SeizeEntry number) _ at refl
       (if_both (λ s. open_entries sizes pass.call s ≡ entries_of sizes pass.call) (number + 1 == pass.first + pass.entries) (CommitGroup 0) (SeizeEntry (number + 1)) (λ _. refl) (λ _. refl))
 
-  pledged : (page : ℕ) → pass.control ≡ PledgePage page → open_entries sizes pass.call (control_after sizes pass (Pledge page) found) ≡ open_entries sizes pass.call pass.control
-  pledged page at = drawn_kept (PledgePage page) _ at refl
-      (if_both (λ s. open_entries sizes pass.call s ≡ entries_of sizes pass.call) (page + 1 == end_page sizes pass.call) (ReadyEntry (if pass.entries == 1 then pass.first else pass.first + 1)) (PledgePage (page + 1)) (λ _. refl) (λ _. refl))
+  pledged : (page place : ℕ) → pass.control ≡ PledgePage place → open_entries sizes pass.call (control_after sizes pass (Pledge page) found) ≡ open_entries sizes pass.call pass.control
+  pledged page place at = drawn_kept (PledgePage place) _ at refl
+      (pledged_next (λ s. open_entries sizes pass.call s ≡ entries_of sizes pass.call) sizes pass place at (λ _. refl) (λ _. refl))
 
   readied : (number : ℕ) → pass.control ≡ ReadyEntry number → open_entries sizes pass.call (control_after sizes pass (Ready number) found) ≡ open_entries sizes pass.call pass.control
   readied number at = drawn_kept (ReadyEntry number) _ at refl
@@ -140,7 +140,7 @@ module _ (sizes : Sizes) (values : Values) (pass : Pass) (found : ℕ) where
   open_kept Draw no_place no_draw ne may = absurd (not_both refl no_draw)
   open_kept Stop no_place no_draw ne may = absurd (ne refl)
   open_kept (Seize number) no_place no_draw ne may = seized number may
-  open_kept (Pledge page) no_place no_draw ne may = pledged page may
+  open_kept (Pledge page) no_place no_draw ne may = pledged page may.0 may.1
   open_kept (Ready number) no_place no_draw ne may = readied number may
   open_kept (Break number) no_place no_draw ne may = broken_kept number may
   open_kept (Load word) no_place no_draw ne may = plain_kept (Load word) tt refl refl may
@@ -194,7 +194,7 @@ pub worked_undrawn : (sizes : Sizes) (values : Values) (pass : Pass) (work : Wor
 worked_undrawn sizes values pass work may = let same = works work.ending pass.control may.due in omega (arith, same)
   where
     works : (how : CallEnding) (control : Control) → CallDue sizes values pass work control → open_entries sizes pass.call (control_worked sizes pass how control) ≡ open_entries sizes pass.call control
-    works Made (CommitGroup calls) due = if_both (λ s. open_entries sizes pass.call s ≡ entries_of sizes pass.call) (calls + 1 == length (commit_steps sizes pass pass.call)) (PledgePage (first_page sizes pass.call)) (CommitGroup (calls + 1)) (λ _. refl) (λ _. refl)
+    works Made (CommitGroup calls) due = if_both (λ s. open_entries sizes pass.call s ≡ entries_of sizes pass.call) (calls + 1 == length (commit_steps sizes pass pass.call)) (PledgePage 0) (CommitGroup (calls + 1)) (λ _. refl) (λ _. refl)
     works (Failed came faults) (CommitGroup calls) due = refl
     works Refused (CommitGroup calls) due = refl
     works Made (ReadStore page dirty) due = refl

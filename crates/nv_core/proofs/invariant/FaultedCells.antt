@@ -102,7 +102,7 @@ before sizes values pass found (Place reply) other may is = before_place sizes v
 before sizes values pass found Stop other may is = absurd (unstopped pass pass.control may is)
 before sizes values pass found Draw other may is = at DrawNumbers may tt
 before sizes values pass found (Seize next) other may is = at (SeizeEntry next) may tt
-before sizes values pass found (Pledge page) other may is = at (PledgePage page) may tt
+before sizes values pass found (Pledge page) other may is = at (PledgePage may.0) may.1 tt
 before sizes values pass found (Ready next) other may is = at (ReadyEntry next) may tt
 before sizes values pass found Grow other may is = at GrowLength may tt
 before sizes values pass found (Break next) other may is = absurd (if_both (λ s. HasChecked s → ⊥) (next + 1 == pass.first + pass.entries) (leaving (without (ENTRY (slot_of_entry sizes next)) pass.owned)) (BreakEntry (next + 1))
@@ -188,7 +188,7 @@ step_none sizes values pass (Place reply) still may = place_none sizes values pa
 step_none sizes values pass Stop still may = fail_none pass.control may
 step_none sizes values pass Draw still may = robs_none DrawNumbers may (λ _. refl)
 step_none sizes values pass (Seize next) still may = robs_none (SeizeEntry next) may (λ _. refl)
-step_none sizes values pass (Pledge page) still may = robs_none (PledgePage page) may (λ _. refl)
+step_none sizes values pass (Pledge page) still may = robs_none (PledgePage may.0) may.1 (λ _. refl)
 step_none sizes values pass (Ready next) still may = robs_none (ReadyEntry next) may (λ _. refl)
 step_none sizes values pass Grow still may = robs_none GrowLength may (λ _. refl)
 step_none sizes values pass (Break next) still may = robs_none (BreakEntry next) may (λ _. refl)

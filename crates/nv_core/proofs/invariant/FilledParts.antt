@@ -12,7 +12,7 @@ use Rattle.nv_core.specs.state.Cleaner as cleaner
 use Rattle.nv_core.specs.steps.CleanerSteps.{group_file}
 use Rattle.nv_core.specs.state.Spares.{Spares}
 use Rattle.nv_core.specs.state.Values.{Value, PartStep, CallEnding, Made, Failed, Refused, called, PieceRead}
-use Rattle.nv_core.specs.state.Passes.{Control, TakePage, LoadStop, ReadStore, SeizeEntry, CommitGroup, PledgePage, ReadyEntry, TakePlace, SetStopAfterRead, SetStopAfterPiece, SetStopAfterCommit, BreakEntry, Pass, IsFilling, IsAmong, file_of, page_count, first_page, end_page, without, times, ReadPiece, Cleaning, plain_call}
+use Rattle.nv_core.specs.state.Passes.{Control, TakePage, LoadStop, ReadStore, SeizeEntry, CommitGroup, PledgePage, ReadyEntry, TakePlace, SetStopAfterRead, SetStopAfterPiece, SetStopAfterCommit, BreakEntry, Pass, IsFilling, IsAmong, file_of, page_count, first_page, without, times, ReadPiece, Cleaning, plain_call}
 use Rattle.nv_core.specs.steps.Ops.{Op, Stop, Draw, Seize, Pledge, Ready, Break, Split, PutBack, Join}
 use Rattle.nv_core.specs.steps.ControlSteps.{after_stop, leaving}
 use Rattle.nv_core.specs.steps.PassSteps.{begun}
@@ -23,7 +23,7 @@ use Rattle.nv_core.specs.invariant.ControlFacts.{FactsAt, HasDrawn}
 use Rattle.nv_core.specs.invariant.LogWindow.{Fills}
 use Rattle.nv_core.specs.invariant.Sound.{Sound}
 use Rattle.nv_core.proofs.state.Changes.{by_number, word_else, differ}
-use Rattle.nv_core.proofs.state.Choices.{if_both, when_true, when_false, busy}
+use Rattle.nv_core.proofs.state.Choices.{if_both, when_true, when_false, busy, pledged_next}
 use Rattle.nv_core.proofs.invariant.ClearLaws.{IsClear, clear_filling, clear_to, clear_leaving}
 use Rattle.nv_core.proofs.invariant.OwnershipSteps.{few_entries, apart_in}
 use Rattle.nv_core.proofs.invariant.KeepsLoaded.{held_by_one}
@@ -117,10 +117,9 @@ module _ (Says : Saying) (stay : StepsKeep Says) (sizes : Sizes) (first : Values
 
   pledges : (page : ℕ) → FoundEnabledByKind sizes by core (Pledge page) found → AreSaidAfter Says sizes by core found (Pledge page)
   pledges page may number is =
-      if_both (λ s. IsFilling s pass.first pass.entries number → Says (now (Pledge page)) s number (part number))
-      (page + 1 == end_page sizes pass.call) (ReadyEntry to) (PledgePage (page + 1))
-      (λ _ is. stay.all_pledged pass (now (Pledge page)) page to number (part number) (was_said Says sizes core said by number (PledgePage page) may.may (among number (subst (FactsAt sizes pass) may.may (sound.control_facts by).at).0 to is)))
-      (λ _ is. stay.pledged pass (now (Pledge page)) page (page + 1) number (part number) (was_said Says sizes core said by number (PledgePage page) may.may is)) is
+      pledged_next (λ s. IsFilling s pass.first pass.entries number → Says (now (Pledge page)) s number (part number)) sizes pass may.may.0 may.may.1
+      (λ _ is. stay.all_pledged pass (now (Pledge page)) may.may.0 to number (part number) (was_said Says sizes core said by number (PledgePage may.may.0) may.may.1 (among number (subst (FactsAt sizes pass) may.may.1 (sound.control_facts by).at).0 to is)))
+      (λ _ is. stay.pledged pass (now (Pledge page)) may.may.0 (may.may.0 + 1) number (part number) (was_said Says sizes core said by number (PledgePage may.may.0) may.may.1 is)) is
     where
       to : ℕ
       to = if pass.entries == 1 then pass.first else pass.first + 1
@@ -306,9 +305,9 @@ module _ (sizes : Sizes) (first : Values) (by : ℕ) (core : Core) (work : Work)
     said_now Refused made number is = absurd (none_refused due.row.step due.spares (old entry) (subst (CallMayLeave (old entry) (PartStep due.row.step due.spares)) made leaves))
     said_now Made made number is =
         if_both (λ s. IsFilling s writer.first writer.entries number → Says (worked sizes work writer) s number (new number))
-        (calls + 1 == length (commit_steps sizes writer writer.call)) (PledgePage (first_page sizes writer.call)) (CommitGroup (calls + 1))
+        (calls + 1 == length (commit_steps sizes writer writer.call)) (PledgePage 0) (CommitGroup (calls + 1))
         (λ all is. let l = eqb-true (calls + 1) (length (commit_steps sizes writer writer.call)) all in
-        keep.all_came (worked sizes work writer) (first_page sizes writer.call) number (new number)
+        keep.all_came (worked sizes work writer) 0 number (new number)
         (subst (λ list. Ends (steps_on (number - writer.first) list) (new number)) (drop_all (suc calls) (commit_steps sizes writer writer.call) (omega (arith, l))) (after_call made number is)))
         (λ _ is. subst (λ n. Says (worked sizes work writer) (CommitGroup n) number (new number)) (sym (add-one calls))
         (keep.after (worked sizes work writer) calls number (new number) (after_call made number is))) is

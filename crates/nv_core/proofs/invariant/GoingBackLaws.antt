@@ -4,7 +4,7 @@ use Rattle.std.proofs.lemmas.Bool.{eqb-true}
 use Rattle.nv_plain.specs.declared.call.FileCall.{FileCall}
 use Rattle.nv_core.specs.state.Words.{Sizes, Word, STOP, ORDER, HEAD, TAIL, LENGTH, SIZE, STORE, ENTRY, HINT, PAGE, CLEANUP, DIRTY, ready, is_entry_of, slot_of_entry}
 use Rattle.nv_core.specs.state.Values.{CallEnding, Made, Failed, Refused}
-use Rattle.nv_core.specs.state.Passes.{Control, Idle, LoadOrder, VisitPage, TakeCleanup, TakeStore, ReadStore, GiveStore, GiveVictim, NotFound, Searching, ReadLoadHead, LoadEntry, HoldEntry, ReadPiece, ReturnEntry, GiveCleanup, WriteLoadHead, WriteLoadTail, DrawNumbers, SeizeEntry, CommitGroup, PledgePage, ReadyEntry, TakePlace, GrowLength, GiveSize, GivePage, GiveBack, SetStopAfterRead, SetStopAfterPiece, SetStopAfterCommit, BreakEntry, Cleaning, Fault, Pass, IsOneOf, file_of, is_write, is_read, page_count, first_page, end_page, without, times}
+use Rattle.nv_core.specs.state.Passes.{Control, Idle, LoadOrder, VisitPage, TakeCleanup, TakeStore, ReadStore, GiveStore, GiveVictim, NotFound, Searching, ReadLoadHead, LoadEntry, HoldEntry, ReadPiece, ReturnEntry, GiveCleanup, WriteLoadHead, WriteLoadTail, DrawNumbers, SeizeEntry, CommitGroup, PledgePage, ReadyEntry, TakePlace, GrowLength, GiveSize, GivePage, GiveBack, SetStopAfterRead, SetStopAfterPiece, SetStopAfterCommit, BreakEntry, Cleaning, Fault, Pass, IsOneOf, file_of, is_write, is_read, page_count, first_page, without, times}
 use Rattle.nv_core.specs.steps.Ops.{Op, Load, Take, Give, Place, Stop, Draw, Seize, Pledge, Ready, Grow, Break, Hold, Return, Turn, Hint, ByCleaner, Split, PutBack, Join, move_of, cleaner_move, moved}
 use Rattle.nv_core.specs.steps.ControlSteps.{control_after, after_load, after_head, after_tail, after_look, after_give, after_stop, after_hold, after_return, scanning, leaving, giving, ending, ordered, copying, exceeds}
 use Rattle.nv_core.specs.steps.PassSteps.{fault_of, begun}
@@ -19,7 +19,7 @@ use Rattle.nv_core.specs.invariant.Sound.{Sound}
 use Rattle.nv_core.specs.invariant.InvariantLaws.{OpeningIsSound, EventsKeepSound}
 use Rattle.nv_core.specs.invariant.GoingBack.{passed_stepped, passed_acted, passed_after, CallsHoldNothingBroken}
 use Rattle.nv_core.proofs.state.Changes.{by_number, number_here, number_else}
-use Rattle.nv_core.proofs.state.Choices.{if_both, leaving_both, not_both, step_idle, IsGivingBack, gives_back}
+use Rattle.nv_core.proofs.state.Choices.{if_both, leaving_both, not_both, step_idle, IsGivingBack, gives_back, pledged_next}
 use Rattle.nv_core.proofs.invariant.LockLaws.{only_holder}
 use Rattle.nv_core.proofs.steps.SearchLaws.{tried_next, hinting_next}
 use Rattle.nv_core.proofs.steps.CleanerControls.{tended_to, of_cleaner_worked}
@@ -39,7 +39,7 @@ off_leaving : (owned : List Word) → IsOff (leaving owned)
 off_leaving owned = leaving_both IsOff owned (λ _ z. z) (λ _ z. z)
 
 off_giving : (sizes : Sizes) (call : FileCall) → IsOff (giving sizes call)
-off_giving sizes call = if_both IsOff (page_count sizes call == 0) Idle (GivePage (first_page sizes call)) (λ _ z. z) (λ _ z. z)
+off_giving sizes call = if_both IsOff (page_count sizes call == 0) Idle (GivePage 0) (λ _ z. z) (λ _ z. z)
 
 off_ending : (sizes : Sizes) (pass : Pass) → IsOff (ending sizes pass)
 off_ending sizes pass = if_both IsOff pass.sized GiveSize (giving sizes pass.call) (λ _ z. z) (λ _. off_giving sizes pass.call)
@@ -77,7 +77,7 @@ module _ (sizes : Sizes) (values : Values) (pass : Pass) (found : ℕ) where
   give_off : (cell : Word) (control : Control) → IsGivingBack control → IsOff (after_give sizes pass cell control)
   give_off cell GiveBack may = off_leaving (without cell pass.owned)
   give_off cell GiveSize may = off_giving sizes pass.call
-  give_off cell (GivePage page) may = if_both IsOff (page + 1 == end_page sizes pass.call) Idle (GivePage (page + 1)) (λ _ z. z) (λ _ z. z)
+  give_off cell (GivePage page) may = if_both IsOff (page + 1 == page_count sizes pass.call) Idle (GivePage (page + 1)) (λ _ z. z) (λ _ z. z)
   give_off cell (GiveStore page dirty) may = if_both IsOff dirty (ReadLoadHead page) (VisitPage (page + 1)) (λ _ z. z) (λ _ z. z)
   give_off cell (GiveCleanup page) may = λ z. z
   give_off cell (Searching page tries search) may = λ z. z
@@ -100,7 +100,7 @@ module _ (sizes : Sizes) (values : Values) (pass : Pass) (found : ℕ) where
   step_locks Stop may is = absurd (stop_off pass.control may is)
   step_locks Draw may is = absurd (if_both IsOff (found == pass.head) (SeizeEntry found) (leaving pass.owned) (λ _ z. z) (λ _. off_leaving pass.owned) is)
   step_locks (Seize next) may is = absurd (if_both IsOff (next + 1 == pass.first + pass.entries) (CommitGroup 0) (SeizeEntry (next + 1)) (λ _ z. z) (λ _ z. z) is)
-  step_locks (Pledge page) may is = absurd (if_both IsOff (page + 1 == end_page sizes pass.call) (ReadyEntry (if pass.entries == 1 then pass.first else pass.first + 1)) (PledgePage (page + 1)) (λ _ z. z) (λ _ z. z) is)
+  step_locks (Pledge page) may is = absurd (pledged_next IsOff sizes pass may.0 may.1 (λ _ z. z) (λ _ z. z) is)
   step_locks (Ready next) may is = absurd (if_both IsOff (next == pass.first) TakePlace (ReadyEntry (if next + 1 == pass.first + pass.entries then pass.first else next + 1)) (λ _ z. z) (λ _ z. z) is)
   step_locks Grow may is = absurd (off_ending sizes pass is)
   step_locks (Break next) may is = absurd (if_both IsOff (next + 1 == pass.first + pass.entries) (leaving (without (ENTRY (slot_of_entry sizes next)) pass.owned)) (BreakEntry (next + 1)) (λ _. off_leaving (without (ENTRY (slot_of_entry sizes next)) pass.owned)) (λ _ z. z) is)
@@ -121,7 +121,7 @@ worked_off sizes values pass work due = go work.ending pass.control due
   where
     go : (how : CallEnding) (control : Control) → CallDue sizes values pass work control → IsOff (control_worked sizes pass how control)
     go how (Cleaning batch inner) due = λ is. of_cleaner_worked IsOff (λ z. z) (λ b s z. z) batch how inner (subst IsAtLocks (worked_control sizes pass batch how inner) is)
-    go Made (CommitGroup calls) due = if_both IsOff (calls + 1 == length (commit_steps sizes pass pass.call)) (PledgePage (first_page sizes pass.call)) (CommitGroup (calls + 1)) (λ _ z. z) (λ _ z. z)
+    go Made (CommitGroup calls) due = if_both IsOff (calls + 1 == length (commit_steps sizes pass pass.call)) (PledgePage 0) (CommitGroup (calls + 1)) (λ _ z. z) (λ _ z. z)
     go Made (ReadStore page dirty) due = λ z. z
     go Made (ReadPiece page number) due = λ z. z
     go (Failed came faults) (CommitGroup calls) due = λ z. z

@@ -321,7 +321,7 @@ module _ (sizes : Sizes) (first : Values) (by : ℕ) (core : Core) (work : Work)
       still control at none is = none (subst IsMoving at is)
 
       committed : (how : CallEnding) (calls : ℕ) → MovesRoomy (control_worked sizes (core.passes by) how (CommitGroup calls)) (core.values HEADER)
-      committed Made calls = if_both (λ s. MovesRoomy s (core.values HEADER)) (calls + 1 == length (commit_steps sizes (core.passes by) (core.passes by).call)) (PledgePage (first_page sizes (core.passes by).call)) (CommitGroup (calls + 1)) (λ _. tt) (λ _. tt)
+      committed Made calls = if_both (λ s. MovesRoomy s (core.values HEADER)) (calls + 1 == length (commit_steps sizes (core.passes by) (core.passes by).call)) (PledgePage 0) (CommitGroup (calls + 1)) (λ _. tt) (λ _. tt)
       committed (Failed came faults) calls = tt
       committed Refused calls = tt
 

@@ -4,7 +4,7 @@ use Rattle.std.proofs.lemmas.Bool.{eqb-true, eq-eqb, ne_eqb, and_left, cases_eq,
 use Rattle.nv_plain.specs.Layouts.{mount_layout}
 use Rattle.nv_plain.specs.declared.call.FileCall.{FileCall}
 use Rattle.nv_core.specs.state.Words.{Sizes, Word, PAGE, ENTRY, DIRTY, index, kind_of, page_of, ready, held, filling, broken, entry_word, is_entry_of, slot_of_entry}
-use Rattle.nv_core.specs.state.Passes.{Control, TakePage, LoadStop, ReadStore, SeizeEntry, CommitGroup, PledgePage, ReadyEntry, TakePlace, SetStopAfterRead, SetStopAfterCommit, BreakEntry, Pass, without, IsUnseized, IsFilling, IsAmong, IsAllowed, page_count, first_page, end_page, nth_of, pages_of, times, ReadPiece, SetStopAfterPiece, Cleaning, Idle, plain_call}
+use Rattle.nv_core.specs.state.Passes.{Control, TakePage, LoadStop, ReadStore, SeizeEntry, CommitGroup, PledgePage, ReadyEntry, TakePlace, SetStopAfterRead, SetStopAfterCommit, BreakEntry, Pass, without, IsUnseized, IsFilling, IsAmong, IsAllowed, page_count, first_page, pages_of, times, ReadPiece, SetStopAfterPiece, Cleaning, Idle, plain_call}
 use Rattle.nv_core.specs.steps.Ops.{Op, page_at, ready_word, Load, Take, Give, Place, Stop, Draw, Seize, Pledge, Ready, Grow, Break, Split, PutBack, Join, Turn, Hint, Hold, Return, ByCleaner, cleaner_move, moved}
 use Rattle.nv_core.specs.state.Values.{CallEnding, Made, Failed, Refused}
 use Rattle.nv_core.specs.steps.ControlSteps.{control_after, after_by_cleaner, leaving, after_stop}
@@ -17,16 +17,16 @@ use Rattle.std.proofs.lemmas.Nat.{mod_below}
 use Rattle.nv_core.specs.state.Core.{Core, changes, changed_pass, with_value, after_step, after_begin, after_work, worked, control_worked}
 use Rattle.nv_core.specs.steps.Events.{CallMayBegin}
 use Rattle.nv_core.proofs.steps.ByKind.{FoundEnabledByKind}
-use Rattle.nv_core.specs.invariant.ControlFacts.{FactsAt, PagesAt, IsPage, HasDrawn, has_call}
+use Rattle.nv_core.specs.invariant.ControlFacts.{FactsAt, PagesAt, HasDrawn, has_call}
 use Rattle.nv_core.specs.invariant.Ownership.{one_if}
 use Rattle.nv_core.specs.invariant.Locks.{Locks}
 use Rattle.nv_core.specs.invariant.LogWindow.{Fills, InWindow, entry_word_at}
 use Rattle.nv_core.specs.invariant.DirtyCounters.{is_of_page, entries_of_page, pledged, pledged_by_all, owed, owed_by_all, DirtyCounters}
 use Rattle.nv_core.specs.invariant.Sound.{Sound}
 use Rattle.nv_core.proofs.state.Changes.{by_number, word_here, word_else}
-use Rattle.nv_core.proofs.state.Choices.{if_both, when_true, when_false, busy, not_both, step_idle}
+use Rattle.nv_core.proofs.state.Choices.{if_both, when_true, when_false, busy, not_both, step_idle, pledged_next}
 use Rattle.nv_core.proofs.invariant.WindowLaws.{slot_within}
-use Rattle.nv_core.proofs.invariant.PageLists.{count_all, count_none, count_split, count_whole, end_less, front_all, front_more, front_none, pages_many}
+use Rattle.nv_core.proofs.invariant.PageLists.{count_all, count_none, count_split, count_whole, end_less, front_all, front_more, count_nothing, pages_many, page_at_place}
 use Rattle.nv_core.proofs.steps.WordLaws.{untouched, touches}
 use Rattle.nv_core.proofs.state.TotalLaws.{total_same, total_at, total_changed, total_made}
 use Rattle.nv_core.proofs.invariant.KeepsLocks.{kind_is, readying_next, entry_is}
@@ -244,20 +244,23 @@ pledges_step sizes first by core found page sound dirty may = record {
       let d = dirty_now p in
       let e = same_entries sizes by core (Pledge page) found may (λ slot. refl) p in
       let w = owed_step sizes first by core (Pledge page) found sound (λ f. f) may p in
-      let all_now = total_changed (core.made + 1) by (λ (q : Pass). pledged sizes q q.control p) core.passes (changed_pass sizes by core (Pledge page) found) (pass_made sizes first by core (PledgePage page) sound may.may (λ e. cc)) in
+      let all_now = total_changed (core.made + 1) by (λ (q : Pass). pledged sizes q q.control p) core.passes (changed_pass sizes by core (Pledge page) found) (pass_made sizes first by core (PledgePage may.may.0) sound may.may.1 (λ e. cc)) in
       let m = more p in
       let s = was p in
       omega (arith, old, d, e, w, all_now, m, s);
 }
   where
-    at : HasDrawn sizes (core.passes by).call (core.passes by).entries × IsPage sizes (core.passes by).call page
-    at = subst (FactsAt sizes (core.passes by)) may.may (sound.control_facts by).at
+    at : HasDrawn sizes (core.passes by).call (core.passes by).entries × (may.may.0 < page_count sizes (core.passes by).call)
+    at = subst (FactsAt sizes (core.passes by)) may.may.1 (sound.control_facts by).at
 
     pages : (core.passes by).pages ≡ pages_of sizes (core.passes by).call
-    pages = subst (PagesAt sizes (core.passes by)) may.may (sound.control_facts by).pages
+    pages = subst (PagesAt sizes (core.passes by)) may.may.1 (sound.control_facts by).pages
 
-    was : (p : ℕ) → pledged sizes (core.passes by) (core.passes by).control p ≡ count_in (take (nth_of sizes (core.passes by).call page) (core.passes by).pages) p
-    was p = ap (λ s. pledged sizes (core.passes by) s p) may.may
+    was : (p : ℕ) → pledged sizes (core.passes by) (core.passes by).control p ≡ count_in (take may.may.0 (core.passes by).pages) p
+    was p = ap (λ s. pledged sizes (core.passes by) s p) may.may.1
+
+    one_more : (p : ℕ) → count_in (take (may.may.0 + 1) (core.passes by).pages) p ≡ one_if (p == page) + count_in (take may.may.0 (core.passes by).pages) p
+    one_more p = front_more sizes (core.passes by).call (core.passes by).pages pages may.may.0 p at.1 ∙ ap (λ q. one_if (p == q) + count_in (take may.may.0 (core.passes by).pages) p) (sym may.may.2)
 
     dirty_now : (p : ℕ) → (after_step sizes by (Pledge page) found core).words (DIRTY p) ≡ one_if (p == page) + core.words (DIRTY p)
     dirty_now p = elim (cases_eq p page) [
@@ -267,8 +270,8 @@ pledges_step sizes first by core found page sound dirty may = record {
     ]
 
     -- after the last page all entries are pledged, and none is ready
-    all : (p : ℕ) → (page + 1 == end_page sizes (core.passes by).call) ≡ true
-        → pledged sizes (core.passes by) (ReadyEntry (if (core.passes by).entries == 1 then (core.passes by).first else (core.passes by).first + 1)) p ≡ count_in (take (nth_of sizes (core.passes by).call (page + 1)) (core.passes by).pages) p
+    all : (p : ℕ) → (may.may.0 + 1 == page_count sizes (core.passes by).call) ≡ true
+        → pledged sizes (core.passes by) (ReadyEntry (if (core.passes by).entries == 1 then (core.passes by).first else (core.passes by).first + 1)) p ≡ count_in (take (may.may.0 + 1) (core.passes by).pages) p
     all p last =
         if_both (λ x. pledged sizes (core.passes by) (ReadyEntry x) p ≡ count_in (core.passes by).pages p) ((core.passes by).entries == 1) (core.passes by).first ((core.passes by).first + 1)
         (λ one. let e = eqb-true (core.passes by).entries 1 one in let many = at.0.many in let long = pages_many sizes (core.passes by).call (core.passes by).pages pages in
@@ -278,13 +281,12 @@ pledges_step sizes first by core found page sound dirty may = record {
         when_false ((core.passes by).first + 1 == (core.passes by).first) 0 _ (ne_eqb ((core.passes by).first + 1) (core.passes by).first (λ e. omega (arith, e)))
         ∙ ap (λ k. count_in (drop k (core.passes by).pages) p) (let k : (core.passes by).first + 1 - (core.passes by).first ≡ 1 = omega arith in k) in
         let a = count_split (core.passes by).pages p in omega (arith, n, a))
-        ∙ sym (front_all sizes (core.passes by).call (core.passes by).pages pages (page + 1) p (eqb-true (page + 1) (end_page sizes (core.passes by).call) last))
+        ∙ sym (front_all sizes (core.passes by).call (core.passes by).pages pages (may.may.0 + 1) p (eqb-true (may.may.0 + 1) (page_count sizes (core.passes by).call) last))
 
-    more : (p : ℕ) → pledged sizes (changed_pass sizes by core (Pledge page) found) (changed_pass sizes by core (Pledge page) found).control p ≡ one_if (p == page) + count_in (take (nth_of sizes (core.passes by).call page) (core.passes by).pages) p
-    more p = if_both (λ s. pledged sizes (core.passes by) s p ≡ one_if (p == page) + count_in (take (nth_of sizes (core.passes by).call page) (core.passes by).pages) p) (page + 1 == end_page sizes (core.passes by).call)
-        (ReadyEntry (if (core.passes by).entries == 1 then (core.passes by).first else (core.passes by).first + 1)) (PledgePage (page + 1))
-        (λ last. all p last ∙ front_more sizes (core.passes by).call (core.passes by).pages pages page p at.1)
-        (λ _. front_more sizes (core.passes by).call (core.passes by).pages pages page p at.1)
+    more : (p : ℕ) → pledged sizes (changed_pass sizes by core (Pledge page) found) (changed_pass sizes by core (Pledge page) found).control p ≡ one_if (p == page) + count_in (take may.may.0 (core.passes by).pages) p
+    more p = pledged_next (λ s. pledged sizes (core.passes by) s p ≡ one_if (p == page) + count_in (take may.may.0 (core.passes by).pages) p) sizes (core.passes by) may.may.0 may.may.1
+        (λ last. all p last ∙ one_more p)
+        (λ _. one_more p)
 
 -- ---- an entry that is made ready
 
@@ -306,9 +308,6 @@ readies_step sizes first by core found next sound dirty may = record {
     allowed : IsAllowed sizes (core.passes by).call
     allowed = (sound.control_facts by).allowed (busy _ _ may.may refl)
 
-    is_page : IsPage sizes (core.passes by).call (page_at sizes (core.passes by) next)
-    is_page = (omega arith, let x = at.1.0 in let y = at.1.1 in let m = at.0.many in omega (arith, x, y, m))
-
     pages : (core.passes by).pages ≡ pages_of sizes (core.passes by).call
     pages = subst (PagesAt sizes (core.passes by)) may.may (sound.control_facts by).pages
 
@@ -328,18 +327,14 @@ readies_step sizes first by core found next sound dirty may = record {
         let b = ready_of_page (if next == (core.passes by).first then (core.passes by).entries else 0) (page_at sizes (core.passes by) next) p few in
         omega (arith, e, a, b)
 
-    -- its place among the pages
-    nth : nth_of sizes (core.passes by).call (page_at sizes (core.passes by) next) ≡ next - (core.passes by).first
-    nth = (let x = at.1.0 in omega (arith, x))
-
     behind : (p : ℕ) → count_in (drop (next - (core.passes by).first) (core.passes by).pages) p
         ≡ one_if (p == page_at sizes (core.passes by) next) + count_in (drop (next + 1 - (core.passes by).first) (core.passes by).pages) p
     behind p =
-        let e = end_less sizes (core.passes by).call (core.passes by).pages pages (page_at sizes (core.passes by) next) p is_page in
-        let a : count_in (drop (nth_of sizes (core.passes by).call (page_at sizes (core.passes by) next)) (core.passes by).pages) p ≡ count_in (drop (next - (core.passes by).first) (core.passes by).pages) p = ap (λ k. count_in (drop k (core.passes by).pages) p) nth in
-        let b : count_in (drop (nth_of sizes (core.passes by).call (page_at sizes (core.passes by) next + 1)) (core.passes by).pages) p ≡ count_in (drop (next + 1 - (core.passes by).first) (core.passes by).pages) p =
-        ap (λ k. count_in (drop k (core.passes by).pages) p) (let k : nth_of sizes (core.passes by).call (page_at sizes (core.passes by) next + 1) ≡ next + 1 - (core.passes by).first = (let x = at.1.0 in omega (arith, x)) in k) in
-        omega (arith, e, a, b)
+        let below : next - (core.passes by).first < page_count sizes (core.passes by).call = (let x = at.1.0 in let y = at.1.1 in let m = at.0.many in omega (arith, x, y, m)) in
+        let k : next - (core.passes by).first + 1 ≡ next + 1 - (core.passes by).first = (let x = at.1.0 in omega (arith, x)) in
+        end_less sizes (core.passes by).call (core.passes by).pages pages (next - (core.passes by).first) p below
+        ∙ ap (λ q. one_if (p == q) + count_in (drop (next - (core.passes by).first + 1) (core.passes by).pages) p) (page_at_place sizes (core.passes by).call (core.passes by).pages pages (next - (core.passes by).first) below)
+        ∙ ap (λ n. one_if (p == page_at sizes (core.passes by) next) + count_in (drop n (core.passes by).pages) p) k
 
     -- the leader's alone
     front : (p : ℕ) → next ≡ (core.passes by).first → count_in (take 1 (core.passes by).pages) p ≡ one_if (p == page_at sizes (core.passes by) next)
@@ -620,7 +615,7 @@ dirty_work sizes first by core work dirty may = dirty_still sizes core (after_wo
     (λ page. owed_same core (after_work sizes by work core) page refl (by_number (λ n (p : Pass). owed p.control page ≡ owed (core.passes n).control page) core.passes by (worked sizes work (core.passes by)) (owes page (core.passes by).control work.ending may.due) (λ n ne. refl)))
   where
     owes : (page : ℕ) (control : Control) (how : CallEnding) → CallDue sizes core.values (core.passes by) work control → owed (control_worked sizes (core.passes by) how control) page ≡ owed control page
-    owes page (CommitGroup calls) Made due = if_both (λ s. owed s page ≡ 0) (calls + 1 == length (commit_steps sizes (core.passes by) (core.passes by).call)) (PledgePage (first_page sizes (core.passes by).call)) (CommitGroup (calls + 1)) (λ _. refl) (λ _. refl)
+    owes page (CommitGroup calls) Made due = if_both (λ s. owed s page ≡ 0) (calls + 1 == length (commit_steps sizes (core.passes by) (core.passes by).call)) (PledgePage 0) (CommitGroup (calls + 1)) (λ _. refl) (λ _. refl)
     owes page (CommitGroup calls) (Failed came faults) due = refl
     owes page (CommitGroup calls) Refused due = refl
     owes page (ReadStore next dirty) Made due = refl
@@ -633,8 +628,8 @@ dirty_work sizes first by core work dirty may = dirty_still sizes core (after_wo
     owes page control how due = absurd due
 
     works : (page : ℕ) (control : Control) (how : CallEnding) → CallDue sizes core.values (core.passes by) work control → pledged sizes (worked sizes work (core.passes by)) (control_worked sizes (core.passes by) how control) page ≡ pledged sizes (core.passes by) control page
-    works page (CommitGroup calls) Made due = if_both (λ s. pledged sizes (worked sizes work (core.passes by)) s page ≡ 0) (calls + 1 == length (commit_steps sizes (core.passes by) (core.passes by).call)) (PledgePage (first_page sizes (core.passes by).call)) (CommitGroup (calls + 1))
-        (λ _. front_none sizes (core.passes by).call (core.passes by).pages page) (λ _. refl)
+    works page (CommitGroup calls) Made due = if_both (λ s. pledged sizes (worked sizes work (core.passes by)) s page ≡ 0) (calls + 1 == length (commit_steps sizes (core.passes by) (core.passes by).call)) (PledgePage 0) (CommitGroup (calls + 1))
+        (λ _. count_nothing (core.passes by).pages page) (λ _. refl)
     works page (CommitGroup calls) (Failed came faults) due = refl
     works page (ReadStore next dirty) Made due = refl
     works page (ReadStore next dirty) (Failed came faults) due = refl

@@ -73,7 +73,7 @@ none_leaving : (owned : List Word) → control_open (leaving owned) ≡ 0
 none_leaving owned = leaving_both (λ s. control_open s ≡ 0) owned (λ _. refl) (λ _. refl)
 
 none_giving : (sizes : Sizes) (call : FileCall) → control_open (giving sizes call) ≡ 0
-none_giving sizes call = if_both (λ s. control_open s ≡ 0) (page_count sizes call == 0) Idle (GivePage (first_page sizes call)) (λ _. refl) (λ _. refl)
+none_giving sizes call = if_both (λ s. control_open s ≡ 0) (page_count sizes call == 0) Idle (GivePage 0) (λ _. refl) (λ _. refl)
 
 none_ending : (sizes : Sizes) (pass : Pass) → control_open (ending sizes pass) ≡ 0
 none_ending sizes pass = if_both (λ s. control_open s ≡ 0) pass.sized GiveSize (giving sizes pass.call) (λ _. refl) (λ _. none_giving sizes pass.call)
@@ -116,7 +116,7 @@ quiet_take sizes pass cell found may = absurd may
 quiet_give : (sizes : Sizes) (pass : Pass) (cell : Word) (control : Control) → IsGivingBack control → control_open (after_give sizes pass cell control) ≤ control_open control
 quiet_give sizes pass cell GiveBack may = to_none GiveBack _ (none_leaving (without cell pass.owned))
 quiet_give sizes pass cell GiveSize may = to_none GiveSize _ (none_giving sizes pass.call)
-quiet_give sizes pass cell (GivePage page) may = to_none (GivePage page) _ (if_both (λ s. control_open s ≡ 0) (page + 1 == end_page sizes pass.call) Idle (GivePage (page + 1)) (λ _. refl) (λ _. refl))
+quiet_give sizes pass cell (GivePage page) may = to_none (GivePage page) _ (if_both (λ s. control_open s ≡ 0) (page + 1 == page_count sizes pass.call) Idle (GivePage (page + 1)) (λ _. refl) (λ _. refl))
 quiet_give sizes pass cell (GiveStore page dirty) may = most_open (if dirty then ReadLoadHead page else VisitPage (page + 1))
 quiet_give sizes pass cell (GiveCleanup page) may = omega arith
 quiet_give sizes pass cell (Searching page tries search) may = omega arith
@@ -136,7 +136,7 @@ quiet sizes values pass found number history Stop is may = stops pass.control ma
     stops control may = absurd may
 quiet sizes values pass found number history Draw is may = let a = from_open pass.control (control_after sizes pass Draw found) DrawNumbers may refl in omega (arith, a)
 quiet sizes values pass found number history (Seize next) is may = let a = from_open pass.control (control_after sizes pass (Seize next) found) (SeizeEntry next) may refl in omega (arith, a)
-quiet sizes values pass found number history (Pledge page) is may = let a = from_open pass.control (control_after sizes pass (Pledge page) found) (PledgePage page) may refl in omega (arith, a)
+quiet sizes values pass found number history (Pledge page) is may = let a = from_open pass.control (control_after sizes pass (Pledge page) found) (PledgePage may.0) may.1 refl in omega (arith, a)
 quiet sizes values pass found number history (Ready next) is may = let a = from_open pass.control (control_after sizes pass (Ready next) found) (ReadyEntry next) may refl in omega (arith, a)
 quiet sizes values pass found number history Grow is may = let a = none_ending sizes pass in omega (arith, a)
 quiet sizes values pass found number history (Break next) is may =

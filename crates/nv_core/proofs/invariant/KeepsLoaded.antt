@@ -22,15 +22,16 @@ use Rattle.nv_core.specs.invariant.Ownership.{one_if, HoldsLocks}
 use Rattle.nv_core.specs.invariant.Loaded.{HasMeasured, SawClean, Loaded, Bounds, LooksSound}
 use Rattle.nv_core.specs.invariant.Sound.{Sound}
 use Rattle.nv_core.proofs.state.Changes.{by_number, by_word, number_here, word_here, word_else, differ}
-use Rattle.nv_core.proofs.state.Choices.{if_both, not_both, when_true, leaving_both, IsGivingBack, gives_back, page_tried}
+use Rattle.nv_core.proofs.state.Choices.{if_both, not_both, when_true, leaving_both, IsGivingBack, gives_back, page_tried, pledged_next}
 use Rattle.nv_core.proofs.invariant.LockLaws.{only_holder}
 use Rattle.nv_core.proofs.steps.WordLaws.{untouched, touches}
 use Rattle.nv_core.proofs.steps.CleanerControls.{tended_to, of_cleaner_worked}
 use Rattle.nv_core.proofs.steps.CleanerOps.{retires_hand}
 use Rattle.nv_core.proofs.steps.Inherits.{inherits}
 use Rattle.nv_core.proofs.steps.SearchLaws.{turned_at, looked_at, hinting_at, hinting_next, tried_next, hinted_at}
-use Rattle.nv_core.proofs.invariant.PageLists.{pages_once}
+use Rattle.nv_core.proofs.invariant.PageLists.{pages_once, place_among}
 use Rattle.nv_core.specs.invariant.CleanerOwnership.{count_in}
+use Rattle.std.specs.Prelude.{slice_index}
 
 -- ---- HEAD and TAIL
 
@@ -141,7 +142,7 @@ unmeasured : (owned : List Word) → HasMeasured (leaving owned) → ⊥
 unmeasured owned = leaving_both (λ s. HasMeasured s → ⊥) owned (λ _ z. z) (λ _ z. z)
 
 unmeasured_giving : (sizes : Sizes) (call : FileCall) → HasMeasured (giving sizes call) → ⊥
-unmeasured_giving sizes call = if_both (λ s. HasMeasured s → ⊥) (page_count sizes call == 0) Idle (GivePage (first_page sizes call)) (λ _ z. z) (λ _ z. z)
+unmeasured_giving sizes call = if_both (λ s. HasMeasured s → ⊥) (page_count sizes call == 0) Idle (GivePage 0) (λ _ z. z) (λ _ z. z)
 
 unmeasured_ending : (sizes : Sizes) (pass : Pass) → HasMeasured (ending sizes pass) → ⊥
 unmeasured_ending sizes pass = if_both (λ s. HasMeasured s → ⊥) pass.sized GiveSize (giving sizes pass.call) (λ _ z. z) (λ _. unmeasured_giving sizes pass.call)
@@ -178,7 +179,7 @@ before_take sizes pass cell found may is = absurd may
 before_give : (sizes : Sizes) (pass : Pass) (cell : Word) (control : Control) → MayGive pass cell control → HasMeasured (after_give sizes pass cell control) → HasMeasured control
 before_give sizes pass cell GiveBack may is = absurd (unmeasured (without cell pass.owned) is)
 before_give sizes pass cell GiveSize may is = absurd (unmeasured_giving sizes pass.call is)
-before_give sizes pass cell (GivePage page) may is = absurd (if_both (λ s. HasMeasured s → ⊥) (page + 1 == end_page sizes pass.call) Idle (GivePage (page + 1)) (λ _ z. z) (λ _ z. z) is)
+before_give sizes pass cell (GivePage page) may is = absurd (if_both (λ s. HasMeasured s → ⊥) (page + 1 == page_count sizes pass.call) Idle (GivePage (page + 1)) (λ _ z. z) (λ _ z. z) is)
 before_give sizes pass cell (GiveStore page dirty) may is = tt
 before_give sizes pass cell (GiveCleanup page) may is = tt
 before_give sizes pass cell (Searching page tries search) may is = tt
@@ -203,7 +204,7 @@ before sizes values pass found Stop other may is = absurd (stops pass.control ma
     stops control may is = absurd may
 before sizes values pass found Draw other may is = at DrawNumbers may tt
 before sizes values pass found (Seize next) other may is = at (SeizeEntry next) may tt
-before sizes values pass found (Pledge page) other may is = at (PledgePage page) may tt
+before sizes values pass found (Pledge page) other may is = at (PledgePage may.0) may.1 tt
 before sizes values pass found (Ready next) other may is = at (ReadyEntry next) may tt
 before sizes values pass found Grow other may is = absurd (unmeasured_ending sizes pass is)
 before sizes values pass found (Break next) other may is = absurd (if_both (λ s. HasMeasured s → ⊥) (next + 1 == pass.first + pass.entries) (leaving (without (ENTRY (slot_of_entry sizes next)) pass.owned)) (BreakEntry (next + 1))
@@ -352,8 +353,10 @@ clean_page sizes pass page (ReadStore next false) stands pages held saw = subst 
 clean_page sizes pass page (GiveStore next false) stands pages held saw = subst (λ p. times (PAGE p) pass.owned ≡ 1) saw (holds_page sizes pass next pages stands.1 (held (PAGE next) (λ slot. differ (PAGE next) (ENTRY slot) refl)))
 clean_page sizes pass page control stands pages held saw = absurd saw
 
-pub pledged_page : (sizes : Sizes) (pass : Pass) (page : ℕ) → FactsAt sizes pass (PledgePage page) → PagesAt sizes pass (PledgePage page) → HoldsLocks sizes pass (PledgePage page) → times (PAGE page) pass.owned ≡ 1
-pledged_page sizes pass page stands pages held = holds_page sizes pass page pages stands.1 (held (PAGE page) (λ slot. differ (PAGE page) (ENTRY slot) refl))
+pub pledged_page : (sizes : Sizes) (pass : Pass) (page place : ℕ) → page ≡ slice_index pass.pages place → FactsAt sizes pass (PledgePage place) → PagesAt sizes pass (PledgePage place) → HoldsLocks sizes pass (PledgePage place)
+    → times (PAGE page) pass.owned ≡ 1
+pledged_page sizes pass page place is stands pages held =
+    holds_page sizes pass page pages (subst (IsPage sizes pass.call) (sym is) (place_among sizes pass.call pass.pages pages place stands.1)) (held (PAGE page) (λ slot. differ (PAGE page) (ENTRY slot) refl))
 
 -- a DIRTY that is 0 stays so but where a pass pledges the page
 dirty_stays : (sizes : Sizes) (by : ℕ) (core : Core) (found : ℕ) (op : Op) → FoundEnabledByKind sizes by core op found → (page : ℕ) → (op ≡ Pledge page → ⊥) → core.words (DIRTY page) ≡ 0 → (after_step sizes by op found core).words (DIRTY page) ≡ 0
@@ -370,9 +373,10 @@ clean_else sizes first by core found op sound may n ne page saw = dirty_stays si
   where
     pledger : (op : Op) → StepEnabledByKind sizes by core op → op ≡ Pledge page → ⊥
     pledger op may e =
-        let control : (core.passes by).control ≡ PledgePage page = subst (StepEnabledByKind sizes by core) e may in
+        let pledges : (place : ℕ) × ((core.passes by).control ≡ PledgePage place) × (page ≡ slice_index (core.passes by).pages place) = subst (StepEnabledByKind sizes by core) e may in
+        let control = pledges.1 in
         held_by_one sizes first core sound (PAGE page) by n
-        (pledged_page sizes (core.passes by) page (subst (FactsAt sizes (core.passes by)) control (sound.control_facts by).at) (subst (PagesAt sizes (core.passes by)) control (sound.control_facts by).pages) (subst (HoldsLocks sizes (core.passes by)) control (sound.ownership by).locks))
+        (pledged_page sizes (core.passes by) page pledges.0 pledges.2 (subst (FactsAt sizes (core.passes by)) control (sound.control_facts by).at) (subst (PagesAt sizes (core.passes by)) control (sound.control_facts by).pages) (subst (HoldsLocks sizes (core.passes by)) control (sound.ownership by).locks))
         (clean_page sizes (core.passes n) page (core.passes n).control (sound.control_facts n).at (sound.control_facts n).pages (sound.ownership n).locks saw) ne
 
 -- of the pass that steps
@@ -380,7 +384,7 @@ unseen : (pages : List ℕ) (owned : List Word) (page : ℕ) → SawClean pages 
 unseen pages owned page = leaving_both (λ s. SawClean pages s page → ⊥) owned (λ _ z. z) (λ _ z. z)
 
 unseen_giving : (pages : List ℕ) (sizes : Sizes) (call : FileCall) (page : ℕ) → SawClean pages (giving sizes call) page → ⊥
-unseen_giving pages sizes call page = if_both (λ s. SawClean pages s page → ⊥) (page_count sizes call == 0) Idle (GivePage (first_page sizes call)) (λ _ z. z) (λ _ z. z)
+unseen_giving pages sizes call page = if_both (λ s. SawClean pages s page → ⊥) (page_count sizes call == 0) Idle (GivePage 0) (λ _ z. z) (λ _ z. z)
 
 unseen_ending : (sizes : Sizes) (pass : Pass) (page : ℕ) → SawClean pass.pages (ending sizes pass) page → ⊥
 unseen_ending sizes pass page = if_both (λ s. SawClean pass.pages s page → ⊥) pass.sized GiveSize (giving sizes pass.call) (λ _ z. z) (λ _. unseen_giving pass.pages sizes pass.call page)
@@ -431,7 +435,7 @@ clean_take sizes pass cell found page may saw = absurd may
 clean_give : (sizes : Sizes) (pass : Pass) (cell : Word) (page : ℕ) (control : Control) → IsGivingBack control → SawClean pass.pages (after_give sizes pass cell control) page → ⊥
 clean_give sizes pass cell page GiveBack may saw = unseen pass.pages (without cell pass.owned) page saw
 clean_give sizes pass cell page GiveSize may saw = unseen_giving pass.pages sizes pass.call page saw
-clean_give sizes pass cell page (GivePage next) may saw = if_both (λ s. SawClean pass.pages s page → ⊥) (next + 1 == end_page sizes pass.call) Idle (GivePage (next + 1)) (λ _ z. z) (λ _ z. z) saw
+clean_give sizes pass cell page (GivePage next) may saw = if_both (λ s. SawClean pass.pages s page → ⊥) (next + 1 == page_count sizes pass.call) Idle (GivePage (next + 1)) (λ _ z. z) (λ _ z. z) saw
 clean_give sizes pass cell page (GiveStore next dirty) may saw = if_both (λ s. SawClean pass.pages s page → ⊥) dirty (ReadLoadHead next) (VisitPage (next + 1)) (λ _ z. z) (λ _ z. z) saw
 clean_give sizes pass cell page (GiveCleanup next) may saw = saw
 clean_give sizes pass cell page (Searching next tries search) may saw = saw
@@ -454,7 +458,7 @@ clean_here sizes first by core found Stop sound may page saw = absurd (stops (co
     stops control may saw = may
 clean_here sizes first by core found Draw sound may page saw = absurd (if_both (λ s. SawClean (core.passes by).pages s page → ⊥) (found == (core.passes by).head) (SeizeEntry found) (leaving (core.passes by).owned) (λ _ z. z) (λ _. unseen (core.passes by).pages (core.passes by).owned page) saw)
 clean_here sizes first by core found (Seize next) sound may page saw = absurd (if_both (λ s. SawClean (core.passes by).pages s page → ⊥) (next + 1 == (core.passes by).first + (core.passes by).entries) (CommitGroup 0) (SeizeEntry (next + 1)) (λ _ z. z) (λ _ z. z) saw)
-clean_here sizes first by core found (Pledge next) sound may page saw = absurd (if_both (λ s. SawClean (core.passes by).pages s page → ⊥) (next + 1 == end_page sizes (core.passes by).call) (ReadyEntry (if (core.passes by).entries == 1 then (core.passes by).first else (core.passes by).first + 1)) (PledgePage (next + 1)) (λ _ z. z) (λ _ z. z) saw)
+clean_here sizes first by core found (Pledge next) sound may page saw = absurd (pledged_next (λ s. SawClean (core.passes by).pages s page → ⊥) sizes (core.passes by) may.may.0 may.may.1 (λ _ z. z) (λ _ z. z) saw)
 clean_here sizes first by core found (Ready next) sound may page saw = absurd (if_both (λ s. SawClean (core.passes by).pages s page → ⊥) (next == (core.passes by).first) TakePlace (ReadyEntry (if next + 1 == (core.passes by).first + (core.passes by).entries then (core.passes by).first else next + 1)) (λ _ z. z) (λ _ z. z) saw)
 clean_here sizes first by core found Grow sound may page saw = absurd (unseen_ending sizes (core.passes by) page saw)
 clean_here sizes first by core found (Break next) sound may page saw = absurd (if_both (λ s. SawClean (core.passes by).pages s page → ⊥) (next + 1 == (core.passes by).first + (core.passes by).entries) (leaving (without (ENTRY (slot_of_entry sizes next)) (core.passes by).owned)) (BreakEntry (next + 1)) (λ _. unseen (core.passes by).pages (without (ENTRY (slot_of_entry sizes next)) (core.passes by).owned) page) (λ _ z. z) saw)
@@ -549,7 +553,7 @@ worked_measured sizes values pass work control how due is = absurd due
 
 worked_clean : (sizes : Sizes) (values : Values) (pass : Pass) (work : Work) (page : ℕ) (control : Control) (how : CallEnding) → CallDue sizes values pass work control → SawClean pass.pages (control_worked sizes pass how control) page → SawClean pass.pages control page
 worked_clean sizes values pass work page (CommitGroup calls) Made due is =
-    absurd (if_both (λ s. SawClean pass.pages s page → ⊥) (calls + 1 == length (commit_steps sizes pass pass.call)) (PledgePage (first_page sizes pass.call)) (CommitGroup (calls + 1)) (λ _ z. z) (λ _ z. z) is)
+    absurd (if_both (λ s. SawClean pass.pages s page → ⊥) (calls + 1 == length (commit_steps sizes pass pass.call)) (PledgePage 0) (CommitGroup (calls + 1)) (λ _ z. z) (λ _ z. z) is)
 worked_clean sizes values pass work page (CommitGroup calls) (Failed came faults) due is = is
 worked_clean sizes values pass work page (ReadStore next true) Made due is = is
 worked_clean sizes values pass work page (ReadStore next false) Made due is = is

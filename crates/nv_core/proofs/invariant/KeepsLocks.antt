@@ -25,6 +25,7 @@ use Rattle.nv_core.proofs.steps.CleanerOps.{IsTending, IsDropping, CleanerReturn
 use Rattle.nv_core.specs.invariant.LogWindow.{InWindow, entry_word_at}
 use Rattle.nv_core.specs.invariant.Loaded.{LooksSound}
 use Rattle.nv_core.proofs.invariant.PageLists.{end_less}
+use Rattle.std.specs.Prelude.{slice_index}
 
 -- at readying the next is one of those that are being filled
 pub readying_next : (first entries next : ℕ) → IsAmong first entries next → IsFilling (ReadyEntry next) first entries next
@@ -42,9 +43,10 @@ given_held sizes pass (SIZE file) GiveSize at pages held may =
     let c : one_if pass.sized ≡ 1 = when_true pass.sized 1 0 at in omega (arith, a, b, c)
 given_held sizes pass (PAGE page) (GivePage next) at pages held may =
     subst (λ p. 1 ≤ times (PAGE p) pass.owned) (sym may) (
-    let a = held (PAGE next) (λ slot. differ (PAGE next) (ENTRY slot) refl) in
-    let b = end_less sizes pass.call pass.pages pages next next at in
-    let c : one_if (next == next) ≡ 1 = when_true (next == next) 1 0 (eq-eqb next next refl) in omega (arith, a, b, c)
+    let own = slice_index pass.pages next in
+    let a = held (PAGE own) (λ slot. differ (PAGE own) (ENTRY slot) refl) in
+    let b = end_less sizes pass.call pass.pages pages next own at in
+    let c : one_if (own == own) ≡ 1 = when_true (own == own) 1 0 (eq-eqb own own refl) in omega (arith, a, b, c)
     )
 given_held sizes pass (STORE file) (GiveStore page dirty) at pages held may =
     let a = held (STORE file) (λ slot. differ (STORE file) (ENTRY slot) refl) in

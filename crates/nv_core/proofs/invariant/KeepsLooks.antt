@@ -8,7 +8,7 @@ use Rattle.nv_core.specs.state.Values.{CallEnding, Made, Failed, Refused}
 use Rattle.nv_core.specs.state.Cleaner.{Clean, Free, MoveTail}
 use Rattle.nv_core.specs.state.Cleaner as cleaner
 use Rattle.nv_core.specs.invariant.CleanerNumbers.{IsFreed}
-use Rattle.nv_core.specs.state.Passes.{Control, Idle, TakePage, LoadLength, TakeSize, LoadStop, LoadOrder, VisitPage, TakeCleanup, TakeStore, ReadStore, GiveStore, ReadLoadHead, ReadLoadTail, LoadEntry, HoldEntry, ReadPiece, ReturnEntry, GiveCleanup, WriteLoadHead, WriteLoadTail, DrawNumbers, SeizeEntry, CommitGroup, PledgePage, ReadyEntry, TakePlace, GrowLength, GiveSize, GivePage, GiveBack, SetStopAfterRead, SetStopAfterPiece, SetStopAfterCommit, BreakEntry, Pass, IsUnseized, IsFilling, IsAmong, is_read, is_write, page_count, first_page, end_page, without, times, Searching, Cleaning, plain_call}
+use Rattle.nv_core.specs.state.Passes.{Control, Idle, TakePage, LoadLength, TakeSize, LoadStop, LoadOrder, VisitPage, TakeCleanup, TakeStore, ReadStore, GiveStore, ReadLoadHead, ReadLoadTail, LoadEntry, HoldEntry, ReadPiece, ReturnEntry, GiveCleanup, WriteLoadHead, WriteLoadTail, DrawNumbers, SeizeEntry, CommitGroup, PledgePage, ReadyEntry, TakePlace, GrowLength, GiveSize, GivePage, GiveBack, SetStopAfterRead, SetStopAfterPiece, SetStopAfterCommit, BreakEntry, Pass, IsUnseized, IsFilling, IsAmong, is_read, is_write, page_count, first_page, without, times, Searching, Cleaning, plain_call}
 use Rattle.nv_core.specs.steps.Ops.{Op, Load, Take, Give, Place, Stop, Draw, Seize, Pledge, Ready, Grow, Break, Hold, Return, Split, PutBack, Join, value_after, Turn, Hint, ByCleaner, moved, cleaner_move}
 use Rattle.nv_core.specs.steps.ControlSteps.{control_after, scanning, after_head, after_tail, after_look, after_load, after_give, after_stop, after_hold, after_return, leaving, giving, ending, ordered, copying, exceeds}
 use Rattle.nv_core.specs.steps.PassSteps.{begun}
@@ -22,7 +22,7 @@ use Rattle.nv_core.specs.invariant.LogWindow.{InWindow, entry_word_at, LogWindow
 use Rattle.nv_core.specs.invariant.Loaded.{IsReadBounded, Bounds, LooksSound}
 use Rattle.nv_core.specs.invariant.Sound.{Sound}
 use Rattle.nv_core.proofs.state.Changes.{by_number, word_here, word_else, differ}
-use Rattle.nv_core.proofs.state.Choices.{if_both, when_true, leaving_both, IsGivingBack, gives_back, page_tried}
+use Rattle.nv_core.proofs.state.Choices.{if_both, when_true, leaving_both, IsGivingBack, gives_back, page_tried, pledged_next}
 use Rattle.nv_core.proofs.steps.WordLaws.{untouched, touches}
 use Rattle.nv_core.proofs.invariant.LockLaws.{only_holder}
 use Rattle.nv_core.proofs.state.SlotLaws.{apart}
@@ -191,7 +191,7 @@ module _ (sizes : Sizes) where
   leaves owned = leaving_both IsBlind owned (λ _. tt) (λ _. tt)
 
   pub gives : (call : FileCall) → IsBlind (giving sizes call)
-  gives call = if_both IsBlind (page_count sizes call == 0) Idle (GivePage (first_page sizes call)) (λ _. tt) (λ _. tt)
+  gives call = if_both IsBlind (page_count sizes call == 0) Idle (GivePage 0) (λ _. tt) (λ _. tt)
 
   pub ends : (pass : Pass) → IsBlind (ending sizes pass)
   ends pass = if_both IsBlind pass.sized GiveSize (giving sizes pass.call) (λ _. tt) (λ _. gives pass.call)
@@ -206,7 +206,7 @@ module _ (sizes : Sizes) where
   pub gives_back_to : (pass : Pass) (cell : Word) (control : Control) → IsGivingBack control → IsBlind (after_give sizes pass cell control)
   gives_back_to pass cell GiveBack may = leaves (without cell pass.owned)
   gives_back_to pass cell GiveSize may = gives pass.call
-  gives_back_to pass cell (GivePage page) may = if_both IsBlind (page + 1 == end_page sizes pass.call) Idle (GivePage (page + 1)) (λ _. tt) (λ _. tt)
+  gives_back_to pass cell (GivePage page) may = if_both IsBlind (page + 1 == page_count sizes pass.call) Idle (GivePage (page + 1)) (λ _. tt) (λ _. tt)
   gives_back_to pass cell (GiveStore page dirty) may = if_both IsBlind dirty (ReadLoadHead page) (VisitPage (page + 1)) (λ _. tt) (λ _. tt)
   gives_back_to pass cell (GiveCleanup page) may = tt
   gives_back_to pass cell (Searching page tries search) may = tt
@@ -248,7 +248,7 @@ blind_to sizes values pass (Place reply) found is may = if_both IsBlind (is_writ
 blind_to sizes values pass Draw found is may = if_both IsBlind (found == pass.head) (SeizeEntry found) (leaving pass.owned) (λ _. tt) (λ _. leaves sizes pass.owned)
 blind_to sizes values pass (Seize next) found is may = if_both IsBlind (next + 1 == pass.first + pass.entries) (CommitGroup 0) (SeizeEntry (next + 1)) (λ _. tt) (λ _. tt)
 blind_to sizes values pass (Pledge page) found is may =
-    if_both IsBlind (page + 1 == end_page sizes pass.call) (ReadyEntry (if pass.entries == 1 then pass.first else pass.first + 1)) (PledgePage (page + 1)) (λ _. tt) (λ _. tt)
+    pledged_next IsBlind sizes pass may.0 may.1 (λ _. tt) (λ _. tt)
 blind_to sizes values pass (Ready next) found is may =
     if_both IsBlind (next == pass.first) TakePlace (ReadyEntry (if next + 1 == pass.first + pass.entries then pass.first else next + 1)) (λ _. tt) (λ _. tt)
 blind_to sizes values pass Grow found is may = ends sizes pass
@@ -374,7 +374,7 @@ looks_begin sizes first by core call sound = by_number (λ n (p : Pass). LooksSo
     (if_both (LooksSound sizes (after_begin sizes by call core) []) (page_count sizes (plain_call call) == 0) LoadStop (TakePage (first_page sizes (plain_call call))) (λ _. tt) (λ _. tt)) (λ n ne. sound.loaded.looks n)
 
 pub blind_work : (sizes : Sizes) (values : Values) (pass : Pass) (work : Work) (how : CallEnding) (control : Control) → CallDue sizes values pass work control → IsBlind control → IsBlind (control_worked sizes pass how control)
-blind_work sizes values pass work Made (CommitGroup calls) due blind = if_both IsBlind (calls + 1 == length (commit_steps sizes pass pass.call)) (PledgePage (first_page sizes pass.call)) (CommitGroup (calls + 1)) (λ _. tt) (λ _. tt)
+blind_work sizes values pass work Made (CommitGroup calls) due blind = if_both IsBlind (calls + 1 == length (commit_steps sizes pass pass.call)) (PledgePage 0) (CommitGroup (calls + 1)) (λ _. tt) (λ _. tt)
 blind_work sizes values pass work (Failed came faults) (CommitGroup calls) due blind = tt
 blind_work sizes values pass work Made (ReadStore page dirty) due blind = tt
 blind_work sizes values pass work (Failed came faults) (ReadStore page dirty) due blind = tt

@@ -21,7 +21,7 @@ use Rattle.nv_core.specs.invariant.BuffersKept.{BuffersKept, buffer_count}
 use Rattle.nv_core.specs.invariant.Searches.{IsVictim, SearchKnows, KnowsAt, Searches}
 use Rattle.nv_core.specs.invariant.Sound.{Sound}
 use Rattle.nv_core.proofs.state.Changes.{by_number, by_word, word_here, word_else, differ}
-use Rattle.nv_core.proofs.state.Choices.{if_both, when_true, leaving_both, gives_one, busy}
+use Rattle.nv_core.proofs.state.Choices.{if_both, when_true, leaving_both, gives_one, busy, pledged_next}
 use Rattle.nv_core.proofs.invariant.LockLaws.{only_holder}
 use Rattle.nv_core.proofs.steps.WordLaws.{untouched}
 use Rattle.nv_core.proofs.state.TotalLaws.{total_same, total_at}
@@ -204,7 +204,7 @@ module _ (sizes : Sizes) (values : Values) (pass : Pass) where
   at_leaving owned = leaving_both (KnowsAt sizes values pass.pages) owned (λ _. tt) (λ _. tt)
 
   at_giving : KnowsAt sizes values pass.pages (giving sizes pass.call)
-  at_giving = if_both (KnowsAt sizes values pass.pages) (page_count sizes pass.call == 0) Idle (GivePage (first_page sizes pass.call)) (λ _. tt) (λ _. tt)
+  at_giving = if_both (KnowsAt sizes values pass.pages) (page_count sizes pass.call == 0) Idle (GivePage 0) (λ _. tt) (λ _. tt)
 
   at_ending : KnowsAt sizes values pass.pages (ending sizes pass)
   at_ending = if_both (KnowsAt sizes values pass.pages) pass.sized GiveSize (giving sizes pass.call) (λ _. tt) (λ _. at_giving)
@@ -255,8 +255,8 @@ module _ (sizes : Sizes) (values : Values) (pass : Pass) where
   -- a victim that is given back leaves the buffer's number alone
   at_give : (later : Values) (cell : Word) (control : Control) → MayGive pass cell control → KnowsAt sizes values pass.pages control → KnowsAt sizes later pass.pages (after_give sizes pass cell control)
   at_give later cell GiveBack may was = leaving_both (KnowsAt sizes later pass.pages) (without cell pass.owned) (λ _. tt) (λ _. tt)
-  at_give later cell GiveSize may was = if_both (KnowsAt sizes later pass.pages) (page_count sizes pass.call == 0) Idle (GivePage (first_page sizes pass.call)) (λ _. tt) (λ _. tt)
-  at_give later cell (GivePage page) may was = if_both (KnowsAt sizes later pass.pages) (page + 1 == end_page sizes pass.call) Idle (GivePage (page + 1)) (λ _. tt) (λ _. tt)
+  at_give later cell GiveSize may was = if_both (KnowsAt sizes later pass.pages) (page_count sizes pass.call == 0) Idle (GivePage 0) (λ _. tt) (λ _. tt)
+  at_give later cell (GivePage page) may was = if_both (KnowsAt sizes later pass.pages) (page + 1 == page_count sizes pass.call) Idle (GivePage (page + 1)) (λ _. tt) (λ _. tt)
   at_give later cell (GiveStore page dirty) may was = if_both (KnowsAt sizes later pass.pages) dirty (ReadLoadHead page) (VisitPage (page + 1)) (λ _. tt) (λ _. tt)
   at_give later cell (GiveCleanup page) may was = tt
   at_give later (PAGE page) (Searching missed tries (GiveVictim buffer victim)) may was = was.0
@@ -277,8 +277,7 @@ module _ (sizes : Sizes) (values : Values) (pass : Pass) where
   at_step Stop found within may was = at_stop pass.control may
   at_step Draw found within may was = if_both (KnowsAt sizes values pass.pages) (found == pass.head) (SeizeEntry found) (leaving pass.owned) (λ _. tt) (λ _. at_leaving pass.owned)
   at_step (Seize next) found within may was = if_both (KnowsAt sizes values pass.pages) (next + 1 == pass.first + pass.entries) (CommitGroup 0) (SeizeEntry (next + 1)) (λ _. tt) (λ _. tt)
-  at_step (Pledge page) found within may was = if_both (KnowsAt sizes (values_stepped sizes pass (Pledge page) values) pass.pages) (page + 1 == end_page sizes pass.call)
-      (ReadyEntry (if pass.entries == 1 then pass.first else pass.first + 1)) (PledgePage (page + 1)) (λ _. tt) (λ _. tt)
+  at_step (Pledge page) found within may was = pledged_next (KnowsAt sizes (values_stepped sizes pass (Pledge page) values) pass.pages) sizes pass may.0 may.1 (λ _. tt) (λ _. tt)
   at_step (Ready next) found within may was = if_both (KnowsAt sizes values pass.pages) (next == pass.first) TakePlace (ReadyEntry (if next + 1 == pass.first + pass.entries then pass.first else next + 1)) (λ _. tt) (λ _. tt)
   at_step Grow found within may was = at_ending
   at_step (Break next) found within may was = if_both (KnowsAt sizes values pass.pages) (next + 1 == pass.first + pass.entries) (leaving (without (ENTRY (slot_of_entry sizes next)) pass.owned)) (BreakEntry (next + 1))
@@ -351,7 +350,7 @@ searches_work sizes by core work may was = record {
 }
   where
     works : (how : CallEnding) (control : Control) → CallDue sizes core.values (core.passes by) work control → KnowsAt sizes (values_worked (core.passes by) work core.values) (core.passes by).pages (control_worked sizes (core.passes by) how control)
-    works Made (CommitGroup calls) due = if_both (KnowsAt sizes (values_worked (core.passes by) work core.values) (core.passes by).pages) (calls + 1 == _) (PledgePage (first_page sizes (core.passes by).call)) (CommitGroup (calls + 1)) (λ _. tt) (λ _. tt)
+    works Made (CommitGroup calls) due = if_both (KnowsAt sizes (values_worked (core.passes by) work core.values) (core.passes by).pages) (calls + 1 == _) (PledgePage 0) (CommitGroup (calls + 1)) (λ _. tt) (λ _. tt)
     works Made (ReadStore page dirty) due = tt
     works Made (ReadPiece page next) due = tt
     works (Failed came faults) (CommitGroup calls) due = tt

@@ -9,7 +9,7 @@ use Rattle.nv_core.specs.state.Cleaner.{Batch, CleanerControl, WriteBack, CleanE
 use Rattle.nv_core.specs.state.Cleaner as cleaner
 use Rattle.nv_core.specs.steps.CleanerSteps.{after_cleaner_work}
 use Rattle.nv_header.specs.HeaderSteps.{tail_steps}
-use Rattle.nv_core.specs.state.Passes.{Control, TakePage, LoadStop, ReadStore, SeizeEntry, CommitGroup, PledgePage, ReadyEntry, TakePlace, SetStopAfterRead, SetStopAfterCommit, BreakEntry, Pass, page_count, first_page, end_page, without, SetStopAfterPiece, ReadPiece, Cleaning, plain_call}
+use Rattle.nv_core.specs.state.Passes.{Control, TakePage, LoadStop, ReadStore, SeizeEntry, CommitGroup, PledgePage, ReadyEntry, TakePlace, SetStopAfterRead, SetStopAfterCommit, BreakEntry, Pass, page_count, first_page, without, SetStopAfterPiece, ReadPiece, Cleaning, plain_call}
 use Rattle.nv_core.specs.steps.Ops.{Op, Load, Take, Give, Place, Stop, Draw, Seize, Pledge, Ready, Grow, Break, Split, PutBack, Join, Turn, Hint, Hold, Return, ByCleaner, cleaner_move, moved}
 use Rattle.nv_core.specs.steps.ControlSteps.{control_after, after_stop, after_by_cleaner, leaving}
 use Rattle.nv_core.specs.steps.PassSteps.{stopped_after}
@@ -23,7 +23,7 @@ use Rattle.nv_core.specs.invariant.BuffersKept.{BuffersKept}
 use Rattle.nv_core.specs.invariant.Devices.{DevicesKept}
 use Rattle.nv_core.specs.invariant.Sound.{Sound}
 use Rattle.nv_core.proofs.state.Changes.{number_here, by_number, word_here}
-use Rattle.nv_core.proofs.state.Choices.{if_both, not_both}
+use Rattle.nv_core.proofs.state.Choices.{if_both, not_both, pledged_next}
 use Rattle.nv_core.proofs.invariant.ClearLaws.{IsClear, clear_to, clear_leaving}
 use Rattle.nv_core.proofs.steps.WordLaws.{untouched, touches}
 use Rattle.nv_core.proofs.state.TotalLaws.{total_same}
@@ -60,7 +60,7 @@ none_fails sizes values pass found Stop may = stops pass.control may
     stops control is = absurd is
 none_fails sizes values pass found Draw may = if_both (λ s. IsFailing s → ⊥) (found == pass.head) (SeizeEntry found) (leaving pass.owned) (λ _ z. z) (λ _. clear_failing (leaving pass.owned) (clear_leaving pass.owned))
 none_fails sizes values pass found (Seize next) may = if_both (λ s. IsFailing s → ⊥) (next + 1 == pass.first + pass.entries) (CommitGroup 0) (SeizeEntry (next + 1)) (λ _ z. z) (λ _ z. z)
-none_fails sizes values pass found (Pledge page) may = if_both (λ s. IsFailing s → ⊥) (page + 1 == end_page sizes pass.call) (ReadyEntry (if pass.entries == 1 then pass.first else pass.first + 1)) (PledgePage (page + 1)) (λ _ z. z) (λ _ z. z)
+none_fails sizes values pass found (Pledge page) may = pledged_next (λ s. IsFailing s → ⊥) sizes pass may.0 may.1 (λ _ z. z) (λ _ z. z)
 none_fails sizes values pass found (Ready next) may = if_both (λ s. IsFailing s → ⊥) (next == pass.first) TakePlace (ReadyEntry (if next + 1 == pass.first + pass.entries then pass.first else next + 1)) (λ _ z. z) (λ _ z. z)
 none_fails sizes values pass found (Break next) may = if_both (λ s. IsFailing s → ⊥) (next + 1 == pass.first + pass.entries) (leaving (without (ENTRY (slot_of_entry sizes next)) pass.owned)) (BreakEntry (next + 1))
     (λ _. clear_failing (leaving (without (ENTRY (slot_of_entry sizes next)) pass.owned)) (clear_leaving (without (ENTRY (slot_of_entry sizes next)) pass.owned))) (λ _ z. z)
@@ -254,7 +254,7 @@ worked_fails sizes values pass work due is = go work.ending refl pass.control du
   where
     go : (how : CallEnding) → work.ending ≡ how → (control : Control) → CallDue sizes values pass work control → IsFailing (control_worked sizes pass how control) → (came : Bool) × (faults : ℕ) × (work.ending ≡ Failed came faults)
     go (Failed came faults) e control due is = (came, faults, e)
-    go Made e (CommitGroup calls) due is = absurd (if_both (λ s. IsFailing s → ⊥) (calls + 1 == length (commit_steps sizes pass pass.call)) (PledgePage (first_page sizes pass.call)) (CommitGroup (calls + 1)) (λ _ z. z) (λ _ z. z) is)
+    go Made e (CommitGroup calls) due is = absurd (if_both (λ s. IsFailing s → ⊥) (calls + 1 == length (commit_steps sizes pass pass.call)) (PledgePage 0) (CommitGroup (calls + 1)) (λ _ z. z) (λ _ z. z) is)
     go Made e (ReadStore page dirty) due is = absurd is
     go Made e (ReadPiece page number) due is = absurd is
     go Made e (Cleaning batch inner) due is = absurd (of_cleaner_worked (λ s. IsFailing s → ⊥) (λ z. z) (λ b s z. z) batch Made inner is)
@@ -289,7 +289,7 @@ worked_cleaner_stop sizes values pass work due is = go work.ending refl pass.con
 
     go : (how : CallEnding) → work.ending ≡ how → (control : Control) → CallDue sizes values pass work control → IsSettingStop (control_worked sizes pass how control) → (came : Bool) × (faults : ℕ) × (work.ending ≡ Failed came faults)
     go (Failed came faults) e control due is = (came, faults, e)
-    go Made e (CommitGroup calls) due is = absurd (if_both (λ s. IsSettingStop s → ⊥) (calls + 1 == length (commit_steps sizes pass pass.call)) (PledgePage (first_page sizes pass.call)) (CommitGroup (calls + 1)) (λ _ z. z) (λ _ z. z) is)
+    go Made e (CommitGroup calls) due is = absurd (if_both (λ s. IsSettingStop s → ⊥) (calls + 1 == length (commit_steps sizes pass pass.call)) (PledgePage 0) (CommitGroup (calls + 1)) (λ _ z. z) (λ _ z. z) is)
     go Made e (ReadStore page dirty) due is = absurd is
     go Made e (ReadPiece page number) due is = absurd is
     go Made e (Cleaning batch inner) due is = absurd (none batch Made inner (inl refl) due is)

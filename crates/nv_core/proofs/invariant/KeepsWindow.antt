@@ -8,20 +8,20 @@ use Rattle.nv_core.specs.state.Cleaner.{TakeCleaner, Clean, Free, MoveTail}
 use Rattle.nv_core.specs.state.Cleaner as cleaner
 use Rattle.nv_core.specs.steps.CleanerSteps.{after_cleaner_work}
 use Rattle.nv_core.specs.invariant.CleanerNumbers.{IsCleaned, IsFreed}
-use Rattle.nv_core.specs.state.Passes.{Control, TakePage, LoadStop, ReadStore, SeizeEntry, CommitGroup, PledgePage, ReadyEntry, TakePlace, SetStopAfterRead, SetStopAfterCommit, BreakEntry, Pass, IsUnseized, IsFilling, IsAmong, is_write, page_count, first_page, end_page, without, ReadPiece, ReturnEntry, SetStopAfterPiece, Cleaning, GiveStore, plain_call}
+use Rattle.nv_core.specs.state.Passes.{Control, TakePage, LoadStop, ReadStore, SeizeEntry, CommitGroup, PledgePage, ReadyEntry, TakePlace, SetStopAfterRead, SetStopAfterCommit, BreakEntry, Pass, IsUnseized, IsFilling, IsAmong, is_write, page_count, first_page, without, ReadPiece, ReturnEntry, SetStopAfterPiece, Cleaning, GiveStore, plain_call}
 use Rattle.nv_core.specs.steps.Ops.{Op, page_at, ready_word, Load, Take, Give, Place, Stop, Draw, Seize, Pledge, Ready, Grow, Break, Split, PutBack, Join, value_after, Turn, Hint, Hold, Return, ByCleaner}
-use Rattle.nv_core.specs.steps.ControlSteps.{control_after, after_stop, leaving}
+use Rattle.nv_core.specs.steps.ControlSteps.{control_after, after_stop, leaving, after_pledge}
 use Rattle.nv_core.specs.steps.PassSteps.{stepped, begun}
 use Rattle.nv_core.specs.steps.Order.{Values, Work, CallEnabled, CallDue, IsFailing, commit_steps}
 use Rattle.nv_core.specs.steps.StepKinds.{EnabledByKind}
 use Rattle.nv_core.specs.state.Core.{Core, changes, changed_pass, with_value, with_number, after_step, after_begin, after_work, worked, control_worked}
 use Rattle.nv_core.specs.steps.Events.{CallMayBegin}
 use Rattle.nv_core.proofs.steps.ByKind.{FoundEnabledByKind}
-use Rattle.nv_core.specs.invariant.ControlFacts.{FactsAt, HasDrawn, IsPage, IsSmall, LogHasRoom}
+use Rattle.nv_core.specs.invariant.ControlFacts.{FactsAt, HasDrawn, IsSmall, LogHasRoom}
 use Rattle.nv_core.specs.invariant.LogWindow.{HasUnseized, Fills, LogWindow, InWindow, entry_word_at}
 use Rattle.nv_core.specs.invariant.Sound.{Sound}
 use Rattle.nv_core.proofs.state.Changes.{word_here}
-use Rattle.nv_core.proofs.state.Choices.{if_both, when_true, when_false, busy}
+use Rattle.nv_core.proofs.state.Choices.{if_both, when_true, when_false, busy, pledged_next}
 use Rattle.nv_core.proofs.invariant.ClearLaws.{IsClear, IsPlain, clear_unseized, clear_filling, clear_from, clear_to, clear_leaving}
 use Rattle.nv_core.proofs.state.PageLaws.{write_pages}
 use Rattle.nv_core.proofs.invariant.LockLaws.{only_holder}
@@ -62,12 +62,11 @@ self : {P : Type 0} → P ↔ P
 self = (λ p. p, λ p. p)
 
 -- a pledge leaves what is being filled
-pub pledged_alike : (sizes : Sizes) (pass : Pass) (page : ℕ) (n : ℕ) → 1 ≤ pass.entries
-    → (IsUnseized (if page + 1 == end_page sizes pass.call then ReadyEntry (if pass.entries == 1 then pass.first else pass.first + 1) else PledgePage (page + 1)) pass.first pass.entries n ↔ ⊥)
-    × (IsFilling (if page + 1 == end_page sizes pass.call then ReadyEntry (if pass.entries == 1 then pass.first else pass.first + 1) else PledgePage (page + 1)) pass.first pass.entries n ↔ IsAmong pass.first pass.entries n)
-pledged_alike sizes pass page n some =
-    if_both (λ s. (IsUnseized s pass.first pass.entries n ↔ ⊥) × (IsFilling s pass.first pass.entries n ↔ IsAmong pass.first pass.entries n))
-    (page + 1 == end_page sizes pass.call) (ReadyEntry (if pass.entries == 1 then pass.first else pass.first + 1)) (PledgePage (page + 1))
+pub pledged_alike : (sizes : Sizes) (pass : Pass) (place : ℕ) → pass.control ≡ PledgePage place → (n : ℕ) → 1 ≤ pass.entries
+    → (IsUnseized (after_pledge sizes pass pass.control) pass.first pass.entries n ↔ ⊥)
+    × (IsFilling (after_pledge sizes pass pass.control) pass.first pass.entries n ↔ IsAmong pass.first pass.entries n)
+pledged_alike sizes pass place at n some =
+    pledged_next (λ s. (IsUnseized s pass.first pass.entries n ↔ ⊥) × (IsFilling s pass.first pass.entries n ↔ IsAmong pass.first pass.entries n)) sizes pass place at
     (λ _. (
       self,
       if_both (λ m. IsFilling (ReadyEntry m) pass.first pass.entries n ↔ IsAmong pass.first pass.entries n) (pass.entries == 1) pass.first (pass.first + 1)
@@ -377,8 +376,8 @@ window_step sizes first by core Stop found sound may = stays sizes first by core
 window_step sizes first by core Draw found sound may = drawn sizes first by core found sound may
 window_step sizes first by core (Seize next) found sound may = window_entry sizes core by next filling (changed_pass sizes by core (Seize next) found) _ _ _ _ sound.window (seizes_one sizes first by core found next sound may)
 window_step sizes first by core (Pledge page) found sound may = stays sizes first by core (Pledge page) found sound may refl refl (λ slot. refl)
-    (let at : HasDrawn sizes (core.passes by).call (core.passes by).entries × IsPage sizes (core.passes by).call page = subst (FactsAt sizes (core.passes by)) may.may (sound.control_facts by).at in
-    at_alike _ (core.passes by) (changed_pass sizes by core (Pledge page) found) (PledgePage page) _ may.may refl tt (to_call sizes (core.passes by) (Pledge page) found tt (at_call sizes core.values (core.passes by) (Pledge page) tt may.may)) (λ n. (pledged_alike sizes (core.passes by) page n at.0.some).0) (λ n. (pledged_alike sizes (core.passes by) page n at.0.some).1))
+    (let at : HasDrawn sizes (core.passes by).call (core.passes by).entries × (may.may.0 < page_count sizes (core.passes by).call) = subst (FactsAt sizes (core.passes by)) may.may.1 (sound.control_facts by).at in
+    at_alike _ (core.passes by) (changed_pass sizes by core (Pledge page) found) (PledgePage may.may.0) _ may.may.1 refl tt (to_call sizes (core.passes by) (Pledge page) found tt (at_call sizes core.values (core.passes by) (Pledge page) tt may.may)) (λ n. (pledged_alike sizes (core.passes by) may.may.0 may.may.1 n at.0.some).0) (λ n. (pledged_alike sizes (core.passes by) may.may.0 may.may.1 n at.0.some).1))
 window_step sizes first by core (Ready next) found sound may = window_entry sizes core by next _ (changed_pass sizes by core (Ready next) found) _ _ _ _ sound.window (readies_one sizes first by core found next sound may)
 window_step sizes first by core Grow found sound may = stays sizes first by core Grow found sound may refl refl (λ slot. refl) (plain sizes by core Grow found by _ tt tt may.may)
 window_step sizes first by core (Turn page) found sound may = stays sizes first by core (Turn page) found sound may refl refl (λ slot. refl) (plain sizes by core (Turn page) found by _ tt tt may.may)
@@ -427,9 +426,9 @@ worked_alike sizes values pass work stop control at due = go control work.ending
   where
     go : (control : Control) (how : CallEnding) → pass.control ≡ control → CallDue sizes values pass work control → (worked sizes work pass).control ≡ control_worked sizes pass how control → Alike stop pass (worked sizes work pass)
     go (CommitGroup calls) Made at due is = at_alike stop pass (worked sizes work pass) (CommitGroup calls) (control_worked sizes pass Made (CommitGroup calls)) at is tt
-        (if_both IsAtCall (calls + 1 == length (commit_steps sizes pass pass.call)) (PledgePage (first_page sizes pass.call)) (CommitGroup (calls + 1)) (λ _. tt) (λ _. tt))
-        (λ n. if_both (λ g. IsUnseized g pass.first pass.entries n ↔ ⊥) (calls + 1 == length (commit_steps sizes pass pass.call)) (PledgePage (first_page sizes pass.call)) (CommitGroup (calls + 1)) (λ _. self) (λ _. self))
-        (λ n. if_both (λ g. IsFilling g pass.first pass.entries n ↔ IsAmong pass.first pass.entries n) (calls + 1 == length (commit_steps sizes pass pass.call)) (PledgePage (first_page sizes pass.call)) (CommitGroup (calls + 1)) (λ _. self) (λ _. self))
+        (if_both IsAtCall (calls + 1 == length (commit_steps sizes pass pass.call)) (PledgePage 0) (CommitGroup (calls + 1)) (λ _. tt) (λ _. tt))
+        (λ n. if_both (λ g. IsUnseized g pass.first pass.entries n ↔ ⊥) (calls + 1 == length (commit_steps sizes pass pass.call)) (PledgePage 0) (CommitGroup (calls + 1)) (λ _. self) (λ _. self))
+        (λ n. if_both (λ g. IsFilling g pass.first pass.entries n ↔ IsAmong pass.first pass.entries n) (calls + 1 == length (commit_steps sizes pass pass.call)) (PledgePage 0) (CommitGroup (calls + 1)) (λ _. self) (λ _. self))
     go (CommitGroup calls) (Failed came faults) at due is = at_alike stop pass (worked sizes work pass) (CommitGroup calls) SetStopAfterCommit at is tt tt (λ n. self) (λ n. self)
     go (CommitGroup calls) Refused at due is = at_alike stop pass (worked sizes work pass) (CommitGroup calls) (CommitGroup calls) at is tt tt (λ n. self) (λ n. self)
     go (ReadStore page dirty) Made at due is = at_alike stop pass (worked sizes work pass) (ReadStore page dirty) (GiveStore page dirty) at is tt tt (λ n. self) (λ n. self)

@@ -3,7 +3,7 @@ use Rattle.std.proofs.Common.{◌≡◌, ◌≢◌, ℕ, ◌+◌, ◌≤◌, ◌
 use Rattle.std.proofs.lemmas.Bool.{eqb-true, eq-eqb}
 use Rattle.nv_plain.specs.Histories.{Answered}
 use Rattle.nv_core.specs.state.Words.{Sizes, Word, STOP, ORDER, HEAD, TAIL, SIZE, LENGTH, STORE, ENTRY, HINT, PAGE, DIRTY, same, CLEANUP, CLEANER, HEADER, ready, is_entry_of, slot_of_entry}
-use Rattle.nv_core.specs.state.Passes.{Control, Idle, TakePage, LoadLength, TakeSize, LoadStop, LoadOrder, VisitPage, TakeStore, ReadStore, GiveStore, TakeCleanup, Search, LoadHint, TakeVictim, GiveVictim, VictimGiven, NotFound, HintSet, Searching, WriteLoadHead, WriteLoadTail, DrawNumbers, SeizeEntry, CommitGroup, PledgePage, ReadyEntry, TakePlace, GrowLength, GiveSize, GivePage, GiveBack, SetStopAfterRead, SetStopAfterCommit, BreakEntry, Pass, file_of, is_read, is_write, page_count, first_page, end_page, nth_of, without, times, ReadLoadHead, ReadLoadTail, LoadEntry, HoldEntry, ReturnEntry, GiveCleanup, SetStopAfterPiece}
+use Rattle.nv_core.specs.state.Passes.{Control, Idle, TakePage, LoadLength, TakeSize, LoadStop, LoadOrder, VisitPage, TakeStore, ReadStore, GiveStore, TakeCleanup, Search, LoadHint, TakeVictim, GiveVictim, VictimGiven, NotFound, HintSet, Searching, WriteLoadHead, WriteLoadTail, DrawNumbers, SeizeEntry, CommitGroup, PledgePage, ReadyEntry, TakePlace, GrowLength, GiveSize, GivePage, GiveBack, SetStopAfterRead, SetStopAfterCommit, BreakEntry, Pass, file_of, is_read, is_write, page_count, first_page, end_page, without, times, ReadLoadHead, ReadLoadTail, LoadEntry, HoldEntry, ReturnEntry, GiveCleanup, SetStopAfterPiece}
 use Rattle.nv_core.specs.steps.Ops.{Op, Stays, Comes, moved, Load, Take, Give, Place, Stop, Draw, Seize, Pledge, Ready, Grow, Break, Turn, Hint, Hold, Return, ByCleaner}
 use Rattle.nv_core.specs.steps.ControlSteps.{copying, control_after, after_load, after_give, after_stop, leaving, giving, ending, ordered, exceeds, scanning, after_head, after_tail, after_look, after_hold, after_return}
 use Rattle.nv_core.specs.steps.PassSteps.{stepped, pages_after}
@@ -13,11 +13,12 @@ use Rattle.nv_core.specs.invariant.ControlFacts.{FactsAt, PagesAt, ControlFacts}
 use Rattle.nv_core.specs.invariant.CleanerOwnership.{count_in}
 use Rattle.nv_core.specs.invariant.Ownership.{one_if, page_held, size_held, lock_held, HoldsLocks, cleanup_held, store_times, cleaner_held, header_held}
 use Rattle.nv_core.proofs.state.Changes.{differ, same_true}
-use Rattle.nv_core.proofs.state.Choices.{if_both, when_true, when_false, leaving_both, gives_one}
+use Rattle.nv_core.proofs.state.Choices.{if_both, when_true, when_false, leaving_both, gives_one, pledged_next}
 use Rattle.nv_core.proofs.steps.SearchLaws.{hinting_next, tried_next}
 use Rattle.nv_core.proofs.invariant.LockLaws.{times_else, times_without, times_without_else}
-use Rattle.nv_core.proofs.invariant.PageLists.{count_more, end_less, end_none, end_whole}
+use Rattle.nv_core.proofs.invariant.PageLists.{count_more, end_less, end_none, count_whole}
 use Rattle.nv_core.proofs.invariant.PageSteps.{HasAll}
+use Rattle.std.specs.Prelude.{slice_index}
 
 -- ---- numbers
 
@@ -70,12 +71,12 @@ entry_given sizes pass now control slot owned held cell lock = ap (times cell) o
 
 -- ---- the ends of a call
 
-giving_locks : (sizes : Sizes) (now : Pass) → HasAll sizes now → ((cell : Word) → ((slot : ℕ) → cell ≢ ENTRY slot) → times cell now.owned ≡ lock_held sizes now (GivePage (first_page sizes now.call)) cell) → HoldsLocks sizes now (giving sizes now.call)
-giving_locks sizes now all full = if_both (HoldsLocks sizes now) (page_count sizes now.call == 0) Idle (GivePage (first_page sizes now.call))
+giving_locks : (sizes : Sizes) (now : Pass) → HasAll sizes now → ((cell : Word) → ((slot : ℕ) → cell ≢ ENTRY slot) → times cell now.owned ≡ lock_held sizes now (GivePage 0) cell) → HoldsLocks sizes now (giving sizes now.call)
+giving_locks sizes now all full = if_both (HoldsLocks sizes now) (page_count sizes now.call == 0) Idle (GivePage 0)
     (λ e cell lock. full cell lock ∙ empty cell (eqb-true (page_count sizes now.call) 0 e)) (λ _. full)
   where
-    empty : (cell : Word) → page_count sizes now.call ≡ 0 → lock_held sizes now (GivePage (first_page sizes now.call)) cell ≡ lock_held sizes now Idle cell
-    empty (PAGE page) none = end_none sizes now.call now.pages all (first_page sizes now.call) page (omega (arith, none))
+    empty : (cell : Word) → page_count sizes now.call ≡ 0 → lock_held sizes now (GivePage 0) cell ≡ lock_held sizes now Idle cell
+    empty (PAGE page) none = end_none sizes now.call now.pages all 0 page (sym none)
     empty (SIZE file) none = refl
     empty (STORE file) none = refl
     empty cell none = refl
@@ -85,8 +86,8 @@ ending_locks : (sizes : Sizes) (pass now : Pass) → now.call ≡ pass.call → 
 ending_locks sizes pass now call sized all full = if_both (HoldsLocks sizes now) pass.sized GiveSize (giving sizes pass.call) (λ _. full)
     (λ e. subst (λ c. HoldsLocks sizes now (giving sizes c)) call (giving_locks sizes now all (λ cell lock. full cell lock ∙ without_size cell (sized ∙ e))))
   where
-    without_size : (cell : Word) → now.sized ≡ false → lock_held sizes now LoadStop cell ≡ lock_held sizes now (GivePage (first_page sizes now.call)) cell
-    without_size (PAGE page) e = sym (end_whole sizes now.call now.pages page)
+    without_size : (cell : Word) → now.sized ≡ false → lock_held sizes now LoadStop cell ≡ lock_held sizes now (GivePage 0) cell
+    without_size (PAGE page) e = sym (count_whole now.pages page)
     without_size (SIZE file) e = ap (λ n. if file == file_of now.call then n else 0) (when_false now.sized 1 0 e)
     without_size cell e = refl
 
@@ -295,7 +296,7 @@ lock_gives : (sizes : Sizes) (pass : Pass) (cell : Word) (found number : ℕ) (h
     → HoldsLocks sizes (stepped sizes number history (Give cell) found pass) (after_give sizes pass cell control)
 lock_gives sizes pass cell found number history GiveBack at pages held may = out sizes (stepped sizes number history (Give cell) found pass) (without cell pass.owned) refl
 lock_gives sizes pass (SIZE file) found number history GiveSize at pages held may =
-    giving_locks sizes now pages (given sizes pass now GiveSize (GivePage (first_page sizes pass.call)) (SIZE file) refl some owed held)
+    giving_locks sizes now pages (given sizes pass now GiveSize (GivePage 0) (SIZE file) refl some owed held)
   where
     now : Pass
     now = stepped sizes number history (Give (SIZE file)) found pass
@@ -306,37 +307,37 @@ lock_gives sizes pass (SIZE file) found number history GiveSize at pages held ma
     some : 1 ≤ times (SIZE file) pass.owned
     some = (let a = held (SIZE file) (λ slot. differ (SIZE file) (ENTRY slot) refl) in let b = when_true (file == file_of pass.call) (one_if pass.sized) 0 mine in let c : one_if pass.sized ≡ 1 = when_true pass.sized 1 0 at in omega (arith, a, b, c))
 
-    owed : (other : Word) → lock_held sizes pass GiveSize other ≡ one_if (same other (SIZE file)) + lock_held sizes (stepped sizes number history (Give (SIZE file)) found pass) (GivePage (first_page sizes pass.call)) other
+    owed : (other : Word) → lock_held sizes pass GiveSize other ≡ one_if (same other (SIZE file)) + lock_held sizes (stepped sizes number history (Give (SIZE file)) found pass) (GivePage 0) other
     owed (SIZE other) = subst (λ f. (if other == file_of pass.call then one_if pass.sized else 0) ≡ one_if (other == f) + (if other == file_of pass.call then 0 else 0)) (sym may) (choice (other == file_of pass.call))
       where
         choice : (b : Bool) → (if b then one_if pass.sized else 0) ≡ one_if b + (if b then 0 else 0)
         choice true = when_true pass.sized 1 0 at
         choice false = refl
-    owed (PAGE page) = sym (end_whole sizes pass.call pass.pages page) ∙ no_more _
+    owed (PAGE page) = sym (count_whole pass.pages page) ∙ no_more _
     owed (STORE other) = no_more _
     owed other = refl
 lock_gives sizes pass (PAGE page) found number history (GivePage next) at pages held may =
-    if_both (HoldsLocks sizes now) (next + 1 == end_page sizes pass.call) Idle (GivePage (next + 1))
-    (λ last. given sizes pass now (GivePage next) Idle (PAGE page) refl some (owed Idle (λ p. less p ∙ ap (λ n. one_if (p == next) + n) (none p last)) refl (λ f. refl) (λ p. refl) refl refl) held)
+    if_both (HoldsLocks sizes now) (next + 1 == page_count sizes pass.call) Idle (GivePage (next + 1))
+    (λ last. given sizes pass now (GivePage next) Idle (PAGE page) refl some (owed Idle (λ p. less p ∙ ap (λ n. one_if (p == slice_index pass.pages next) + n) (none p last)) refl (λ f. refl) (λ p. refl) refl refl) held)
     (λ _. given sizes pass now (GivePage next) (GivePage (next + 1)) (PAGE page) refl some (owed (GivePage (next + 1)) less refl (λ f. refl) (λ p. refl) refl refl) held)
   where
     now : Pass
     now = stepped sizes number history (Give (PAGE page)) found pass
 
-    less : (p : ℕ) → count_in (drop (nth_of sizes pass.call next) pass.pages) p ≡ one_if (p == next) + count_in (drop (nth_of sizes pass.call (next + 1)) pass.pages) p
+    less : (p : ℕ) → count_in (drop next pass.pages) p ≡ one_if (p == slice_index pass.pages next) + count_in (drop (next + 1) pass.pages) p
     less p = end_less sizes pass.call pass.pages pages next p at
 
-    none : (p : ℕ) → (next + 1 == end_page sizes pass.call) ≡ true → count_in (drop (nth_of sizes pass.call (next + 1)) pass.pages) p ≡ 0
-    none p last = end_none sizes pass.call pass.pages pages (next + 1) p (eqb-true (next + 1) (end_page sizes pass.call) last)
+    none : (p : ℕ) → (next + 1 == page_count sizes pass.call) ≡ true → count_in (drop (next + 1) pass.pages) p ≡ 0
+    none p last = end_none sizes pass.call pass.pages pages (next + 1) p (eqb-true (next + 1) (page_count sizes pass.call) last)
 
     some : 1 ≤ times (PAGE page) pass.owned
     some = subst (λ p. 1 ≤ times (PAGE p) pass.owned) (sym may)
-        (let a = held (PAGE next) (λ slot. differ (PAGE next) (ENTRY slot) refl) in let b = less next in let c : one_if (next == next) ≡ 1 = when_true (next == next) 1 0 (eq-eqb next next refl) in omega (arith, a, b, c))
+        (let own = slice_index pass.pages next in let a = held (PAGE own) (λ slot. differ (PAGE own) (ENTRY slot) refl) in let b = less own in let c : one_if (own == own) ≡ 1 = when_true (own == own) 1 0 (eq-eqb own own refl) in omega (arith, a, b, c))
 
-    owed : (control : Control) → ((p : ℕ) → count_in (drop (nth_of sizes pass.call next) pass.pages) p ≡ one_if (p == next) + page_held sizes (stepped sizes number history (Give (PAGE page)) found pass) control p)
+    owed : (control : Control) → ((p : ℕ) → count_in (drop next pass.pages) p ≡ one_if (p == slice_index pass.pages next) + page_held sizes (stepped sizes number history (Give (PAGE page)) found pass) control p)
         → size_held (stepped sizes number history (Give (PAGE page)) found pass) control ≡ 0 → ((f : ℕ) → (if f == file_of pass.call then 0 else 0) ≡ store_times (stepped sizes number history (Give (PAGE page)) found pass) control f) → ((p : ℕ) → cleanup_held pass.pages control p ≡ 0) → 0 ≡ cleaner_held control → 0 ≡ header_held control
         → (other : Word) → lock_held sizes pass (GivePage next) other ≡ one_if (same other (PAGE page)) + lock_held sizes (stepped sizes number history (Give (PAGE page)) found pass) control other
-    owed control pages size store clean cleaner header (PAGE p) = subst (λ q. count_in (drop (nth_of sizes pass.call next) pass.pages) p ≡ one_if (p == q) + page_held sizes (stepped sizes number history (Give (PAGE page)) found pass) control p) (sym may) (pages p)
+    owed control pages size store clean cleaner header (PAGE p) = subst (λ q. count_in (drop next pass.pages) p ≡ one_if (p == q) + page_held sizes (stepped sizes number history (Give (PAGE page)) found pass) control p) (sym may) (pages p)
     owed control pages size store clean cleaner header (SIZE file) = ap (λ n. if file == file_of pass.call then n else 0) (sym size) ∙ no_more _
     owed control pages size store clean cleaner header (STORE file) = store file ∙ no_more _
     owed control pages size store clean cleaner header (CLEANUP p) = sym (clean p) ∙ no_more _
@@ -446,9 +447,8 @@ lock_steps sizes values pass (Seize next) found number history of_call stands he
     let full = entry_taken sizes pass now LoadStop (slot_of_entry sizes next) refl (at_control sizes pass (SeizeEntry next) may held) in
     if_both (HoldsLocks sizes now) (next + 1 == pass.first + pass.entries) (CommitGroup 0) (SeizeEntry (next + 1)) (λ _. full) (λ _. full)
 lock_steps sizes values pass (Pledge page) found number history of_call stands held may =
-    let full = at_control sizes pass (PledgePage page) may held in
-    if_both (HoldsLocks sizes (stepped sizes number history (Pledge page) found pass)) (page + 1 == end_page sizes pass.call)
-    (ReadyEntry (if pass.entries == 1 then pass.first else pass.first + 1)) (PledgePage (page + 1)) (λ _. full) (λ _. full)
+    let full = at_control sizes pass (PledgePage may.0) may.1 held in
+    pledged_next (HoldsLocks sizes (stepped sizes number history (Pledge page) found pass)) sizes pass may.0 may.1 (λ _. full) (λ _. full)
 lock_steps sizes values pass (Ready next) found number history of_call stands held may =
     let now = stepped sizes number history (Ready next) found pass in
     let full = entry_given sizes pass now LoadStop (slot_of_entry sizes next) refl (at_control sizes pass (ReadyEntry next) may held) in

@@ -5,17 +5,17 @@ use Rattle.nv_plain.specs.Histories.{Answered}
 use Rattle.nv_plain.specs.declared.call.FileCall.{FileCall}
 use Rattle.nv_core.specs.state.Words.{Sizes, Word, SIZE, STORE, ENTRY, slot_of_entry}
 use Rattle.nv_core.specs.state.Values.{CallEnding, Made, Failed, Refused}
-use Rattle.nv_core.specs.state.Passes.{Control, Idle, TakePage, LoadStop, ReadStore, DrawNumbers, SeizeEntry, CommitGroup, PledgePage, ReadyEntry, TakePlace, SetStopAfterRead, SetStopAfterCommit, BreakEntry, Pass, IsFilling, IsAllowed, IsAmong, file_of, page_count, first_page, end_page, without, times, HoldEntry, ReadPiece, ReturnEntry, SetStopAfterPiece, IsHeldEntry, Cleaning, IsHeldByCleaner, plain_call}
+use Rattle.nv_core.specs.state.Passes.{Control, Idle, TakePage, LoadStop, ReadStore, DrawNumbers, SeizeEntry, CommitGroup, PledgePage, ReadyEntry, TakePlace, SetStopAfterRead, SetStopAfterCommit, BreakEntry, Pass, IsFilling, IsAllowed, IsAmong, file_of, page_count, first_page, without, times, HoldEntry, ReadPiece, ReturnEntry, SetStopAfterPiece, IsHeldEntry, Cleaning, IsHeldByCleaner, plain_call}
 use Rattle.nv_core.specs.state.Cleaner.{Batch, CleanerControl}
 use Rattle.nv_core.specs.steps.Ops.{Op, moved, move_of, Load, Take, Give, Place, Stop, Draw, Seize, Pledge, Ready, Grow, Break, Turn, Hint, Hold, Return, ByCleaner}
-use Rattle.nv_core.specs.steps.ControlSteps.{control_after, after_stop, leaving, scanning, after_hold, after_return}
+use Rattle.nv_core.specs.steps.ControlSteps.{control_after, after_stop, leaving, scanning, after_hold, after_return, after_pledge}
 use Rattle.nv_core.specs.steps.PassSteps.{stepped, begun, first_after, entries_after}
 use Rattle.nv_core.specs.steps.Order.{Values, Work, CallEnabled, CallDue, commit_steps, IsFailing}
 use Rattle.nv_core.specs.steps.StepKinds.{EnabledByKind}
 use Rattle.nv_core.specs.state.Core.{worked, control_worked}
-use Rattle.nv_core.specs.invariant.ControlFacts.{IsPage, HasDrawn, FactsAt, ControlFacts, has_call}
+use Rattle.nv_core.specs.invariant.ControlFacts.{HasDrawn, FactsAt, ControlFacts, has_call}
 use Rattle.nv_core.specs.invariant.Ownership.{lock_held, HoldsLocks, Ownership}
-use Rattle.nv_core.proofs.state.Choices.{if_both, when_true, not_both, busy}
+use Rattle.nv_core.proofs.state.Choices.{if_both, when_true, not_both, busy, pledged_next}
 use Rattle.nv_core.proofs.invariant.ClearLaws.{IsClear, clear_filling, entry_stays, IsBare, IsStill, bare_clear, bare_held, bare_leaving, bare_scanning, bare_from, bare_to}
 use Rattle.nv_core.proofs.state.SlotLaws.{apart, Entries, entries_same, entries_more, entries_less}
 use Rattle.nv_core.proofs.invariant.OwnershipLaws.{IsOfCall, lock_steps}
@@ -163,10 +163,10 @@ breaks sizes pass next after clear few at held =
     (λ n is. elim (cases_eq n next) [ inl same ↦ inl same | inr ne ↦ inr (let x = is.0 in (omega (arith, x, ne), is.1)) ]) (omega arith, at.1)
     (λ n is. let x = is.0 in let y = is.1 in let f = at.0 in ((omega (arith, x), y), apart_in sizes pass.first pass.entries n next few (omega (arith, x, f), y) at (λ same. omega (arith, x, same)))) held)
 
-pledges : (sizes : Sizes) (pass : Pass) (page : ℕ) → 1 ≤ pass.entries → InOwned sizes (PledgePage page) pass.first pass.entries pass.owned
-    → InOwned sizes (if page + 1 == end_page sizes pass.call then ReadyEntry (if pass.entries == 1 then pass.first else pass.first + 1) else PledgePage (page + 1)) pass.first pass.entries pass.owned
-pledges sizes pass page some held =
-    if_both (λ s. InOwned sizes s pass.first pass.entries pass.owned) (page + 1 == end_page sizes pass.call) (ReadyEntry (if pass.entries == 1 then pass.first else pass.first + 1)) (PledgePage (page + 1))
+pledges : (sizes : Sizes) (pass : Pass) (place : ℕ) → pass.control ≡ PledgePage place → 1 ≤ pass.entries → InOwned sizes (PledgePage place) pass.first pass.entries pass.owned
+    → InOwned sizes (after_pledge sizes pass pass.control) pass.first pass.entries pass.owned
+pledges sizes pass place at some held =
+    pledged_next (λ s. InOwned sizes s pass.first pass.entries pass.owned) sizes pass place at
     (λ _. if_both (λ m. InOwned sizes (ReadyEntry m) pass.first pass.entries pass.owned) (pass.entries == 1) pass.first (pass.first + 1)
     (λ e. let one = eqb-true pass.entries 1 e in
     entries_same sizes (IsAmong pass.first pass.entries) (IsFilling (ReadyEntry pass.first) pass.first pass.entries) pass.owned pass.owned
@@ -211,8 +211,8 @@ entry_steps sizes values pass (Seize next) found of_call stands may held =
     let at : HasDrawn sizes pass.call pass.entries × IsAmong pass.first pass.entries next = subst (FactsAt sizes pass) may stands.at in
     seizes sizes pass next (few_entries sizes pass.call pass.entries at.0 (stands.allowed (busy _ _ may refl))) at.1 (at_control sizes pass (SeizeEntry next) may held)
 entry_steps sizes values pass (Pledge page) found of_call stands may held =
-    let at : HasDrawn sizes pass.call pass.entries × IsPage sizes pass.call page = subst (FactsAt sizes pass) may stands.at in
-    pledges sizes pass page at.0.some (at_control sizes pass (PledgePage page) may held)
+    let at : HasDrawn sizes pass.call pass.entries × (may.0 < page_count sizes pass.call) = subst (FactsAt sizes pass) may.1 stands.at in
+    pledges sizes pass may.0 may.1 at.0.some (at_control sizes pass (PledgePage may.0) may.1 held)
 entry_steps sizes values pass (Ready next) found of_call stands may held =
     let at : HasDrawn sizes pass.call pass.entries × IsAmong pass.first pass.entries next = subst (FactsAt sizes pass) may stands.at in
     readies sizes pass next (few_entries sizes pass.call pass.entries at.0 (stands.allowed (busy _ _ may refl))) at.1 (at_control sizes pass (ReadyEntry next) may held)
@@ -281,7 +281,7 @@ pub ownership_works : (sizes : Sizes) (values : Values) (pass : Pass) (work : Wo
 ownership_works sizes values pass work ownership may cleaners = go pass.control refl
   where
     lock_works : (control : Control) (how : CallEnding) → has_call control ≡ true → CallDue sizes values pass work control → HoldsLocks sizes pass control → HoldsLocks sizes (worked sizes work pass) (control_worked sizes pass how control)
-    lock_works (CommitGroup calls) Made has due held = if_both (HoldsLocks sizes (worked sizes work pass)) (calls + 1 == length (commit_steps sizes pass pass.call)) (PledgePage (first_page sizes pass.call)) (CommitGroup (calls + 1)) (λ _. held) (λ _. held)
+    lock_works (CommitGroup calls) Made has due held = if_both (HoldsLocks sizes (worked sizes work pass)) (calls + 1 == length (commit_steps sizes pass pass.call)) (PledgePage 0) (CommitGroup (calls + 1)) (λ _. held) (λ _. held)
     lock_works (CommitGroup calls) (Failed came faults) has due held = held
     lock_works (ReadStore page dirty) Made has due held = held
     lock_works (ReadStore page dirty) (Failed came faults) has due held = held
@@ -294,7 +294,7 @@ ownership_works sizes values pass work ownership may cleaners = go pass.control 
     lock_works control how has due held = absurd due
 
     entry_works : (control : Control) (how : CallEnding) → has_call control ≡ true → CallDue sizes values pass work control → InOwned sizes control pass.first pass.entries pass.owned → InOwned sizes (control_worked sizes pass how control) pass.first pass.entries pass.owned
-    entry_works (CommitGroup calls) Made has due held = if_both (λ s. InOwned sizes s pass.first pass.entries pass.owned) (calls + 1 == length (commit_steps sizes pass pass.call)) (PledgePage (first_page sizes pass.call)) (CommitGroup (calls + 1)) (λ _. held) (λ _. held)
+    entry_works (CommitGroup calls) Made has due held = if_both (λ s. InOwned sizes s pass.first pass.entries pass.owned) (calls + 1 == length (commit_steps sizes pass pass.call)) (PledgePage 0) (CommitGroup (calls + 1)) (λ _. held) (λ _. held)
     entry_works (CommitGroup calls) (Failed came faults) has due held = held
     entry_works (ReadStore page dirty) Made has due held = held
     entry_works (ReadStore page dirty) (Failed came faults) has due held = held

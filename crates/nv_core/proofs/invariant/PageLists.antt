@@ -153,43 +153,26 @@ module _ (sizes : Sizes) (call : FileCall) (pages : List ℕ) (all : pages ≡ p
   pub pages_once : (page : ℕ) → IsPage sizes call page → count_in pages page ≡ 1
   pages_once page is = pages_among page ∙ among_in (first_page sizes call) (end_page sizes call) page is.0 is.1
 
-  pub nth_page : (page : ℕ) → IsPage sizes call page → slice_index pages (nth_of sizes call page) ≡ page
-  nth_page page is =
-      let at = row_at (first_page sizes call) (page_count sizes call) (nth_of sizes call page) (let low = is.0 in let high = is.1 in omega (arith, low, high)) in
-      let same : slice_index pages (nth_of sizes call page) ≡ slice_index (pages_of sizes call) (nth_of sizes call page) = ap (λ l. slice_index l (nth_of sizes call page)) all in
-      same ∙ at ∙ (let low = is.0 in omega (arith, low))
+  -- the page at a place is one of the call's
+  pub page_at_place : (place : ℕ) → place < page_count sizes call → slice_index pages place ≡ first_page sizes call + place
+  page_at_place place less = ap (λ l. slice_index l place) all ∙ row_at (first_page sizes call) (page_count sizes call) place less
 
-  nth_below : (page : ℕ) → IsPage sizes call page → nth_of sizes call page < length pages
-  nth_below page is = let many = pages_many in let low = is.0 in let high = is.1 in omega (arith, many, low, high)
+  pub place_among : (place : ℕ) → place < page_count sizes call → IsPage sizes call (slice_index pages place)
+  place_among place less = let e = page_at_place place less in (omega (arith, e), omega (arith, e, less))
 
-  -- the front up to a page, and with it; the end from a page on, and behind it
-  pub front_more : (next page : ℕ) → IsPage sizes call next → count_in (take (nth_of sizes call (next + 1)) pages) page ≡ one_if (page == next) + count_in (take (nth_of sizes call next) pages) page
-  front_more next page is =
-      let low = is.0 in
-      ap (λ n. count_in (take n pages) page) (let n : nth_of sizes call (next + 1) ≡ nth_of sizes call next + 1 = omega (arith, low) in n)
-      ∙ count_take pages (nth_of sizes call next) page (nth_below next is)
-      ∙ ap (λ p. one_if (page == p) + count_in (take (nth_of sizes call next) pages) page) (nth_page next is)
+  -- the front up to a place, and with it; the end from a place on, and behind it
+  pub front_more : (place page : ℕ) → place < page_count sizes call → count_in (take (place + 1) pages) page ≡ one_if (page == slice_index pages place) + count_in (take place pages) page
+  front_more place page less = count_take pages place page (let many = pages_many in omega (arith, many, less))
 
-  pub end_less : (next page : ℕ) → IsPage sizes call next → count_in (drop (nth_of sizes call next) pages) page ≡ one_if (page == next) + count_in (drop (nth_of sizes call (next + 1)) pages) page
-  end_less next page is =
-      let low = is.0 in
-      count_drop pages (nth_of sizes call next) page (nth_below next is)
-      ∙ ap (λ p. one_if (page == p) + count_in (drop (nth_of sizes call next + 1) pages) page) (nth_page next is)
-      ∙ ap (λ n. one_if (page == next) + count_in (drop n pages) page) (let n : nth_of sizes call next + 1 ≡ nth_of sizes call (next + 1) = omega (arith, low) in n)
+  pub end_less : (place page : ℕ) → place < page_count sizes call → count_in (drop place pages) page ≡ one_if (page == slice_index pages place) + count_in (drop (place + 1) pages) page
+  end_less place page less = count_drop pages place page (let many = pages_many in omega (arith, many, less))
 
   -- behind the last page there is none, and up to it are all
-  pub end_none : (next page : ℕ) → next ≡ end_page sizes call → count_in (drop (nth_of sizes call next) pages) page ≡ 0
-  end_none next page last = count_none pages (nth_of sizes call next) page (let many = pages_many in omega (arith, many, last))
+  pub end_none : (place page : ℕ) → place ≡ page_count sizes call → count_in (drop place pages) page ≡ 0
+  end_none place page last = count_none pages place page (let many = pages_many in omega (arith, many, last))
 
-  pub front_all : (next page : ℕ) → next ≡ end_page sizes call → count_in (take (nth_of sizes call next) pages) page ≡ count_in pages page
-  front_all next page last = count_all pages (nth_of sizes call next) page (let many = pages_many in omega (arith, many, last))
-
--- from the first page on are all, and before it is none
-pub end_whole : (sizes : Sizes) (call : FileCall) (pages : List ℕ) (page : ℕ) → count_in (drop (nth_of sizes call (first_page sizes call)) pages) page ≡ count_in pages page
-end_whole sizes call pages page = ap (λ n. count_in (drop n pages) page) (let n : nth_of sizes call (first_page sizes call) ≡ 0 = omega arith in n) ∙ count_whole pages page
-
-pub front_none : (sizes : Sizes) (call : FileCall) (pages : List ℕ) (page : ℕ) → count_in (take (nth_of sizes call (first_page sizes call)) pages) page ≡ 0
-front_none sizes call pages page = ap (λ n. count_in (take n pages) page) (let n : nth_of sizes call (first_page sizes call) ≡ 0 = omega arith in n) ∙ count_nothing pages page
+  pub front_all : (place page : ℕ) → place ≡ page_count sizes call → count_in (take place pages) page ≡ count_in pages page
+  front_all place page last = count_all pages place page (let many = pages_many in omega (arith, many, last))
 
 -- a page is none of those before it
 pub front_apart : (sizes : Sizes) (call : FileCall) (pages : List ℕ) (page : ℕ) → pages ≡ first_pages sizes call (nth_of sizes call page) → first_page sizes call ≤ page → count_in pages page ≡ 0

@@ -13,7 +13,7 @@ use Rattle.nv_core.specs.steps.Order.{Values, Work, CallDue, IsFailing, commit_s
 use Rattle.nv_core.specs.steps.StepKinds.{MayLoad, MayTake, MayPlace, IsSeeking, EnabledByKind}
 use Rattle.nv_core.specs.state.Core.{control_worked, worked}
 use Rattle.nv_core.specs.invariant.ControlFacts.{IsPage, FactsAt, PagesAt}
-use Rattle.nv_core.proofs.state.Choices.{IsGivingBack, gives_back, if_both, when_true, when_false, leaving_both}
+use Rattle.nv_core.proofs.state.Choices.{IsGivingBack, gives_back, if_both, when_true, when_false, leaving_both, pledged_next}
 use Rattle.nv_core.proofs.steps.SearchLaws.{looked_at, turned_at, hinting_next, tried_next}
 use Rattle.nv_core.proofs.steps.CleanerControls.{tended_to, of_cleaner_worked}
 use Rattle.nv_core.proofs.invariant.PageLists.{row_more}
@@ -38,7 +38,7 @@ off_leaving : (owned : List Word) → IsOff (leaving owned)
 off_leaving owned = leaving_both IsOff owned (λ _. tt) (λ _. tt)
 
 off_giving : (sizes : Sizes) (call : FileCall) → IsOff (giving sizes call)
-off_giving sizes call = if_both IsOff (page_count sizes call == 0) Idle (GivePage (first_page sizes call)) (λ _. tt) (λ _. tt)
+off_giving sizes call = if_both IsOff (page_count sizes call == 0) Idle (GivePage 0) (λ _. tt) (λ _. tt)
 
 off_ending : (sizes : Sizes) (pass : Pass) → IsOff (ending sizes pass)
 off_ending sizes pass = if_both IsOff pass.sized GiveSize (giving sizes pass.call) (λ _. tt) (λ _. off_giving sizes pass.call)
@@ -141,7 +141,7 @@ pages_give : (sizes : Sizes) (pass : Pass) (cell : Word) (found number : ℕ) (h
 pages_give sizes pass cell found number history GiveBack pages may = leaving_both (PagesAt sizes (stepped sizes number history (Give cell) found pass)) (without cell pass.owned) (λ _. tt) (λ _. pages)
 pages_give sizes pass cell found number history GiveSize pages may = all_pages sizes (stepped sizes number history (Give cell) found pass) (giving sizes pass.call) (off_giving sizes pass.call) pages
 pages_give sizes pass cell found number history (GivePage page) pages may =
-    if_both (PagesAt sizes (stepped sizes number history (Give cell) found pass)) (page + 1 == end_page sizes pass.call) Idle (GivePage (page + 1)) (λ _. tt) (λ _. pages)
+    if_both (PagesAt sizes (stepped sizes number history (Give cell) found pass)) (page + 1 == page_count sizes pass.call) Idle (GivePage (page + 1)) (λ _. tt) (λ _. pages)
 pages_give sizes pass cell found number history (GiveStore page dirty) pages may =
     if_both (PagesAt sizes (stepped sizes number history (Give cell) found pass)) dirty (ReadLoadHead page) (VisitPage (page + 1)) (λ _. pages) (λ _. pages)
 pages_give sizes pass cell found number history (GiveCleanup page) pages may = pages
@@ -179,7 +179,7 @@ pages_steps sizes values pass (Seize next) found number history stands pages may
     (if_both IsOff (next + 1 == pass.first + pass.entries) (CommitGroup 0) (SeizeEntry (next + 1)) (λ _. tt) (λ _. tt)) (subst (PagesAt sizes pass) may pages)
 pages_steps sizes values pass (Pledge page) found number history stands pages may =
     all_pages sizes (stepped sizes number history (Pledge page) found pass) (control_after sizes pass (Pledge page) found)
-    (if_both IsOff (page + 1 == end_page sizes pass.call) (ReadyEntry (if pass.entries == 1 then pass.first else pass.first + 1)) (PledgePage (page + 1)) (λ _. tt) (λ _. tt)) (subst (PagesAt sizes pass) may pages)
+    (pledged_next IsOff sizes pass may.0 may.1 (λ _. tt) (λ _. tt)) (subst (PagesAt sizes pass) may.1 pages)
 pages_steps sizes values pass (Ready next) found number history stands pages may =
     all_pages sizes (stepped sizes number history (Ready next) found pass) (control_after sizes pass (Ready next) found)
     (if_both IsOff (next == pass.first) TakePlace (ReadyEntry (if next + 1 == pass.first + pass.entries then pass.first else next + 1)) (λ _. tt) (λ _. tt)) (subst (PagesAt sizes pass) may pages)
@@ -212,7 +212,7 @@ pages_begin sizes call pass = if_both (PagesAt sizes (begun sizes call pass)) (p
 pub pages_work : (sizes : Sizes) (values : Values) (pass : Pass) (work : Work) (control : Control) (how : CallEnding) → PagesAt sizes pass control → CallDue sizes values pass work control
     → PagesAt sizes (worked sizes work pass) (control_worked sizes pass how control)
 pages_work sizes values pass work (CommitGroup calls) Made pages due =
-    if_both (PagesAt sizes (worked sizes work pass)) (calls + 1 == length (commit_steps sizes pass pass.call)) (PledgePage (first_page sizes pass.call)) (CommitGroup (calls + 1)) (λ _. pages) (λ _. pages)
+    if_both (PagesAt sizes (worked sizes work pass)) (calls + 1 == length (commit_steps sizes pass pass.call)) (PledgePage 0) (CommitGroup (calls + 1)) (λ _. pages) (λ _. pages)
 pages_work sizes values pass work (CommitGroup calls) (Failed came faults) pages due = pages
 pages_work sizes values pass work (CommitGroup calls) Refused pages due = pages
 pages_work sizes values pass work (ReadStore page dirty) Made pages due = pages

@@ -1,5 +1,5 @@
 -- Shapes: each cell keeps a value of the shape that it had at opening, and what a read has fetched of a page that it patches has at least a page.
-use Rattle.std.proofs.Common.{◌≡◌, ℕ, ◌+◌, ◌%◌, ◌≤◌, ◌==◌, false, if◌then◌else◌, List, [], ◌∷◌, length, refl, sym, ap, subst, ◌∙◌, arith, le_trans}
+use Rattle.std.proofs.Common.{◌≡◌, ℕ, ◌+◌, ◌%◌, ◌≤◌, ◌==◌, false, List, [], ◌∷◌, length, refl, sym, ap, subst, ◌∙◌, arith, le_trans}
 use Rattle.std.specs.Prelude.{Option, Some, None}
 use Rattle.nv_plain.specs.Files.{bytes_at, overwritten}
 use Rattle.nv_plain.specs.declared.call.FileCall.{FileCall}
@@ -8,7 +8,7 @@ use Rattle.nv_plain.proofs.FileLemmas.{length-padded, length-overwritten_grows}
 use Rattle.nv_store.specs.Store.{Store}
 use Rattle.nv_core.specs.state.Words.{Sizes, Word, PAGE}
 use Rattle.nv_core.specs.state.Values.{Value, Bare, APart, AStore, ABuffer, Buffer, Job, PageRead, CallEnding, Made, Failed, Refused, called, emptied, received, filled, patched}
-use Rattle.nv_core.specs.state.Passes.{Control, TakePage, LoadStop, ReadStore, ReadPiece, GiveStore, ReadLoadHead, ReadLoadTail, LoadEntry, HoldEntry, ReturnEntry, GiveCleanup, SetStopAfterPiece, GiveVictim, Searching, SeizeEntry, CommitGroup, PledgePage, ReadyEntry, Cleaning, Pass, page_count, first_page, end_page, fetched_bytes, plain_call}
+use Rattle.nv_core.specs.state.Passes.{Control, TakePage, LoadStop, ReadStore, ReadPiece, GiveStore, ReadLoadHead, ReadLoadTail, LoadEntry, HoldEntry, ReturnEntry, GiveCleanup, SetStopAfterPiece, GiveVictim, Searching, SeizeEntry, CommitGroup, PledgePage, Cleaning, Pass, page_count, first_page, fetched_bytes, plain_call}
 use Rattle.nv_core.specs.steps.Ops.{Op, Give, Draw, Seize, Pledge, Split, PutBack, Join, patched_by}
 use Rattle.nv_core.specs.steps.ControlSteps.{leaving}
 use Rattle.nv_core.specs.steps.PassSteps.{begun}
@@ -19,7 +19,7 @@ use Rattle.nv_core.proofs.steps.ByKind.{StepEnabledByKind, ActEnabledByKind, act
 use Rattle.nv_core.specs.steps.Opening.{opening}
 use Rattle.nv_core.specs.invariant.Shapes.{HasPageLength, HasShape, HaveShapes, CellsKeepShapes}
 use Rattle.nv_core.proofs.state.Changes.{by_word, by_number, number_self}
-use Rattle.nv_core.proofs.state.Choices.{if_both, when_true, leaving_both}
+use Rattle.nv_core.proofs.state.Choices.{if_both, when_true, leaving_both, pledged_next}
 use Rattle.nv_core.proofs.steps.CleanerControls.{of_cleaner_worked}
 use Rattle.nv_core.proofs.steps.ControlSteps.{piece_page, IsPlain, control_kept}
 
@@ -145,8 +145,7 @@ full_here sizes by core found Draw may is = if_both (λ s. LongFor sizes.page (c
 full_here sizes by core found (Seize number) may is =
     if_both (λ s. LongFor sizes.page (core.passes by).fetched (piece_page s)) (number + 1 == (core.passes by).first + (core.passes by).entries) (CommitGroup 0) (SeizeEntry (number + 1)) (λ _. tt) (λ _. tt)
 full_here sizes by core found (Pledge page) may is =
-    if_both (λ s. LongFor sizes.page (core.passes by).fetched (piece_page s)) (page + 1 == end_page sizes (core.passes by).call)
-    (ReadyEntry (if (core.passes by).entries == 1 then (core.passes by).first else (core.passes by).first + 1)) (PledgePage (page + 1)) (λ _. tt) (λ _. tt)
+    pledged_next (λ s. LongFor sizes.page (core.passes by).fetched (piece_page s)) sizes (core.passes by) may.0 may.1 (λ _. tt) (λ _. tt)
 full_here sizes by core found op may is =
     control_kept sizes core.values (core.passes by) (λ s. LongFor sizes.page (core.passes by).fetched (piece_page s)) (plain_full sizes.page (core.passes by).fetched)
     (λ page one other a b long. subst (LongFor sizes.page (core.passes by).fetched) (a ∙ sym b) long) found op tt may is
@@ -158,7 +157,7 @@ newest page bytes fetched = when_true (page == page) bytes (fetched_bytes fetche
 full_work : (sizes : Sizes) (values : Values) (pass : Pass) (work : Work) (how : CallEnding) (control : Control) → CallDue sizes values pass work control → LongFor sizes.page pass.fetched (piece_page control)
     → LongFor sizes.page (fetched_worked sizes pass work.job how control) (piece_page (control_worked sizes pass how control))
 full_work sizes values pass work Made (CommitGroup calls) due is =
-    if_both (λ s. LongFor sizes.page (fetched_worked sizes pass work.job Made (CommitGroup calls)) (piece_page s)) (calls + 1 == length (commit_steps sizes pass pass.call)) (PledgePage (first_page sizes pass.call)) (CommitGroup (calls + 1)) (λ _. tt) (λ _. tt)
+    if_both (λ s. LongFor sizes.page (fetched_worked sizes pass work.job Made (CommitGroup calls)) (piece_page s)) (calls + 1 == length (commit_steps sizes pass pass.call)) (PledgePage 0) (CommitGroup (calls + 1)) (λ _. tt) (λ _. tt)
 full_work sizes values pass work (Failed came faults) (CommitGroup calls) due is = tt
 full_work sizes values pass work Refused (CommitGroup calls) due is = tt
 full_work sizes values pass work Made (ReadStore page dirty) due is =

@@ -8,7 +8,7 @@ use Rattle.nv_core.specs.state.Words.{Sizes, Word, STOP, ORDER, HEAD, TAIL, LENG
 use Rattle.nv_core.specs.state.Values.{CallEnding, Made, Failed, Refused}
 use Rattle.nv_core.specs.state.Cleaner.{CleanerOp, MoveTail}
 use Rattle.nv_core.specs.invariant.CleanerNumbers.{IsFreed}
-use Rattle.nv_core.specs.state.Passes.{Control, Cleaning, Idle, TakePage, LoadLength, TakeSize, LoadStop, LoadOrder, VisitPage, WriteLoadHead, WriteLoadTail, DrawNumbers, TakeStore, TakeCleanup, ReadStore, SeizeEntry, CommitGroup, PledgePage, ReadyEntry, TakePlace, GrowLength, GiveSize, GivePage, GiveBack, GiveStore, SetStopAfterRead, SetStopAfterCommit, BreakEntry, Pass, IsFilling, IsAmong, is_write, is_read, page_count, first_page, end_page, without, times, Searching, ReadLoadHead, LoadEntry, HoldEntry, ReadPiece, ReturnEntry, GiveCleanup, SetStopAfterPiece, plain_call}
+use Rattle.nv_core.specs.state.Passes.{Control, Cleaning, Idle, TakePage, LoadLength, TakeSize, LoadStop, LoadOrder, VisitPage, WriteLoadHead, WriteLoadTail, DrawNumbers, TakeStore, TakeCleanup, ReadStore, SeizeEntry, CommitGroup, PledgePage, ReadyEntry, TakePlace, GrowLength, GiveSize, GivePage, GiveBack, GiveStore, SetStopAfterRead, SetStopAfterCommit, BreakEntry, Pass, IsFilling, IsAmong, is_write, is_read, page_count, first_page, without, times, Searching, ReadLoadHead, LoadEntry, HoldEntry, ReadPiece, ReturnEntry, GiveCleanup, SetStopAfterPiece, plain_call}
 use Rattle.nv_core.specs.steps.Ops.{Op, page_at, ready_word, Load, Take, Give, Place, Stop, Draw, Seize, Pledge, Ready, Grow, Break, Split, PutBack, Join, Turn, Hint, Hold, Return, ByCleaner, moved, cleaner_move}
 use Rattle.nv_core.specs.steps.ControlSteps.{control_after, after_load, after_give, after_stop, leaving, giving, ending, ordered, copying, exceeds, scanning, after_head, after_tail, after_look, after_hold, after_return}
 use Rattle.nv_core.specs.steps.PassSteps.{begun}
@@ -25,7 +25,7 @@ use Rattle.nv_core.specs.log.Pieces.{page_of_number}
 use Rattle.nv_core.specs.log.InFlight.{placed_stepped, IsFlying, IsWaiting, IsDrawn, InFlight}
 use Rattle.nv_core.specs.invariant.Sound.{Sound}
 use Rattle.nv_core.proofs.state.Changes.{by_number, number_here, number_else, word_here, word_else, differ}
-use Rattle.nv_core.proofs.state.Choices.{if_both, not_both, when_true, when_false, leaving_both, IsGivingBack, gives_back, page_tried}
+use Rattle.nv_core.proofs.state.Choices.{if_both, not_both, when_true, when_false, leaving_both, IsGivingBack, gives_back, page_tried, pledged_next}
 use Rattle.nv_core.proofs.invariant.LockLaws.{only_holder}
 use Rattle.nv_core.proofs.steps.WordLaws.{untouched, touches}
 use Rattle.nv_core.proofs.invariant.KeepsLocks.{ready_is}
@@ -43,7 +43,7 @@ pub not_leaving : (pass : Pass) (owned : List Word) → IsFlying pass (leaving o
 not_leaving pass owned = leaving_both (λ s. IsFlying pass s → ⊥) owned (λ _ z. z) (λ _ z. z)
 
 pub not_giving : (sizes : Sizes) (pass : Pass) (call : FileCall) → IsFlying pass (giving sizes call) → ⊥
-not_giving sizes pass call = if_both (λ s. IsFlying pass s → ⊥) (page_count sizes call == 0) Idle (GivePage (first_page sizes call)) (λ _ z. z) (λ _ z. z)
+not_giving sizes pass call = if_both (λ s. IsFlying pass s → ⊥) (page_count sizes call == 0) Idle (GivePage 0) (λ _ z. z) (λ _ z. z)
 
 pub not_ending : (sizes : Sizes) (pass one : Pass) → IsFlying pass (ending sizes one) → ⊥
 not_ending sizes pass one = if_both (λ s. IsFlying pass s → ⊥) one.sized GiveSize (giving sizes one.call) (λ _ z. z) (λ _. not_giving sizes pass one.call)
@@ -89,7 +89,7 @@ not_taken sizes pass cell found may = absurd may
 pub not_given : (sizes : Sizes) (pass : Pass) (cell : Word) (control : Control) → IsGivingBack control → IsFlying pass (after_give sizes pass cell control) → ⊥
 not_given sizes pass cell GiveBack may = not_leaving pass (without cell pass.owned)
 not_given sizes pass cell GiveSize may = not_giving sizes pass pass.call
-not_given sizes pass cell (GivePage page) may = if_both (λ s. IsFlying pass s → ⊥) (page + 1 == end_page sizes pass.call) Idle (GivePage (page + 1)) (λ _ z. z) (λ _ z. z)
+not_given sizes pass cell (GivePage page) may = if_both (λ s. IsFlying pass s → ⊥) (page + 1 == page_count sizes pass.call) Idle (GivePage (page + 1)) (λ _ z. z) (λ _ z. z)
 not_given sizes pass cell (GiveStore page dirty) may = if_both (λ s. IsFlying pass s → ⊥) dirty (ReadLoadHead page) (VisitPage (page + 1)) (λ _ z. z) (λ _ z. z)
 not_given sizes pass cell (GiveCleanup page) may = λ z. z
 not_given sizes pass cell (Searching page tries search) may = λ z. z
@@ -119,7 +119,7 @@ flew sizes values pass found Stop ne may is = absurd (stops pass.control may is)
     stops control may = absurd may
 flew sizes values pass found Draw ne may is = absurd (not_both refl ne)
 flew sizes values pass found (Seize next) ne may is = subst (IsFlying pass) (sym may) tt
-flew sizes values pass found (Pledge page) ne may is = subst (IsFlying pass) (sym may) tt
+flew sizes values pass found (Pledge page) ne may is = subst (IsFlying pass) (sym may.1) tt
 flew sizes values pass found (Ready next) ne may is = subst (IsFlying pass) (sym may) tt
 flew sizes values pass found (Break next) ne may is = absurd (if_both (λ s. IsFlying pass s → ⊥) (next + 1 == pass.first + pass.entries) (leaving (without (ENTRY (slot_of_entry sizes next)) pass.owned)) (BreakEntry (next + 1))
     (λ _. not_leaving pass (without (ENTRY (slot_of_entry sizes next)) pass.owned)) (λ _ z. z) is)
@@ -163,7 +163,7 @@ not_placing sizes values pass (Place reply) ne may = absurd (not_both refl ne)
 not_placing sizes values pass Stop ne may = λ e. subst IsFailing e may
 not_placing sizes values pass Draw ne may = elsewhere _ _ may refl
 not_placing sizes values pass (Seize next) ne may = elsewhere _ _ may refl
-not_placing sizes values pass (Pledge page) ne may = elsewhere _ _ may refl
+not_placing sizes values pass (Pledge page) ne may = elsewhere _ _ may.1 refl
 not_placing sizes values pass (Ready next) ne may = elsewhere _ _ may refl
 not_placing sizes values pass Grow ne may = elsewhere _ _ may refl
 not_placing sizes values pass (Break next) ne may = elsewhere _ _ may refl
@@ -556,8 +556,8 @@ flight_step sizes first log placed by core (Seize next) found sound groups fligh
     (λ is. (subst (IsFlying (core.passes by)) (sym may.may) tt, refl))
     (λ _. if_both (λ s. s ≡ TakePlace → ⊥) (next + 1 == (core.passes by).first + (core.passes by).entries) (CommitGroup 0) (SeizeEntry (next + 1)) (λ _. elsewhere _ _ refl refl) (λ _. elsewhere _ _ refl refl))
 flight_step sizes first log placed by core (Pledge page) found sound groups flight may = plain_flight sizes first log placed by core (Pledge page) found sound flight may (not_made (Pledge page) refl) refl refl refl refl may.may
-    (λ is. (subst (IsFlying (core.passes by)) (sym may.may) tt, refl))
-    (λ _. if_both (λ s. s ≡ TakePlace → ⊥) (page + 1 == end_page sizes (core.passes by).call) (ReadyEntry (if (core.passes by).entries == 1 then (core.passes by).first else (core.passes by).first + 1)) (PledgePage (page + 1)) (λ _. elsewhere _ _ refl refl) (λ _. elsewhere _ _ refl refl))
+    (λ is. (subst (IsFlying (core.passes by)) (sym may.may.1) tt, refl))
+    (λ _. pledged_next (λ s. s ≡ TakePlace → ⊥) sizes (core.passes by) may.may.0 may.may.1 (λ _. elsewhere _ _ refl refl) (λ _. elsewhere _ _ refl refl))
 flight_step sizes first log placed by core (Ready next) found sound groups flight may = ready_flight sizes first log placed by core found next sound groups flight may
 flight_step sizes first log placed by core (Turn page) found sound groups flight may = plain_flight sizes first log placed by core (Turn page) found sound flight may (not_made (Turn page) refl) refl refl refl refl may.may (λ is. absurd is) (λ is _. is)
 flight_step sizes first log placed by core (Hint buffer page) found sound groups flight may = plain_flight sizes first log placed by core (Hint buffer page) found sound flight may (not_made (Hint buffer page) refl) refl refl refl refl may.may (λ is. absurd is) (λ is _. is)
@@ -626,7 +626,7 @@ worked_flew sizes values pass one work (Cleaning batch inner) Refused due is = a
 worked_flew sizes values pass one work control how due is = absurd due
 
 pub worked_placing : (sizes : Sizes) (values : Values) (pass : Pass) (work : Work) (control : Control) (how : CallEnding) → CallDue sizes values pass work control → control_worked sizes pass how control ≡ TakePlace → ⊥
-worked_placing sizes values pass work (CommitGroup calls) Made due = if_both (λ s. s ≡ TakePlace → ⊥) (calls + 1 == length (commit_steps sizes pass pass.call)) (PledgePage (first_page sizes pass.call)) (CommitGroup (calls + 1)) (λ _. elsewhere _ _ refl refl) (λ _. elsewhere _ _ refl refl)
+worked_placing sizes values pass work (CommitGroup calls) Made due = if_both (λ s. s ≡ TakePlace → ⊥) (calls + 1 == length (commit_steps sizes pass pass.call)) (PledgePage 0) (CommitGroup (calls + 1)) (λ _. elsewhere _ _ refl refl) (λ _. elsewhere _ _ refl refl)
 worked_placing sizes values pass work (CommitGroup calls) (Failed came faults) due = elsewhere _ _ refl refl
 worked_placing sizes values pass work (CommitGroup calls) Refused due = elsewhere _ _ refl refl
 worked_placing sizes values pass work (ReadStore page dirty) Made due = elsewhere _ _ refl refl

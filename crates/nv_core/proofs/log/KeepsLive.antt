@@ -14,7 +14,7 @@ use Rattle.nv_core.proofs.content.MadeLaws.{made_now}
 use Rattle.nv_core.proofs.state.PlainCalls.{joined_elsewhere}
 use Rattle.nv_core.specs.state.Words.{Sizes, Word, HEAD, TAIL, STORE, ENTRY, kind_of, free, filling, ready, cleaned, broken, index, was_readied, slot_of_entry}
 use Rattle.nv_core.specs.state.Values.{Value, Bare, APart, AStore, ABuffer, Job, CallEnding, called}
-use Rattle.nv_core.specs.state.Passes.{Control, Idle, TakePage, LoadStop, VisitPage, SeizeEntry, CommitGroup, PledgePage, ReadyEntry, TakePlace, SetStopAfterRead, SetStopAfterPiece, SetStopAfterCommit, Pass, IsAmong, IsFilling, file_of, is_write, page_count, first_page, end_page, plain_call}
+use Rattle.nv_core.specs.state.Passes.{Control, Idle, TakePage, LoadStop, VisitPage, SeizeEntry, CommitGroup, ReadyEntry, TakePlace, SetStopAfterRead, SetStopAfterPiece, SetStopAfterCommit, Pass, IsAmong, IsFilling, file_of, is_write, page_count, first_page, plain_call}
 use Rattle.nv_core.specs.steps.Ops.{Op, page_at, ready_word, Load, Take, Give, Place, Stop, Draw, Seize, Pledge, Ready, Grow, Break, Turn, Hint, Hold, Return, ByCleaner, Split, PutBack, Join, moved, cleaner_move}
 use Rattle.nv_core.specs.steps.ControlSteps.{control_after, after_hold, after_return, leaving}
 use Rattle.nv_core.specs.steps.PassSteps.{added, begun, as_answered}
@@ -35,7 +35,7 @@ use Rattle.nv_core.specs.log.LivePieces.{rising, call_if, piece_write, piece_cal
 use Rattle.nv_core.specs.invariant.Sound.{Sound}
 use Rattle.nv_core.specs.content.PlainLaws.{PlainLaws}
 use Rattle.nv_core.proofs.state.Changes.{by_number, by_word, number_here, number_else, word_here, word_else, differ}
-use Rattle.nv_core.proofs.state.Choices.{if_both, when_true, when_false, busy, not_both, step_idle, unless_true, gives_back}
+use Rattle.nv_core.proofs.state.Choices.{if_both, when_true, when_false, busy, not_both, step_idle, unless_true, gives_back, pledged_next}
 use Rattle.nv_core.proofs.steps.WordLaws.{untouched}
 use Rattle.nv_core.proofs.invariant.KeepsLocks.{ready_is, kind_is}
 use Rattle.nv_core.proofs.invariant.WindowLaws.{apart_within}
@@ -115,7 +115,7 @@ unplaced_after sizes values pass found (Place reply) other may write e = not_pla
 unplaced_after sizes values pass found Stop other may write e = failing_flies pass pass.control may (flew sizes values pass found Stop refl may (subst (IsFlying pass) (sym e) write))
 unplaced_after sizes values pass found Draw other may write e = if_both (λ s. s ≡ TakePlace → ⊥) (found == pass.head) (SeizeEntry found) (leaving pass.owned) (λ _. elsewhere _ _ refl refl) (λ _ e. not_leaving pass pass.owned (subst (IsFlying pass) (sym e) write)) e
 unplaced_after sizes values pass found (Seize next) other may write e = if_both (λ s. s ≡ TakePlace → ⊥) (next + 1 == pass.first + pass.entries) (CommitGroup 0) (SeizeEntry (next + 1)) (λ _. elsewhere _ _ refl refl) (λ _. elsewhere _ _ refl refl) e
-unplaced_after sizes values pass found (Pledge page) other may write e = if_both (λ s. s ≡ TakePlace → ⊥) (page + 1 == end_page sizes pass.call) (ReadyEntry (if pass.entries == 1 then pass.first else pass.first + 1)) (PledgePage (page + 1)) (λ _. elsewhere _ _ refl refl) (λ _. elsewhere _ _ refl refl) e
+unplaced_after sizes values pass found (Pledge page) other may write e = pledged_next (λ s. s ≡ TakePlace → ⊥) sizes pass may.0 may.1 (λ _. elsewhere _ _ refl refl) (λ _. elsewhere _ _ refl refl) e
 unplaced_after sizes values pass found (Ready next) other may write e = if_both (λ s. s ≡ TakePlace → ⊥) (next == pass.first) TakePlace (ReadyEntry (if next + 1 == pass.first + pass.entries then pass.first else next + 1))
     (λ leads _. other next refl (eqb-true next pass.first leads)) (λ _. elsewhere _ _ refl refl) e
 unplaced_after sizes values pass found Grow other may write e = not_ending sizes pass pass (subst (IsFlying pass) (sym e) write)

@@ -4,7 +4,7 @@ use Rattle.std.proofs.lemmas.Bool.{eqb-true, eqb-false, cases_eq, cases_lt}
 use Rattle.nv_plain.specs.declared.call.FileCall.{FileCall}
 use Rattle.nv_core.specs.state.Words.{Sizes, Word, HEAD, TAIL, ENTRY, kind_of, free, filling, ready, held, cleaned, broken, index, was_readied, is_entry_of, slot_of_entry}
 use Rattle.nv_core.specs.state.Values.{CallEnding, Made, Failed, Refused}
-use Rattle.nv_core.specs.state.Passes.{Control, TakePage, LoadStop, ReadStore, SeizeEntry, CommitGroup, PledgePage, ReadyEntry, TakePlace, SetStopAfterRead, SetStopAfterCommit, BreakEntry, Pass, IsUnseized, IsFilling, IsAmong, page_count, first_page, end_page, without, SetStopAfterPiece, ReadPiece, Cleaning, plain_call}
+use Rattle.nv_core.specs.state.Passes.{Control, TakePage, LoadStop, ReadStore, SeizeEntry, CommitGroup, PledgePage, ReadyEntry, TakePlace, SetStopAfterRead, SetStopAfterCommit, BreakEntry, Pass, IsUnseized, IsFilling, IsAmong, page_count, first_page, without, SetStopAfterPiece, ReadPiece, Cleaning, plain_call}
 use Rattle.nv_core.specs.steps.Ops.{Op, page_at, ready_word, Load, Take, Give, Place, Stop, Draw, Seize, Pledge, Ready, Grow, Break, Split, PutBack, Join, Turn, Hint, Hold, Return, ByCleaner}
 use Rattle.nv_core.specs.steps.ControlSteps.{control_after, after_stop, leaving}
 use Rattle.nv_core.specs.steps.PassSteps.{begun}
@@ -24,7 +24,7 @@ use Rattle.nv_core.specs.log.Groups.{Group, Log, group_of, with_group, log_stepp
 use Rattle.nv_core.specs.log.Pieces.{word_of_number, IsReadied, Pieces, page_of_number}
 use Rattle.nv_core.specs.invariant.Sound.{Sound}
 use Rattle.nv_core.proofs.state.Changes.{by_number, by_word, word_here, word_else, differ}
-use Rattle.nv_core.proofs.state.Choices.{if_both, when_true, when_false, not_both}
+use Rattle.nv_core.proofs.state.Choices.{if_both, when_true, when_false, not_both, pledged_next}
 use Rattle.nv_core.proofs.invariant.ClearLaws.{IsClear, IsPlain, clear_to, clear_leaving}
 use Rattle.nv_core.proofs.steps.WordLaws.{untouched, touches}
 use Rattle.nv_core.proofs.invariant.KeepsLocks.{kind_is, ready_is, entry_is}
@@ -387,7 +387,7 @@ said_step sizes first log by core (Seize next) found sound groups pieces may =
     entry_step sizes log by core (Seize next) found (slot_of_entry sizes next) filling pieces refl (λ e. not_both e refl) (λ e. not_both (ap was_readied (sym old) ∙ e) refl)
     (λ n. if_both (λ s. IsReadied s (core.passes by).first (core.passes by).entries n → was_readied (entry_word_at sizes core n) ≡ true) (next + 1 == (core.passes by).first + (core.passes by).entries) (CommitGroup 0) (SeizeEntry (next + 1)) (λ _ z. absurd z) (λ _ z. absurd z))
 said_step sizes first log by core (Pledge page) found sound groups pieces may = plain_step sizes log by core (Pledge page) found pieces may refl refl (λ slot. refl)
-    (λ n. if_both (λ s. IsReadied s (core.passes by).first (core.passes by).entries n → was_readied (entry_word_at sizes core n) ≡ true) (page + 1 == end_page sizes (core.passes by).call) (ReadyEntry (if (core.passes by).entries == 1 then (core.passes by).first else (core.passes by).first + 1)) (PledgePage (page + 1))
+    (λ n. pledged_next (λ s. IsReadied s (core.passes by).first (core.passes by).entries n → was_readied (entry_word_at sizes core n) ≡ true) sizes (core.passes by) may.may.0 may.may.1
     (λ _ z. absurd (pledged_none (core.passes by).first (core.passes by).entries n z)) (λ _ z. absurd z))
 said_step sizes first log by core (Ready next) found sound groups pieces may = ready_step sizes first log by core found next sound groups pieces may
 said_step sizes first log by core (Break next) found sound groups pieces may =
@@ -529,7 +529,7 @@ pieces_begin sizes log by core call pieces may =
 
 worked_readied : (sizes : Sizes) (values : Values) (pass : Pass) (work : Work) (control : Control) (how : CallEnding) (from count n : ℕ) → CallDue sizes values pass work control → IsReadied (control_worked sizes pass how control) from count n → ⊥
 worked_readied sizes values one work (CommitGroup calls) Made from count n due =
-    if_both (λ s. IsReadied s from count n → ⊥) (calls + 1 == length (commit_steps sizes one one.call)) (PledgePage (first_page sizes one.call)) (CommitGroup (calls + 1)) (λ _ z. z) (λ _ z. z)
+    if_both (λ s. IsReadied s from count n → ⊥) (calls + 1 == length (commit_steps sizes one one.call)) (PledgePage 0) (CommitGroup (calls + 1)) (λ _ z. z) (λ _ z. z)
 worked_readied sizes values one work (CommitGroup calls) (Failed came faults) from count n due = λ z. z
 worked_readied sizes values one work (ReadStore page dirty) Made from count n due = λ z. z
 worked_readied sizes values one work (ReadStore page dirty) (Failed came faults) from count n due = λ z. z

@@ -11,7 +11,7 @@ use Rattle.nv_core.specs.state.Cleaner as cleaner
 use Rattle.nv_core.specs.steps.CleanerSteps.{next_cleaner_op, cleaner_word, after_cleaner_op, after_cleaner_work, withdrawing, discharging, retreating, each_next, rising_files, group_page, group_file, holds_store, new_batch}
 use Rattle.nv_core.specs.invariant.CleanerOwnership.{of_cleaner_cleanup}
 use Rattle.nv_core.specs.invariant.CleanerNumbers.{IsCleaned}
-use Rattle.nv_core.specs.state.Passes.{Control, Idle, TakePage, LoadStop, Cleaning, Pass, SeizeEntry, CommitGroup, PledgePage, ReadyEntry, TakePlace, BreakEntry, ReadStore, ReadPiece, SetStopAfterRead, SetStopAfterPiece, SetStopAfterCommit, IsUnseized, IsFilling, IsAmong, times, page_count, first_page, end_page, without, plain_call}
+use Rattle.nv_core.specs.state.Passes.{Control, Idle, TakePage, LoadStop, Cleaning, Pass, SeizeEntry, CommitGroup, PledgePage, ReadyEntry, TakePlace, BreakEntry, ReadStore, ReadPiece, SetStopAfterRead, SetStopAfterPiece, SetStopAfterCommit, IsUnseized, IsFilling, IsAmong, times, page_count, first_page, without, plain_call}
 use Rattle.nv_core.specs.steps.Ops.{Op, Load, Take, Give, Place, Stop, Draw, Seize, Pledge, Ready, Grow, Break, Hold, Return, Turn, Hint, ByCleaner, Split, PutBack, Join, cleaner_move, moved, ready_word, page_at}
 use Rattle.nv_core.specs.steps.ControlSteps.{control_after, after_stop, after_by_cleaner, after_hold, after_return, leaving, scanning}
 use Rattle.nv_core.specs.steps.PassSteps.{begun}
@@ -28,7 +28,7 @@ use Rattle.nv_core.specs.log.Pieces.{Pieces}
 use Rattle.nv_core.specs.log.Progress.{HasLoadedTail, IsBeforeTail, HasSetStop, HasNoGroup, HasStore, HasWholeGroup, KindAt, IsBatchUnderWay, Progress}
 use Rattle.nv_core.specs.invariant.Sound.{Sound}
 use Rattle.nv_core.proofs.state.Changes.{by_number, word_here, word_else, differ, number_self}
-use Rattle.nv_core.proofs.state.Choices.{if_both, when_true, when_false, not_both, leaving_both}
+use Rattle.nv_core.proofs.state.Choices.{if_both, when_true, when_false, not_both, leaving_both, pledged_next}
 use Rattle.nv_core.proofs.invariant.ClearLaws.{IsBare, bare_to, bare_scanning}
 use Rattle.nv_core.proofs.invariant.LockLaws.{only_holder}
 use Rattle.nv_core.proofs.steps.WordLaws.{touches, untouched}
@@ -77,7 +77,7 @@ step_call sizes values pass (Hint buffer page) found other may = tt
 step_call sizes values pass Stop found other may = stop_call pass pass.control may
 step_call sizes values pass Draw found other may = if_both IsCall (found == pass.head) (SeizeEntry found) (leaving pass.owned) (λ _. tt) (λ _. leaving_call pass.owned)
 step_call sizes values pass (Seize number) found other may = if_both IsCall (number + 1 == pass.first + pass.entries) (CommitGroup 0) (SeizeEntry (number + 1)) (λ _. tt) (λ _. tt)
-step_call sizes values pass (Pledge page) found other may = if_both IsCall (page + 1 == end_page sizes pass.call) (ReadyEntry (if pass.entries == 1 then pass.first else pass.first + 1)) (PledgePage (page + 1)) (λ _. tt) (λ _. tt)
+step_call sizes values pass (Pledge page) found other may = pledged_next IsCall sizes pass may.0 may.1 (λ _. tt) (λ _. tt)
 step_call sizes values pass (Ready number) found other may = if_both IsCall (number == pass.first) TakePlace (ReadyEntry (if number + 1 == pass.first + pass.entries then pass.first else number + 1)) (λ _. tt) (λ _. tt)
 step_call sizes values pass (Break number) found other may = if_both IsCall (number + 1 == pass.first + pass.entries) (leaving (without (ENTRY (slot_of_entry sizes number)) pass.owned)) (BreakEntry (number + 1)) (λ _. leaving_call (without (ENTRY (slot_of_entry sizes number)) pass.owned)) (λ _. tt)
 step_call sizes values pass (Hold number) found other may = subst (λ s. IsCall (after_hold s)) (sym may.1) tt
@@ -561,7 +561,7 @@ module _ (sizes : Sizes) (log : Log) (core : Core) (batch : Batch) where
   of_cleaner_work values work how inner due at = absurd due
 
 worked_at : (sizes : Sizes) (log : Log) (core : Core) (values : Values) (pass : Pass) (work : Work) (how : CallEnding) (control : Control) → CallDue sizes values pass work control → At sizes log core control → At sizes log core (control_worked sizes pass how control)
-worked_at sizes log core values pass work Made (CommitGroup calls) due at = if_both (At sizes log core) (calls + 1 == length (commit_steps sizes pass pass.call)) (PledgePage (first_page sizes pass.call)) (CommitGroup (calls + 1)) (λ _. tt) (λ _. tt)
+worked_at sizes log core values pass work Made (CommitGroup calls) due at = if_both (At sizes log core) (calls + 1 == length (commit_steps sizes pass pass.call)) (PledgePage 0) (CommitGroup (calls + 1)) (λ _. tt) (λ _. tt)
 worked_at sizes log core values pass work Made (Cleaning batch inner) due at = of_cleaner_work sizes log core batch values work Made inner due at
 worked_at sizes log core values pass work (Failed came faults) (Cleaning batch inner) due at = of_cleaner_work sizes log core batch values work (Failed came faults) inner due at
 worked_at sizes log core values pass work Refused (Cleaning batch inner) due at = of_cleaner_work sizes log core batch values work Refused inner due at

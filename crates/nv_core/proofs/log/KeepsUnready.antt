@@ -7,7 +7,7 @@ use Rattle.nv_core.specs.state.Words.{Sizes, HEAD, TAIL, PAGE, ENTRY, kind_of, f
 use Rattle.nv_core.specs.state.Values.{CallEnding, Made, Failed, Refused}
 use Rattle.nv_core.specs.state.Cleaner.{Clean, Free, MoveTail}
 use Rattle.nv_core.specs.state.Cleaner as cleaner
-use Rattle.nv_core.specs.state.Passes.{Control, TakePage, LoadStop, ReadStore, DrawNumbers, SeizeEntry, CommitGroup, PledgePage, ReadyEntry, TakePlace, VisitPage, SetStopAfterCommit, BreakEntry, Fault, Pass, IsOneOf, IsUnseized, IsFilling, IsAmong, is_write, page_count, first_page, end_page, times, ReadPiece, Cleaning, plain_call}
+use Rattle.nv_core.specs.state.Passes.{Control, TakePage, LoadStop, ReadStore, DrawNumbers, SeizeEntry, CommitGroup, PledgePage, ReadyEntry, TakePlace, VisitPage, SetStopAfterCommit, BreakEntry, Fault, Pass, IsOneOf, IsUnseized, IsFilling, IsAmong, is_write, page_count, first_page, times, ReadPiece, Cleaning, plain_call}
 use Rattle.nv_core.specs.steps.Ops.{Op, page_at, ready_word, Load, Take, Give, Place, Stop, Draw, Seize, Pledge, Ready, Grow, Break, Split, PutBack, Join, Turn, Hint, Hold, Return, ByCleaner}
 use Rattle.nv_core.specs.steps.ControlSteps.{leaving}
 use Rattle.nv_core.specs.steps.PassSteps.{begun, fault_of}
@@ -27,7 +27,7 @@ use Rattle.nv_core.specs.log.InFlight.{placed_stepped, IsFlying, InFlight}
 use Rattle.nv_core.specs.log.Unready.{IsOfFault, IsUnready, Unready}
 use Rattle.nv_core.specs.invariant.Sound.{Sound}
 use Rattle.nv_core.proofs.state.Changes.{by_number, number_here, number_else, word_here, word_else, differ}
-use Rattle.nv_core.proofs.state.Choices.{if_both, not_both, when_true, when_false}
+use Rattle.nv_core.proofs.state.Choices.{if_both, not_both, when_true, when_false, pledged_next}
 use Rattle.nv_core.proofs.invariant.ClearLaws.{IsClear, clear_to, clear_leaving}
 use Rattle.nv_core.proofs.steps.WordLaws.{untouched, touches}
 use Rattle.nv_core.proofs.steps.CleanerControls.{of_cleaner_worked}
@@ -74,7 +74,7 @@ breaking_now sizes by core found Draw may old number e = absurd (if_both (λ s. 
     (λ _. elsewhere _ _ refl refl number) (λ _. clear_breaking (leaving (core.passes by).owned) number (clear_leaving (core.passes by).owned)) e)
 breaking_now sizes by core found (Seize next) may old number e = absurd (if_both (λ s. s ≡ BreakEntry number → ⊥) (next + 1 == (core.passes by).first + (core.passes by).entries) (CommitGroup 0) (SeizeEntry (next + 1))
     (λ _. elsewhere _ _ refl refl number) (λ _. elsewhere _ _ refl refl number) e)
-breaking_now sizes by core found (Pledge page) may old number e = absurd (if_both (λ s. s ≡ BreakEntry number → ⊥) (page + 1 == end_page sizes (core.passes by).call) (ReadyEntry (if (core.passes by).entries == 1 then (core.passes by).first else (core.passes by).first + 1)) (PledgePage (page + 1))
+breaking_now sizes by core found (Pledge page) may old number e = absurd (pledged_next (λ s. s ≡ BreakEntry number → ⊥) sizes (core.passes by) may.0 may.1
     (λ _. elsewhere _ _ refl refl number) (λ _. elsewhere _ _ refl refl number) e)
 breaking_now sizes by core found (Ready next) may old number e = absurd (if_both (λ s. s ≡ BreakEntry number → ⊥) (next == (core.passes by).first) TakePlace (ReadyEntry (if next + 1 == (core.passes by).first + (core.passes by).entries then (core.passes by).first else next + 1))
     (λ _. elsewhere _ _ refl refl number) (λ _. elsewhere _ _ refl refl number) e)
@@ -383,7 +383,7 @@ unready_begin sizes log placed by core call may unready = unready_kept sizes log
     (λ n within e. inl e) (λ n within low e. begun_still sizes by core call may n e) (λ n is e. e) unready
 
 worked_breaking : (sizes : Sizes) (values : Values) (pass : Pass) (work : Work) (control : Control) (how : CallEnding) → CallDue sizes values pass work control → (number : ℕ) → control_worked sizes pass how control ≡ BreakEntry number → ⊥
-worked_breaking sizes values pass work (CommitGroup calls) Made due number = if_both (λ s. s ≡ BreakEntry number → ⊥) (calls + 1 == length (commit_steps sizes pass pass.call)) (PledgePage (first_page sizes pass.call)) (CommitGroup (calls + 1)) (λ _. elsewhere _ _ refl refl number) (λ _. elsewhere _ _ refl refl number)
+worked_breaking sizes values pass work (CommitGroup calls) Made due number = if_both (λ s. s ≡ BreakEntry number → ⊥) (calls + 1 == length (commit_steps sizes pass pass.call)) (PledgePage 0) (CommitGroup (calls + 1)) (λ _. elsewhere _ _ refl refl number) (λ _. elsewhere _ _ refl refl number)
 worked_breaking sizes values pass work (CommitGroup calls) (Failed came faults) due number = elsewhere _ _ refl refl number
 worked_breaking sizes values pass work (CommitGroup calls) Refused due number = elsewhere _ _ refl refl number
 worked_breaking sizes values pass work (ReadStore page dirty) Refused due number = elsewhere _ _ refl refl number

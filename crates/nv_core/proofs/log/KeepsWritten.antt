@@ -19,7 +19,7 @@ use Rattle.nv_core.specs.state.Cleaner.{Batch, CleanerControl, WriteBack, SyncSt
 use Rattle.nv_core.specs.state.Cleaner as cleaner
 use Rattle.nv_core.specs.steps.CleanerSteps.{group_file}
 use Rattle.nv_core.specs.invariant.CleanerNumbers.{IsFreed}
-use Rattle.nv_core.specs.state.Passes.{Control, TakePage, LoadStop, ReadStore, SeizeEntry, CommitGroup, PledgePage, ReadyEntry, TakePlace, SetStopAfterRead, SetStopAfterCommit, BreakEntry, Pass, IsUnseized, IsFilling, IsAmong, AreBytes, IsAllowed, file_of, is_write, page_count, first_page, end_page, without, SetStopAfterPiece, ReadPiece, Cleaning, plain_call}
+use Rattle.nv_core.specs.state.Passes.{Control, TakePage, LoadStop, ReadStore, SeizeEntry, CommitGroup, PledgePage, ReadyEntry, TakePlace, SetStopAfterRead, SetStopAfterCommit, BreakEntry, Pass, IsUnseized, IsFilling, IsAmong, AreBytes, IsAllowed, file_of, is_write, page_count, first_page, without, SetStopAfterPiece, ReadPiece, Cleaning, plain_call}
 use Rattle.nv_core.specs.steps.Ops.{Op, page_at, ready_word, Load, Take, Give, Place, Stop, Draw, Seize, Pledge, Ready, Grow, Break, Split, PutBack, Join, Turn, Hint, Hold, Return, ByCleaner}
 use Rattle.nv_core.specs.steps.ControlSteps.{control_after, after_stop, leaving}
 use Rattle.nv_core.specs.steps.PassSteps.{stepped, begun}
@@ -37,7 +37,7 @@ use Rattle.nv_core.specs.log.Progress.{IsBatchUnderWay}
 use Rattle.nv_core.specs.log.Retiring.{TailsAt, IsDone, Retired}
 use Rattle.nv_core.specs.invariant.Sound.{Sound}
 use Rattle.nv_core.proofs.state.Changes.{by_number, by_word, number_here, number_else, word_here, word_else, differ}
-use Rattle.nv_core.proofs.state.Choices.{if_both, not_both, when_true, when_false, busy}
+use Rattle.nv_core.proofs.state.Choices.{if_both, not_both, when_true, when_false, busy, pledged_next}
 use Rattle.nv_core.proofs.invariant.ClearLaws.{IsClear, IsPlain, clear_to, clear_leaving}
 use Rattle.nv_core.proofs.invariant.LockLaws.{only_holder}
 use Rattle.nv_core.proofs.steps.WordLaws.{untouched, touches}
@@ -285,8 +285,8 @@ module _ (laws : LogLaws) (sizes : Sizes) (first : Values) (tails : Tails) (log 
       (let none : log.calls (core.passes by).first ≡ 0 = subst (HasCalls sizes log (core.passes by)) may.may (written.calls by) in
       if_both (HasCalls sizes log (changed_pass sizes by core (Seize next) found)) (next + 1 == (core.passes by).first + (core.passes by).entries) (CommitGroup 0) (SeizeEntry (next + 1)) (λ _. none) (λ _. none))
   other_step (Pledge page) may ne = plain_step (Pledge page) may refl refl (λ slot. refl)
-      (let all : log.calls (core.passes by).first ≡ commit_length sizes (core.passes by).call (core.passes by).first = subst (HasCalls sizes log (core.passes by)) may.may (written.calls by) in
-      if_both (HasCalls sizes log (changed_pass sizes by core (Pledge page) found)) (page + 1 == end_page sizes (core.passes by).call) (ReadyEntry (if (core.passes by).entries == 1 then (core.passes by).first else (core.passes by).first + 1)) (PledgePage (page + 1)) (λ _. all) (λ _. all))
+      (let all : log.calls (core.passes by).first ≡ commit_length sizes (core.passes by).call (core.passes by).first = subst (HasCalls sizes log (core.passes by)) may.may.1 (written.calls by) in
+      pledged_next (HasCalls sizes log (changed_pass sizes by core (Pledge page) found)) sizes (core.passes by) may.may.0 may.may.1 (λ _. all) (λ _. all))
   other_step (Ready next) may ne = entry_step (Ready next) (slot_of_entry sizes next) (ready_word sizes (core.passes by) next) may refl
       (λ e. absurd (not_both (ap was_readied (sym e) ∙ ready_is (if next == (core.passes by).first then (core.passes by).entries else 0) (page_at sizes (core.passes by) next)) refl))
       (let all : log.calls (core.passes by).first ≡ commit_length sizes (core.passes by).call (core.passes by).first = subst (HasCalls sizes log (core.passes by)) may.may (written.calls by) in
@@ -433,7 +433,7 @@ module _ (sizes : Sizes) (first : Values) (tail : ℕ) (log : Log) (by : ℕ) (c
       goes Made e =
           let here : with_number log.calls (core.passes by).first (calls_after work.ending calls) (core.passes by).first ≡ calls + 1 =
           number_here log.calls (core.passes by).first (calls_after work.ending calls) ∙ ap (λ how. calls_after how calls) e in
-          if_both (HasCalls sizes next_log (worked sizes work (core.passes by))) (calls + 1 == length (commit_steps sizes (core.passes by) (core.passes by).call)) (PledgePage (first_page sizes (core.passes by).call)) (CommitGroup (calls + 1))
+          if_both (HasCalls sizes next_log (worked sizes work (core.passes by))) (calls + 1 == length (commit_steps sizes (core.passes by) (core.passes by).call)) (PledgePage 0) (CommitGroup (calls + 1))
           (λ all. here ∙ eqb-true (calls + 1) (length (commit_steps sizes (core.passes by) (core.passes by).call)) all ∙ length_same sizes (core.passes by) (core.passes by).call) (λ _. here)
       goes (Failed came faults) e = tt
       goes Refused e = number_here log.calls (core.passes by).first (calls_after work.ending calls) ∙ ap (λ how. calls_after how calls) e

@@ -253,7 +253,7 @@ due_none sizes values pass work (Cleaning batch AdvanceTail) due = absurd due
 due_none sizes values pass work control due = λ _ z. z
 
 pub worked_none : (sizes : Sizes) (values : Values) (pass : Pass) (work : Work) (how : CallEnding) (control : Control) → CallDue sizes values pass work control → FreesNone (control_worked sizes pass how control)
-worked_none sizes values pass work Made (CommitGroup calls) due = if_both FreesNone (calls + 1 == length (commit_steps sizes pass pass.call)) (PledgePage (first_page sizes pass.call)) (CommitGroup (calls + 1)) (λ _ _ z. z) (λ _ _ z. z)
+worked_none sizes values pass work Made (CommitGroup calls) due = if_both FreesNone (calls + 1 == length (commit_steps sizes pass pass.call)) (PledgePage 0) (CommitGroup (calls + 1)) (λ _ _ z. z) (λ _ _ z. z)
 worked_none sizes values pass work Made (Cleaning batch inner) due = freed_worked batch Made inner (due_none sizes values pass work (Cleaning batch inner) due)
 worked_none sizes values pass work (Failed came faults) (Cleaning batch inner) due = freed_worked batch (Failed came faults) inner (due_none sizes values pass work (Cleaning batch inner) due)
 worked_none sizes values pass work Refused (Cleaning batch inner) due = freed_worked batch Refused inner (due_none sizes values pass work (Cleaning batch inner) due)

@@ -22,7 +22,7 @@ use Rattle.nv_core.specs.state.Cleaner as cleaner
 use Rattle.nv_core.specs.steps.CleanerSteps.{after_cleaner_work, syncing, group_file, holds_store}
 use Rattle.nv_core.specs.invariant.CleanerOwnership.{count_in}
 use Rattle.nv_core.specs.invariant.CleanerNumbers.{IsCleaned}
-use Rattle.nv_core.specs.state.Passes.{Control, CommitGroup, PledgePage, ReadStore, ReadPiece, Cleaning, Pass, first_page, file_of, at_of}
+use Rattle.nv_core.specs.state.Passes.{Control, CommitGroup, PledgePage, ReadStore, ReadPiece, Cleaning, Pass, file_of, at_of}
 use Rattle.nv_core.specs.steps.Order.{Values, Work, CallEnabled, CallMayLeave, CallDue, CleanerCallDue, IsPieceWrite, IsTailCall, commit_steps}
 use Rattle.nv_core.specs.state.Core.{Core, with_value, after_work, worked, control_worked, values_worked}
 use Rattle.nv_core.specs.invariant.ControlFacts.{FactsAt}
@@ -164,8 +164,8 @@ refuses_sync (ABuffer buffer) is = is
 
 -- a pass with a call stays at it
 called_on : (sizes : Sizes) (values : Values) (tails : Tails) (pass : Pass) (work : Work) (how : CallEnding) (control : Control) → CallDue sizes values pass work control → IsAtCall control → KeepsOn tails control (control_worked sizes pass how control)
-called_on sizes values tails pass work Made (CommitGroup calls) due at = call_keeps tails (CommitGroup calls) (if calls + 1 == length (commit_steps sizes pass pass.call) then PledgePage (first_page sizes pass.call) else CommitGroup (calls + 1))
-    (if_both IsAtCall (calls + 1 == length (commit_steps sizes pass pass.call)) (PledgePage (first_page sizes pass.call)) (CommitGroup (calls + 1)) (λ _. tt) (λ _. tt))
+called_on sizes values tails pass work Made (CommitGroup calls) due at = call_keeps tails (CommitGroup calls) (if calls + 1 == length (commit_steps sizes pass pass.call) then PledgePage 0 else CommitGroup (calls + 1))
+    (if_both IsAtCall (calls + 1 == length (commit_steps sizes pass pass.call)) (PledgePage 0) (CommitGroup (calls + 1)) (λ _. tt) (λ _. tt))
 called_on sizes values tails pass work (Failed came faults) (CommitGroup calls) due at = record { back = λ _ z. z; synced = λ _ z. z; at = tt }
 called_on sizes values tails pass work Refused (CommitGroup calls) due at = record { back = λ _ z. z; synced = λ _ z. z; at = tt }
 called_on sizes values tails pass work Made (ReadStore page dirty) due at = record { back = λ _ z. z; synced = λ _ z. z; at = tt }

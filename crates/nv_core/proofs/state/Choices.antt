@@ -1,11 +1,11 @@
 -- Choices: what holds of both branches holds of the choice; and a pass that may step has a call at hand, or is a cleaner.
-use Rattle.std.proofs.Common.{◌≡◌, ◌≢◌, ℕ, ◌+◌, ◌==◌, Bool, true, false, if◌then◌else◌, List, [], ◌∷◌, refl, sym, ap, ◌∙◌, inl, inr}
+use Rattle.std.proofs.Common.{◌≡◌, ◌≢◌, ℕ, ◌+◌, ◌==◌, Bool, true, false, if◌then◌else◌, List, [], ◌∷◌, refl, sym, ap, ◌∙◌, inl, inr, subst}
 use Rattle.std.proofs.lemmas.Bool.{true≢false}
 use Rattle.nv_core.specs.state.Words.{Sizes, Word, STOP, ORDER, HEAD, TAIL, SIZE, LENGTH, STORE, HINT, PAGE, DIRTY, ENTRY, CLEANUP}
 use Rattle.nv_plain.specs.declared.call.Reply.{Reply}
-use Rattle.nv_core.specs.state.Passes.{Control, Idle, TakePage, LoadLength, VisitPage, GiveBack, GiveSize, GivePage, GiveStore, GiveVictim, Search, NotFound, Searching, TakePlace, SetStopAfterRead, SetStopAfterPiece, SetStopAfterCommit, Pass, end_page, GiveCleanup}
+use Rattle.nv_core.specs.state.Passes.{Control, Idle, TakePage, LoadLength, VisitPage, GiveBack, GiveSize, GivePage, GiveStore, GiveVictim, Search, NotFound, Searching, TakePlace, SetStopAfterRead, SetStopAfterPiece, SetStopAfterCommit, Pass, end_page, GiveCleanup, PledgePage, ReadyEntry, page_count}
 use Rattle.nv_core.specs.steps.Ops.{Op, Load, Take, Give, Place, Stop, Draw, Seize, Pledge, Ready, Grow, Break, Turn, Hint, Hold, Return, ByCleaner}
-use Rattle.nv_core.specs.steps.ControlSteps.{control_after, leaving}
+use Rattle.nv_core.specs.steps.ControlSteps.{control_after, leaving, after_pledge}
 use Rattle.nv_core.specs.steps.Order.{Values, IsFailing}
 use Rattle.nv_core.specs.steps.StepKinds.{MayLoad, MayTake, MayGive, MayPlace, EnabledByKind}
 use Rattle.nv_core.specs.invariant.ControlFacts.{has_call}
@@ -45,6 +45,13 @@ page_tried P sizes pass page found last next out other = tried_next P sizes pass
     (λ _. if_both P (page + 1 == end_page sizes pass.call) LoadLength (TakePage (page + 1)) (λ _. last) (λ _. next)) (λ _. out))
     (λ s. if_both P (found == 0) (Searching s.page s.tries (GiveVictim s.buffer page)) (Searching s.page s.tries NotFound)
     (λ _. other s.page s.tries (GiveVictim s.buffer page)) (λ _. other s.page s.tries NotFound))
+
+-- where a page is pledged: what holds of the entries and of the next page
+pub pledged_next : (P : Control → Type 0) (sizes : Sizes) (pass : Pass) (place : ℕ) → pass.control ≡ PledgePage place
+    → ((place + 1 == page_count sizes pass.call) ≡ true → P (ReadyEntry (if pass.entries == 1 then pass.first else pass.first + 1)))
+    → ((place + 1 == page_count sizes pass.call) ≡ false → P (PledgePage (place + 1))) → P (after_pledge sizes pass pass.control)
+pledged_next P sizes pass place at last next = subst (λ s. P (after_pledge sizes pass s)) (sym at)
+    (if_both P (place + 1 == page_count sizes pass.call) (ReadyEntry (if pass.entries == 1 then pass.first else pass.first + 1)) (PledgePage (place + 1)) last next)
 
 -- the control states at which a lock is given back
 abbrev pub IsGivingBack : Control → Type 0
@@ -144,7 +151,7 @@ step_idle sizes values pass (Place reply) may = place_busy sizes values pass rep
 step_idle sizes values pass Stop may = fail_busy pass.control may
 step_idle sizes values pass Draw may = busy _ _ may refl
 step_idle sizes values pass (Seize number) may = busy _ _ may refl
-step_idle sizes values pass (Pledge page) may = busy _ _ may refl
+step_idle sizes values pass (Pledge page) may = busy _ _ may.1 refl
 step_idle sizes values pass (Ready number) may = busy _ _ may refl
 step_idle sizes values pass Grow may = busy _ _ may refl
 step_idle sizes values pass (Break number) may = busy _ _ may refl

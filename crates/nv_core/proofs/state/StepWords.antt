@@ -18,7 +18,7 @@ use Rattle.nv_core.specs.state.Core.{Core, with_number, changes, changed_pass, a
 use Rattle.nv_core.specs.steps.Events.{Event, Act, BeginsCall, TakesStep, CallsDevice, after_act, after_event, after_run, IsRun}
 use Rattle.nv_core.proofs.steps.ByKind.{StepEnabledByKind, ActEnabledByKind, act_kind}
 use Rattle.nv_core.specs.steps.Opening.{opening}
-use Rattle.nv_core.specs.invariant.ControlFacts.{ControlFacts, FactsAt, IsPage}
+use Rattle.nv_core.specs.invariant.ControlFacts.{ControlFacts, FactsAt, IsPage, PagesAt}
 use Rattle.nv_core.specs.invariant.Ownership.{one_if}
 use Rattle.nv_core.specs.invariant.LogWindow.{entry_word_at}
 use Rattle.nv_core.specs.invariant.EntryWords.{IsEntryWord, SaysFree, SaysFilling, SaysBroken, SaysReadied}
@@ -36,6 +36,7 @@ use Rattle.nv_core.proofs.invariant.KeepsEntryWords.{pages_within}
 use Rattle.nv_core.proofs.invariant.KeepsDirty.{slot_less}
 use Rattle.nv_core.proofs.invariant.KeepsLocks.{given_held, cleaner_give_one}
 use Rattle.nv_core.proofs.invariant.Reach.{sound_begin}
+use Rattle.nv_core.proofs.invariant.PageLists.{place_among}
 
 -- ---- pages and slots of a call
 
@@ -97,7 +98,8 @@ module _ (sizes : Sizes) (values : Values) (pass : Pass) (grounds : Grounds size
   call_word Stop allowed may = tt
   call_word Draw allowed may = tt
   call_word (Seize number) allowed may = slot_less sizes pass number (stands_at (SeizeEntry number) may).0 allowed
-  call_word (Pledge page) allowed may = page_within sizes pass.call page allowed (stands_at (PledgePage page) may).1
+  call_word (Pledge page) allowed may =
+      page_within sizes pass.call page allowed (subst (IsPage sizes pass.call) (sym may.2) (place_among sizes pass.call pass.pages (subst (PagesAt sizes pass) may.1 grounds.stands.pages) may.0 (stands_at (PledgePage may.0) may.1).1))
   call_word (Ready number) allowed may = slot_less sizes pass number (stands_at (ReadyEntry number) may).0 allowed
   call_word Grow allowed may = allowed.known
   call_word (Break number) allowed may = slot_less sizes pass number (stands_at (BreakEntry number) may).0 allowed

@@ -4,7 +4,7 @@ use Rattle.nv_plain.specs.declared.call.Reply.{Reply}
 use Rattle.nv_core.specs.state.Words.{Sizes, Word, STOP, ORDER, HEAD, TAIL, SIZE, LENGTH, STORE, ENTRY, HINT, PAGE, CLEANUP, DIRTY, ready, is_entry_of, slot_of_entry}
 use Rattle.nv_core.specs.state.Passes.{Control, Idle, TakePage, LoadLength, TakeSize, LoadStop, LoadOrder, VisitPage, TakeCleanup, TakeStore, GiveStore, ReadLoadHead, ReadLoadTail, LoadEntry, HoldEntry, ReturnEntry, GiveCleanup, Searching, WriteLoadHead, WriteLoadTail, DrawNumbers, SeizeEntry, CommitGroup, PledgePage, ReadyEntry, TakePlace, GrowLength, GiveSize, GivePage, GiveBack, SetStopAfterPiece, SetStopAfterCommit, BreakEntry, Cleaning, Pass, is_read, is_write, page_count, first_page, end_page, without}
 use Rattle.nv_core.specs.steps.Ops.{Op, Load, Take, Give, Place, Stop, Draw, Seize, Pledge, Ready, Grow, Break, Turn, Hint, Hold, Return, ByCleaner, Split, PutBack, Join}
-use Rattle.nv_core.specs.steps.ControlSteps.{control_after, after_load, after_head, after_tail, after_look, after_take, after_page, refused, hinted, after_give, after_stop, after_hold, after_return, scanning, leaving, giving, ending, ordered, copying, exceeds}
+use Rattle.nv_core.specs.steps.ControlSteps.{control_after, after_load, after_head, after_tail, after_look, after_take, after_page, refused, hinted, after_give, after_stop, after_hold, after_return, scanning, leaving, giving, ending, ordered, copying, exceeds, after_pledge}
 use Rattle.nv_core.specs.steps.Order.{Values, IsFailing}
 use Rattle.nv_core.specs.steps.StepKinds.{MayLoad, MayTake, MayPlace, EnabledByKind}
 use Rattle.nv_core.specs.invariant.CleanerNumbers.{IsCleaned, IsFreed}
@@ -72,7 +72,7 @@ at_call sizes values pass (Place reply) of may = at_place sizes values pass repl
 at_call sizes values pass Stop of may = at_stop pass.control may
 at_call sizes values pass Draw of may = subst IsAtCall (sym may) tt
 at_call sizes values pass (Seize number) of may = subst IsAtCall (sym may) tt
-at_call sizes values pass (Pledge page) of may = subst IsAtCall (sym may) tt
+at_call sizes values pass (Pledge page) of may = subst IsAtCall (sym may.1) tt
 at_call sizes values pass (Ready number) of may = subst IsAtCall (sym may) tt
 at_call sizes values pass Grow of may = subst IsAtCall (sym may) tt
 at_call sizes values pass (Break number) of may = subst IsAtCall (sym may) tt
@@ -88,7 +88,7 @@ pub to_leaving : (owned : List Word) → IsAtCall (leaving owned)
 to_leaving owned = leaving_both IsAtCall owned (λ _. tt) (λ _. tt)
 
 to_giving : (sizes : Sizes) (pass : Pass) → IsAtCall (giving sizes pass.call)
-to_giving sizes pass = if_both IsAtCall (page_count sizes pass.call == 0) Idle (GivePage (first_page sizes pass.call)) (λ _. tt) (λ _. tt)
+to_giving sizes pass = if_both IsAtCall (page_count sizes pass.call == 0) Idle (GivePage 0) (λ _. tt) (λ _. tt)
 
 to_ending : (sizes : Sizes) (pass : Pass) → IsAtCall (ending sizes pass)
 to_ending sizes pass = if_both IsAtCall pass.sized GiveSize (giving sizes pass.call) (λ _. tt) (λ _. to_giving sizes pass)
@@ -148,7 +148,7 @@ to_refused owned cell control = to_leaving owned
 to_give : (sizes : Sizes) (pass : Pass) (cell : Word) (control : Control) → IsAtCall control → IsAtCall (after_give sizes pass cell control)
 to_give sizes pass cell GiveBack at = to_leaving (without cell pass.owned)
 to_give sizes pass cell GiveSize at = to_giving sizes pass
-to_give sizes pass cell (GivePage page) at = if_both IsAtCall (page + 1 == end_page sizes pass.call) Idle (GivePage (page + 1)) (λ _. tt) (λ _. tt)
+to_give sizes pass cell (GivePage page) at = if_both IsAtCall (page + 1 == page_count sizes pass.call) Idle (GivePage (page + 1)) (λ _. tt) (λ _. tt)
 to_give sizes pass cell (GiveStore page dirty) at = if_both IsAtCall dirty (ReadLoadHead page) (VisitPage (page + 1)) (λ _. tt) (λ _. tt)
 to_give sizes pass cell (GiveCleanup page) at = tt
 to_give sizes pass cell (Searching page tries search) at = tt
@@ -168,6 +168,11 @@ to_return sizes pass (ReturnEntry page number failed) at = if_both IsAtCall fail
     (λ _. to_leaving (without (ENTRY (slot_of_entry sizes number)) pass.owned)) (λ _. to_scanning pass page (number + 1))
 to_return sizes pass control at = at
 
+to_pledge : (sizes : Sizes) (pass : Pass) (control : Control) → IsAtCall control → IsAtCall (after_pledge sizes pass control)
+to_pledge sizes pass (PledgePage place) at =
+    if_both IsAtCall (place + 1 == page_count sizes pass.call) (ReadyEntry (if pass.entries == 1 then pass.first else pass.first + 1)) (PledgePage (place + 1)) (λ _. tt) (λ _. tt)
+to_pledge sizes pass control at = at
+
 pub to_call : (sizes : Sizes) (pass : Pass) (op : Op) (found : ℕ) → IsOfCall op → IsAtCall pass.control → IsAtCall (control_after sizes pass op found)
 to_call sizes pass (Load word) found of at = to_load sizes pass word found at
 to_call sizes pass (Take cell) found of at = if_both IsAtCall (found == 0) (after_take sizes pass cell) (refused pass.owned cell pass.control) (λ _. to_take sizes pass cell at) (λ _. to_refused pass.owned cell pass.control)
@@ -176,8 +181,7 @@ to_call sizes pass (Place reply) found of at = if_both IsAtCall (is_write pass.c
 to_call sizes pass Stop found of at = to_stop pass pass.control
 to_call sizes pass Draw found of at = if_both IsAtCall (found == pass.head) (SeizeEntry found) (leaving pass.owned) (λ _. tt) (λ _. to_leaving pass.owned)
 to_call sizes pass (Seize number) found of at = if_both IsAtCall (number + 1 == pass.first + pass.entries) (CommitGroup 0) (SeizeEntry (number + 1)) (λ _. tt) (λ _. tt)
-to_call sizes pass (Pledge page) found of at =
-    if_both IsAtCall (page + 1 == end_page sizes pass.call) (ReadyEntry (if pass.entries == 1 then pass.first else pass.first + 1)) (PledgePage (page + 1)) (λ _. tt) (λ _. tt)
+to_call sizes pass (Pledge page) found of at = to_pledge sizes pass pass.control at
 to_call sizes pass (Ready number) found of at =
     if_both IsAtCall (number == pass.first) TakePlace (ReadyEntry (if number + 1 == pass.first + pass.entries then pass.first else number + 1)) (λ _. tt) (λ _. tt)
 to_call sizes pass Grow found of at = to_ending sizes pass

@@ -2,7 +2,7 @@
 use Rattle.std.proofs.Common.{◌≡◌, ℕ, ◌+◌, ◌^◌, ◌==◌, nat_lt, nat_le, not, ◌&&◌, true, false, if◌then◌else◌, List, inl, inr, refl, sym, subst}
 use Rattle.std.specs.Prelude.{Option, Some, None}
 use Rattle.nv_core.specs.state.Words.{Sizes, Word, STOP, ORDER, HEAD, TAIL, LENGTH, SIZE, STORE, ENTRY, HINT, PAGE, CLEANUP, DIRTY, ready, is_entry_of, slot_of_entry}
-use Rattle.nv_core.specs.state.Passes.{Control, Idle, LoadLength, TakeSize, LoadStop, LoadOrder, VisitPage, TakeCleanup, TakeStore, ReadStore, GiveStore, ReadLoadHead, ReadLoadTail, LoadEntry, HoldEntry, ReadPiece, ReturnEntry, GiveCleanup, WriteLoadHead, WriteLoadTail, DrawNumbers, SeizeEntry, CommitGroup, PledgePage, ReadyEntry, TakePlace, GrowLength, GiveSize, GivePage, GiveBack, SetStopAfterRead, SetStopAfterPiece, SetStopAfterCommit, BreakEntry, Cleaning, Searching, Pass, is_write, is_read, page_count, first_page, end_page, without, TakePage}
+use Rattle.nv_core.specs.state.Passes.{Control, Idle, LoadLength, TakeSize, LoadStop, LoadOrder, VisitPage, TakeCleanup, TakeStore, ReadStore, GiveStore, ReadLoadHead, ReadLoadTail, LoadEntry, HoldEntry, ReadPiece, ReturnEntry, GiveCleanup, WriteLoadHead, WriteLoadTail, DrawNumbers, SeizeEntry, CommitGroup, PledgePage, ReadyEntry, TakePlace, GrowLength, GiveSize, GivePage, GiveBack, SetStopAfterRead, SetStopAfterPiece, SetStopAfterCommit, BreakEntry, Cleaning, Searching, Pass, is_write, is_read, page_count, first_page, without, TakePage}
 use Rattle.nv_core.specs.steps.Ops.{Op, Load, Take, Give, Place, Stop, Draw, Seize, Pledge, Ready, Grow, Break, Turn, Hint, Hold, Return, ByCleaner, cleaner_move, moved}
 use Rattle.nv_core.specs.steps.ControlSteps.{control_after, after_load, after_give, after_stop, after_head, after_tail, after_look, after_hold, after_return, scanning, leaving, giving, ending, ordered, copying, exceeds}
 use Rattle.nv_core.specs.steps.Order.{Values, IsFailing}
@@ -53,7 +53,7 @@ module _ (sizes : Sizes) (values : Values) (pass : Pass) (P : Control → Type 0
   to_leaving owned = leaving_both P owned (λ _. plain Idle tt) (λ _. plain GiveBack tt)
 
   to_giving : P (giving sizes pass.call)
-  to_giving = if_both P (page_count sizes pass.call == 0) Idle (GivePage (first_page sizes pass.call)) (λ _. plain Idle tt) (λ _. plain (GivePage (first_page sizes pass.call)) tt)
+  to_giving = if_both P (page_count sizes pass.call == 0) Idle (GivePage 0) (λ _. plain Idle tt) (λ _. plain (GivePage 0) tt)
 
   to_ending : P (ending sizes pass)
   to_ending = if_both P pass.sized GiveSize (giving sizes pass.call) (λ _. plain GiveSize tt) (λ _. to_giving)
@@ -99,7 +99,7 @@ module _ (sizes : Sizes) (values : Values) (pass : Pass) (P : Control → Type 0
   to_given : (cell : Word) (control : Control) → IsGivingBack control → P control → P (after_give sizes pass cell control)
   to_given cell GiveBack back is = to_leaving (without cell pass.owned)
   to_given cell GiveSize back is = to_giving
-  to_given cell (GivePage page) back is = if_both P (page + 1 == end_page sizes pass.call) Idle (GivePage (page + 1)) (λ _. plain Idle tt) (λ _. plain (GivePage (page + 1)) tt)
+  to_given cell (GivePage page) back is = if_both P (page + 1 == page_count sizes pass.call) Idle (GivePage (page + 1)) (λ _. plain Idle tt) (λ _. plain (GivePage (page + 1)) tt)
   to_given cell (GiveStore page dirty) back is = if_both P dirty (ReadLoadHead page) (VisitPage (page + 1)) (λ _. piece page (GiveStore page dirty) (ReadLoadHead page) refl refl is) (λ _. plain (VisitPage (page + 1)) tt)
   to_given cell (GiveCleanup page) back is = plain (VisitPage (page + 1)) tt
   to_given cell (Searching page tries search) back is = plain (Searching page tries _) tt

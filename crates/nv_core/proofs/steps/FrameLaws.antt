@@ -9,7 +9,7 @@ use Rattle.nv_core.specs.state.Passes.{Control, ReadStore, GiveVictim, Searching
 use Rattle.nv_core.specs.steps.Ops.{Op, Give, Pledge, Split, Join, patched_by}
 use Rattle.nv_core.specs.steps.Order.{Values, Work, CallEnabled}
 use Rattle.nv_core.specs.state.Core.{Core, with_value, values_read, values_worked, values_robbed, values_given, values_stepped, changes, changed_pass, made_stepped, ended_stepped, after_step, after_begin}
-use Rattle.nv_core.specs.invariant.ControlFacts.{FactsAt, PagesAt}
+use Rattle.nv_core.specs.invariant.ControlFacts.{FactsAt, PagesAt, IsPage}
 use Rattle.nv_core.specs.invariant.Ownership.{HoldsLocks}
 use Rattle.nv_core.specs.steps.Events.{Event, Act, BeginsCall, TakesStep, CallsDevice, after_act, after_event, after_run, IsRun, own, EventEnabled}
 use Rattle.nv_core.proofs.steps.ByKind.{StepEnabledByKind, ActEnabledByKind, act_kind}
@@ -24,6 +24,7 @@ use Rattle.nv_core.proofs.content.BufferLaws.{whole_holds, searching_holds}
 use Rattle.nv_core.proofs.invariant.KeepsLocks.{given_held}
 use Rattle.nv_core.proofs.invariant.Reach.{sound_begin}
 use Rattle.nv_core.proofs.steps.RunLaws.{run_parts, after_parts}
+use Rattle.nv_core.proofs.invariant.PageLists.{place_among}
 
 -- ---- what cells keep that aren't among the owned cells
 
@@ -53,10 +54,11 @@ module _ (sizes : Sizes) (pass : Pass) (values : Values) (cell : Word) (none : t
 step_away : (sizes : Sizes) (first : Values) (by : ℕ) (core : Core) (op : Op) → Sound sizes first core → StepEnabledByKind sizes by core op → (cell : Word) → times cell (core.passes by).owned ≡ 0
     → values_stepped sizes (core.passes by) op core.values cell ≡ core.values cell
 step_away sizes first by core (Pledge page) sound may cell none =
-    let stands : FactsAt sizes (core.passes by) (PledgePage page) = subst (FactsAt sizes (core.passes by)) may (sound.control_facts by).at in
-    let pages : PagesAt sizes (core.passes by) (PledgePage page) = subst (PagesAt sizes (core.passes by)) may (sound.control_facts by).pages in
-    let held = subst (HoldsLocks sizes (core.passes by)) may (sound.ownership by).locks in
-    page_away sizes (core.passes by) core.values cell none (patched_by sizes (core.passes by).call page (core.values (PAGE page))) page (whole_holds sizes (core.passes by) (PledgePage page) tt pages held page stands.1)
+    let stands : FactsAt sizes (core.passes by) (PledgePage may.0) = subst (FactsAt sizes (core.passes by)) may.1 (sound.control_facts by).at in
+    let pages : PagesAt sizes (core.passes by) (PledgePage may.0) = subst (PagesAt sizes (core.passes by)) may.1 (sound.control_facts by).pages in
+    let held = subst (HoldsLocks sizes (core.passes by)) may.1 (sound.ownership by).locks in
+    let is = subst (IsPage sizes (core.passes by).call) (sym may.2) (place_among sizes (core.passes by).call (core.passes by).pages pages may.0 stands.1) in
+    page_away sizes (core.passes by) core.values cell none (patched_by sizes (core.passes by).call page (core.values (PAGE page))) page (whole_holds sizes (core.passes by) (PledgePage may.0) tt pages held page is)
 step_away sizes first by core (Give given) sound may cell none = given_away sizes (core.passes by) core.values cell none (core.passes by).control (sound.control_facts by).at (sound.control_facts by).pages (sound.ownership by).locks
 step_away sizes first by core op sound may cell none = refl
 

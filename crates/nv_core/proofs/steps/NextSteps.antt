@@ -1,6 +1,6 @@
 -- The order of steps is the table of next steps.
 use Rattle.std.proofs.Common.{◌≡◌, ◌⊎◌, ℕ, zero, suc, ◌+◌, ◌-◌, ◌*◌, ◌<◌, ◌≤◌, ◌&&◌, nat_lt, Bool, true, false, if◌then◌else◌, List, [], ◌∷◌, Option, Some, None, inl, inr, refl, sym, ap, subst, ◌∙◌, arith}
-use Rattle.std.specs.Prelude.{option_map}
+use Rattle.std.specs.Prelude.{option_map, slice_index}
 use Rattle.std.proofs.lemmas.Bool.{ltb-true, ltb-false, lt-ltb, le-ltb, cases_eq, and_parts, and_from}
 use Rattle.nv_plain.specs.declared.call.Reply.{Reply}
 use Rattle.nv_plain.specs.declared.call.Reply.TheVariants.{Bytes}
@@ -94,12 +94,12 @@ module _ (sizes : Sizes) (values : Values) (pass : Pass) where
   comes WriteLoadTail at = inl at
   comes DrawNumbers at = at
   comes (SeizeEntry number) at = at
-  comes (PledgePage page) at = at
+  comes (PledgePage place) at = (place, at, refl)
   comes (ReadyEntry number) at = at
   comes TakePlace at = subst (λ s. MayPlace sizes values pass (plain_reply pass.call) s) (sym at) refl
   comes GrowLength at = at
   comes GiveSize at = subst (λ s. MayGive pass (SIZE (file_of pass.call)) s) (sym at) refl
-  comes (GivePage page) at = subst (λ s. MayGive pass (PAGE page) s) (sym at) refl
+  comes (GivePage place) at = subst (λ s. MayGive pass (PAGE (slice_index pass.pages place)) s) (sym at) refl
   comes GiveBack at = last_comes pass.owned at refl
   comes (SetStopAfterRead page dirty) at = subst IsFailing (sym at) tt
   comes (SetStopAfterPiece page number) at = subst IsFailing (sym at) tt
@@ -247,7 +247,7 @@ steps_are_next sizes values pass (Place reply) may = inl (places sizes values pa
 steps_are_next sizes values pass Stop may = inl (stops sizes values pass pass.control refl may)
 steps_are_next sizes values pass Draw may = inl (at_control sizes values pass DrawNumbers may)
 steps_are_next sizes values pass (Seize number) may = inl (at_control sizes values pass (SeizeEntry number) may)
-steps_are_next sizes values pass (Pledge page) may = inl (at_control sizes values pass (PledgePage page) may)
+steps_are_next sizes values pass (Pledge page) may = inl (at_control sizes values pass (PledgePage may.0) may.1 ∙ ap (λ p. Some (Pledge p)) (sym may.2))
 steps_are_next sizes values pass (Ready number) may = inl (at_control sizes values pass (ReadyEntry number) may)
 steps_are_next sizes values pass Grow may = inl (at_control sizes values pass GrowLength may)
 steps_are_next sizes values pass (Break number) may = inl (at_control sizes values pass (BreakEntry number) may)

@@ -6,7 +6,7 @@ use Rattle.nv_plain.specs.declared.call.FileCall.{FileCall}
 use Rattle.nv_plain.specs.declared.call.FileCall.TheVariants.{Write}
 use Rattle.nv_core.specs.state.Words.{Sizes, PAGE}
 use Rattle.nv_core.specs.state.Values.{is_valid, bytes_in}
-use Rattle.nv_core.specs.state.Passes.{Control, TakePage, LoadLength, TakeSize, LoadStop, LoadOrder, VisitPage, TakeCleanup, TakeStore, ReadStore, GiveStore, ReadLoadHead, ReadLoadTail, LoadEntry, HoldEntry, ReadPiece, ReturnEntry, GiveCleanup, Searching, PledgePage, ReadyEntry, TakePlace, is_read, first_page, nth_of, times, page_named}
+use Rattle.nv_core.specs.state.Passes.{Control, TakePage, LoadLength, TakeSize, LoadStop, LoadOrder, VisitPage, TakeCleanup, TakeStore, ReadStore, GiveStore, ReadLoadHead, ReadLoadTail, LoadEntry, HoldEntry, ReadPiece, ReturnEntry, GiveCleanup, Searching, PledgePage, ReadyEntry, TakePlace, is_read, first_page, times, page_named}
 use Rattle.nv_core.specs.steps.Order.{Values, page_bytes}
 use Rattle.nv_core.specs.invariant.ControlFacts.{IsPage}
 use Rattle.nv_core.specs.state.Core.{Core}
@@ -22,7 +22,7 @@ with_own_pieces sizes call page old = old
 
 -- What the buffer of a page owned has, by where its pass stands: a writer's pledged pages have its pieces before it takes its place.
 abbrev pub patched_page : Sizes → FileCall → (pages : List ℕ) → Control → (page : ℕ) → List ℕ → List ℕ
-patched_page sizes call pages (PledgePage next) page old = if count_in (take (nth_of sizes call next) pages) page == 0 then old else with_own_pieces sizes call page old
+patched_page sizes call pages (PledgePage place) page old = if count_in (take place pages) page == 0 then old else with_own_pieces sizes call page old
 patched_page sizes call pages (ReadyEntry number) page old = with_own_pieces sizes call page old
 patched_page sizes call pages TakePlace page old = with_own_pieces sizes call page old
 patched_page sizes call pages control page old = old

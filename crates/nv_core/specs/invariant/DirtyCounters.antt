@@ -4,7 +4,7 @@ use Rattle.nv_core.specs.state.Totals.{total}
 use Rattle.nv_core.specs.state.Words.{Sizes, Word, ENTRY, DIRTY, kind_of, page_of, ready, held}
 use Rattle.nv_core.specs.state.Cleaner.{CleanEntry, SubtractDirty}
 use Rattle.nv_core.specs.invariant.CleanerOwnership.{count_in}
-use Rattle.nv_core.specs.state.Passes.{Control, Cleaning, PledgePage, ReadyEntry, Pass, nth_of}
+use Rattle.nv_core.specs.state.Passes.{Control, Cleaning, PledgePage, ReadyEntry, Pass}
 use Rattle.nv_core.specs.invariant.Ownership.{one_if}
 use Rattle.nv_core.specs.state.Core.{Core}
 
@@ -19,7 +19,7 @@ entries_of_page sizes words page = total sizes.entries (λ slot. one_if (is_of_p
 -- How many entries of a page a pass has pledged and not yet readied: those of its pages before the next, and then of the first one, and of those
 -- from the next on, as it readies the leader last.
 abbrev pub pledged : Sizes → Pass → Control → (page : ℕ) → ℕ
-pledged sizes pass (PledgePage next) page = count_in (take (nth_of sizes pass.call next) pass.pages) page
+pledged sizes pass (PledgePage place) page = count_in (take place pass.pages) page
 pledged sizes pass (ReadyEntry next) page =
     count_in (take 1 pass.pages) page + (if next == pass.first then 0 else count_in (drop (next - pass.first) pass.pages) page)
 pledged sizes pass control page = 0

@@ -34,7 +34,7 @@ faulted_entries sizes (fault ∷ rest) = entries_of sizes fault.call + faulted_e
 abbrev pub open_entries : Sizes → FileCall → Control → ℕ
 open_entries sizes call (SeizeEntry number) = entries_of sizes call
 open_entries sizes call (CommitGroup calls) = entries_of sizes call
-open_entries sizes call (PledgePage page) = entries_of sizes call
+open_entries sizes call (PledgePage place) = entries_of sizes call
 open_entries sizes call (ReadyEntry number) = entries_of sizes call
 open_entries sizes call TakePlace = entries_of sizes call
 open_entries sizes call SetStopAfterCommit = entries_of sizes call

@@ -30,7 +30,7 @@ IsInCommit control = ⊥
 abbrev pub IsInFlight : Control → Type 0
 IsInFlight (SeizeEntry number) = Unit {0}
 IsInFlight (CommitGroup calls) = Unit {0}
-IsInFlight (PledgePage page) = Unit {0}
+IsInFlight (PledgePage place) = Unit {0}
 IsInFlight (ReadyEntry number) = Unit {0}
 IsInFlight TakePlace = Unit {0}
 IsInFlight SetStopAfterCommit = Unit {0}

@@ -1,7 +1,7 @@
 -- Ownership: which cells a pass owns, by where it stands.
 use Rattle.std.specs.Prelude.{◌≡◌, ◌≢◌, ℕ, ◌+◌, ◌==◌, ◌&&◌, nat_le, nat_lt, Bool, if◌then◌else◌, drop, List}
 use Rattle.nv_core.specs.state.Words.{Sizes, Word, SIZE, STORE, ENTRY, PAGE, CLEANUP, CLEANER, HEADER, slot_of_entry}
-use Rattle.nv_core.specs.state.Passes.{Control, Idle, TakeStore, ReadStore, GiveStore, Search, GiveVictim, Searching, ReadLoadHead, ReadLoadTail, LoadEntry, HoldEntry, ReadPiece, ReturnEntry, GiveCleanup, GivePage, GiveBack, SetStopAfterRead, SetStopAfterPiece, Pass, IsFilling, IsHeldEntry, file_of, nth_of, times, Cleaning, page_named}
+use Rattle.nv_core.specs.state.Passes.{Control, Idle, TakeStore, ReadStore, GiveStore, Search, GiveVictim, Searching, ReadLoadHead, ReadLoadTail, LoadEntry, HoldEntry, ReadPiece, ReturnEntry, GiveCleanup, GivePage, GiveBack, SetStopAfterRead, SetStopAfterPiece, Pass, IsFilling, IsHeldEntry, file_of, times, Cleaning, page_named}
 use Rattle.nv_core.specs.state.Cleaner as cleaner
 use Rattle.nv_core.specs.invariant.CleanerOwnership.{count_in, of_cleaner_header, of_cleaner_store, of_cleaner_cleanup}
 
@@ -22,7 +22,7 @@ with_victim search page own = own
 abbrev pub page_held : Sizes → Pass → Control → (page : ℕ) → ℕ
 page_held sizes pass Idle page = 0
 page_held sizes pass (Cleaning batch inner) page = 0
-page_held sizes pass (GivePage next) page = count_in (drop (nth_of sizes pass.call next) pass.pages) page
+page_held sizes pass (GivePage place) page = count_in (drop place pass.pages) page
 page_held sizes pass (Searching missed tries search) page = with_victim search page (count_in pass.pages page)
 page_held sizes pass control page = count_in pass.pages page
 
@@ -30,7 +30,7 @@ page_held sizes pass control page = count_in pass.pages page
 abbrev pub size_held : Pass → Control → ℕ
 size_held pass Idle = 0
 size_held pass (Cleaning batch inner) = 0
-size_held pass (GivePage next) = 0
+size_held pass (GivePage place) = 0
 size_held pass control = one_if pass.sized
 
 -- STORE while it reads it

@@ -52,7 +52,7 @@ KeepsQuiet value = (part : Part) → IsPart value part → IsQuietPart part
 
 -- a pass has begun to pledge, so that its group is there
 abbrev pub HasPledged : Control → Type 0
-HasPledged (PledgePage page) = Unit {0}
+HasPledged (PledgePage place) = Unit {0}
 HasPledged (ReadyEntry number) = Unit {0}
 HasPledged control = ⊥
 

@@ -63,7 +63,7 @@ log_after sizes event core log = log_acted sizes (core.passes event.by) event.ac
 abbrev pub HasGroup : Control → Type 0
 HasGroup (SeizeEntry number) = Unit {0}
 HasGroup (CommitGroup calls) = Unit {0}
-HasGroup (PledgePage page) = Unit {0}
+HasGroup (PledgePage place) = Unit {0}
 HasGroup (ReadyEntry number) = Unit {0}
 HasGroup SetStopAfterCommit = Unit {0}
 HasGroup (BreakEntry number) = Unit {0}

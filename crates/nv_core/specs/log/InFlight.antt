@@ -30,7 +30,7 @@ placed_after sizes event core placed = placed_acted sizes (core.passes event.by)
 abbrev pub IsFlying : Pass → Control → Type 0
 IsFlying pass (SeizeEntry number) = Unit {0}
 IsFlying pass (CommitGroup calls) = Unit {0}
-IsFlying pass (PledgePage page) = Unit {0}
+IsFlying pass (PledgePage place) = Unit {0}
 IsFlying pass (ReadyEntry number) = Unit {0}
 IsFlying pass TakePlace = is_write pass.call ≡ true
 IsFlying pass control = ⊥

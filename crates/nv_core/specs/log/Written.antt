@@ -57,7 +57,7 @@ commit_length sizes call first = 0
 abbrev pub HasCalls : Sizes → Log → Pass → Control → Type 0
 HasCalls sizes log pass (SeizeEntry number) = log.calls pass.first ≡ 0
 HasCalls sizes log pass (CommitGroup calls) = log.calls pass.first ≡ calls
-HasCalls sizes log pass (PledgePage page) = log.calls pass.first ≡ commit_length sizes pass.call pass.first
+HasCalls sizes log pass (PledgePage place) = log.calls pass.first ≡ commit_length sizes pass.call pass.first
 HasCalls sizes log pass (ReadyEntry number) = log.calls pass.first ≡ commit_length sizes pass.call pass.first
 HasCalls sizes log pass control = Unit {0}
 

@@ -5,7 +5,7 @@ use Rattle.nv_plain.specs.Histories.{Answered}
 use Rattle.nv_plain.specs.declared.call.FileCall.{FileCall}
 use Rattle.nv_core.specs.state.Words.{Sizes, Word, PAGE, same}
 use Rattle.nv_core.specs.state.Values.{Job, PageRead, PieceRead, CallEnding, Made, Failed, called, emptied, received, filled, Refused}
-use Rattle.nv_core.specs.state.Passes.{Control, Idle, ReadStore, GiveStore, GiveVictim, Searching, ReadPiece, ReturnEntry, GiveCleanup, CommitGroup, PledgePage, SetStopAfterRead, SetStopAfterPiece, SetStopAfterCommit, Pass, first_page, fetched_bytes, Cleaning, page_named}
+use Rattle.nv_core.specs.state.Passes.{Control, Idle, ReadStore, GiveStore, GiveVictim, Searching, ReadPiece, ReturnEntry, GiveCleanup, CommitGroup, PledgePage, SetStopAfterRead, SetStopAfterPiece, SetStopAfterCommit, Pass, fetched_bytes, Cleaning, page_named}
 use Rattle.nv_core.specs.steps.CleanerSteps.{after_cleaner_work}
 use Rattle.nv_core.specs.steps.Ops.{Op, Give, Pledge, Split, Join, word_of, value_after, patched_by}
 use Rattle.nv_core.specs.steps.PassSteps.{added, stepped, begun}
@@ -36,7 +36,7 @@ with_number f number value = λ other. if other == number then value else f othe
 -- where a pass stands after a device call
 abbrev pub control_worked : Sizes → Pass → CallEnding → Control → Control
 control_worked sizes pass Made (CommitGroup calls) =
-    if calls + 1 == length (commit_steps sizes pass pass.call) then PledgePage (first_page sizes pass.call) else CommitGroup (calls + 1)
+    if calls + 1 == length (commit_steps sizes pass pass.call) then PledgePage 0 else CommitGroup (calls + 1)
 control_worked sizes pass Made (ReadStore page dirty) = GiveStore page dirty
 control_worked sizes pass Made (ReadPiece page number) = ReturnEntry page number false
 control_worked sizes pass Made (Cleaning batch inner) = after_cleaner_work batch Made inner

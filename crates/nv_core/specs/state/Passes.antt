@@ -22,7 +22,8 @@ pub data Search : Type 0 where
   NotFound : Search
   HintSet : Search
 
--- Where a pass stands in the order of steps: what its next step is. A page is named by its number of all pages, an entry by its number.
+-- Where a pass stands in the order of steps: what its next step is. A page is named by its number of all pages, or by its place among those
+-- that the pass has taken, where it pledges all of them or gives them back; an entry by its number.
 pub data Control : Type 0 where
   -- no call is open
   Idle : Control
@@ -55,13 +56,13 @@ pub data Control : Type 0 where
   DrawNumbers : Control
   SeizeEntry : (number : ℕ) → Control
   CommitGroup : (calls : ℕ) → Control
-  PledgePage : (page : ℕ) → Control
+  PledgePage : (place : ℕ) → Control
   ReadyEntry : (number : ℕ) → Control
   -- the place in the history, the new length, and what is given back: SIZE, the pages
   TakePlace : Control
   GrowLength : Control
   GiveSize : Control
-  GivePage : (page : ℕ) → Control
+  GivePage : (place : ℕ) → Control
   -- a refusal gives back in the reverse order of taking; a fault first sets STOP, and breaks the entries of a write, or returns the one
   -- whose piece was read
   GiveBack : Control
@@ -239,7 +240,7 @@ IsAmong first entries number = (first ≤ number) × (number < first + entries)
 abbrev pub IsFilling : Control → (first entries number : ℕ) → Type 0
 IsFilling (SeizeEntry next) first entries number = (first ≤ number) × (number < next)
 IsFilling (CommitGroup calls) first entries number = IsAmong first entries number
-IsFilling (PledgePage page) first entries number = IsAmong first entries number
+IsFilling (PledgePage place) first entries number = IsAmong first entries number
 IsFilling (ReadyEntry next) first entries number = (number ≡ first) ⊎ ((first < next) × (next ≤ number) × (number < first + entries))
 IsFilling SetStopAfterCommit first entries number = IsAmong first entries number
 IsFilling (BreakEntry next) first entries number = (next ≤ number) × (number < first + entries)

@@ -48,7 +48,7 @@ phase LoadStop = at_stop
 phase LoadOrder = at_order
 phase GrowLength = at_growth
 phase GiveSize = at_end
-phase (GivePage page) = at_end
+phase (GivePage place) = at_end
 phase GiveBack = out_of_call
 phase (BreakEntry number) = out_of_call
 phase (ReturnEntry page number true) = out_of_call
@@ -66,7 +66,7 @@ leaving (cell ∷ rest) = GiveBack
 
 -- a call that has its place gives back SIZE, and then the pages
 abbrev pub giving : Sizes → FileCall → Control
-giving sizes call = if page_count sizes call == 0 then Idle else GivePage (first_page sizes call)
+giving sizes call = if page_count sizes call == 0 then Idle else GivePage 0
 
 abbrev pub ending : Sizes → Pass → Control
 ending sizes pass = if pass.sized then GiveSize else giving sizes pass.call
@@ -152,7 +152,7 @@ refused owned cell control = leaving owned
 abbrev pub after_give : Sizes → Pass → Word → Control → Control
 after_give sizes pass cell GiveBack = leaving (without cell pass.owned)
 after_give sizes pass cell GiveSize = giving sizes pass.call
-after_give sizes pass cell (GivePage page) = if page + 1 == end_page sizes pass.call then Idle else GivePage (page + 1)
+after_give sizes pass cell (GivePage place) = if place + 1 == page_count sizes pass.call then Idle else GivePage (place + 1)
 after_give sizes pass cell (GiveStore page dirty) = if dirty then ReadLoadHead page else VisitPage (page + 1)
 after_give sizes pass cell (GiveCleanup page) = VisitPage (page + 1)
 after_give sizes pass cell (Searching page tries search) = Searching page tries (pursued search)
@@ -162,6 +162,12 @@ after_give sizes pass cell control = control
 abbrev pub tries_of : Control → ℕ
 tries_of (Searching page tries search) = tries
 tries_of control = 0
+
+-- a page that was pledged is followed by the next one, or by the entries, the leader last
+abbrev pub after_pledge : Sizes → Pass → Control → Control
+after_pledge sizes pass (PledgePage place) =
+    if place + 1 == page_count sizes pass.call then ReadyEntry (if pass.entries == 1 then pass.first else pass.first + 1) else PledgePage (place + 1)
+after_pledge sizes pass control = control
 
 -- a fault's STOP is followed by the entries of a write, by the entry that a read holds, or by what else is held
 abbrev pub after_stop : Pass → Control → Control
@@ -194,8 +200,7 @@ control_after sizes pass (Place reply) found = if is_write pass.call && exceeds 
 control_after sizes pass Stop found = after_stop pass pass.control
 control_after sizes pass Draw found = if found == pass.head then SeizeEntry found else leaving pass.owned
 control_after sizes pass (Seize number) found = if number + 1 == pass.first + pass.entries then CommitGroup 0 else SeizeEntry (number + 1)
-control_after sizes pass (Pledge page) found =
-    if page + 1 == end_page sizes pass.call then ReadyEntry (if pass.entries == 1 then pass.first else pass.first + 1) else PledgePage (page + 1)
+control_after sizes pass (Pledge page) found = after_pledge sizes pass pass.control
 control_after sizes pass (Ready number) found =
     if number == pass.first then TakePlace else ReadyEntry (if number + 1 == pass.first + pass.entries then pass.first else number + 1)
 control_after sizes pass Grow found = ending sizes pass

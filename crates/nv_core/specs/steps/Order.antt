@@ -1,5 +1,5 @@
 -- The order of steps: when a step or a device call of a pass may come.
-use Rattle.std.specs.Prelude.{◌≡◌, ◌⊎◌, ℕ, ◌+◌, ◌-◌, ◌*◌, ◌%◌, ◌<◌, ◌≤◌, ◌==◌, Bool, true, false, if◌then◌else◌, List, [], ◌∷◌, length, slice_index_or, Option, Some, None, option_map, zero, suc, nat_lt, ◌&&◌}
+use Rattle.std.specs.Prelude.{◌≡◌, ◌⊎◌, ℕ, ◌+◌, ◌-◌, ◌*◌, ◌%◌, ◌<◌, ◌≤◌, ◌==◌, Bool, true, false, if◌then◌else◌, List, [], ◌∷◌, length, slice_index_or, Option, Some, None, option_map, zero, suc, nat_lt, ◌&&◌, slice_index}
 use Rattle.std.specs.List.{flat_map, range_with_len}
 use Rattle.nv_plain.specs.Faults.{Rose}
 use Rattle.nv_plain.specs.Files.{bytes_at, padded}
@@ -105,12 +105,12 @@ step_at sizes values pass WriteLoadHead = Some (Load HEAD)
 step_at sizes values pass WriteLoadTail = Some (Load TAIL)
 step_at sizes values pass DrawNumbers = Some Draw
 step_at sizes values pass (SeizeEntry number) = Some (Seize number)
-step_at sizes values pass (PledgePage page) = Some (Pledge page)
+step_at sizes values pass (PledgePage place) = Some (Pledge (slice_index pass.pages place))
 step_at sizes values pass (ReadyEntry number) = Some (Ready number)
 step_at sizes values pass TakePlace = Some (Place (plain_reply pass.call))
 step_at sizes values pass GrowLength = Some Grow
 step_at sizes values pass GiveSize = Some (Give (SIZE (file_of pass.call)))
-step_at sizes values pass (GivePage page) = Some (Give (PAGE page))
+step_at sizes values pass (GivePage place) = Some (Give (PAGE (slice_index pass.pages place)))
 step_at sizes values pass GiveBack = give_last pass.owned
 step_at sizes values pass (SetStopAfterRead page dirty) = Some Stop
 step_at sizes values pass (SetStopAfterPiece page number) = Some Stop

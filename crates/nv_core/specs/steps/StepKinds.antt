@@ -1,5 +1,5 @@
 -- The order of steps by the kinds of step: when each may come. It is the same as the table of next steps, by a law.
-use Rattle.std.specs.Prelude.{◌≡◌, ◌⊎◌, ℕ, ◌*◌, ◌<◌, ◌≤◌, Bool, true, false, Some}
+use Rattle.std.specs.Prelude.{◌≡◌, ◌⊎◌, ℕ, ◌*◌, ◌<◌, ◌≤◌, Bool, true, false, Some, slice_index}
 use Rattle.nv_plain.specs.declared.call.Reply.{Reply}
 use Rattle.nv_plain.specs.declared.call.Reply.TheVariants.{Bytes}
 use Rattle.nv_core.specs.state.Words.{Sizes, Word, STOP, ORDER, HEAD, TAIL, LENGTH, SIZE, STORE, ENTRY, HINT, PAGE, CLEANUP, DIRTY, slot_of_entry}
@@ -99,7 +99,7 @@ MayTake pass word = ⊥
 -- in the reverse order of taking
 abbrev pub MayGive : Pass → Word → Control → Type 0
 MayGive pass (SIZE file) GiveSize = file ≡ file_of pass.call
-MayGive pass (PAGE page) (GivePage next) = page ≡ next
+MayGive pass (PAGE page) (GivePage place) = page ≡ slice_index pass.pages place
 MayGive pass (STORE file) (GiveStore page dirty) = file ≡ file_of pass.call
 MayGive pass (CLEANUP page) (GiveCleanup next) = page ≡ next
 MayGive pass (PAGE page) (Searching missed tries (GiveVictim buffer victim)) = page ≡ victim
@@ -124,7 +124,7 @@ EnabledByKind sizes values pass (Place reply) = MayPlace sizes values pass reply
 EnabledByKind sizes values pass Stop = IsFailing pass.control
 EnabledByKind sizes values pass Draw = pass.control ≡ DrawNumbers
 EnabledByKind sizes values pass (Seize number) = pass.control ≡ SeizeEntry number
-EnabledByKind sizes values pass (Pledge page) = pass.control ≡ PledgePage page
+EnabledByKind sizes values pass (Pledge page) = (place : ℕ) × (pass.control ≡ PledgePage place) × (page ≡ slice_index pass.pages place)
 EnabledByKind sizes values pass (Ready number) = pass.control ≡ ReadyEntry number
 EnabledByKind sizes values pass Grow = pass.control ≡ GrowLength
 EnabledByKind sizes values pass (Break number) = pass.control ≡ BreakEntry number
