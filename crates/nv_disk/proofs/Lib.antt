@@ -1,0 +1,4 @@
+pub mod ShownLaws
+pub mod WrittenLaws
+pub mod WritingLaws
+pub mod PairLaws
