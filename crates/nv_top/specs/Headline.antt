@@ -92,11 +92,11 @@ IsPickedBySome options input old new = (new.picked ≡ old.picked) ⊎ OfRead fo
 abbrev pub IsPickedByAll : RunOptions → (input : Option (List ℕ)) → (old new : BenchState) → Type 0
 IsPickedByAll options input old new = OfRead forms.Sched input (λ trace. ArePickedAll (picks_of options trace) old new)
 
--- no device has failed in it where no token is a cut
+-- no device has failed in a schedule where no token of it is a cut
 abbrev pub IsWholeByInput : (input : Option (List ℕ)) → (old new : BenchState) → Type 0
 IsWholeByInput input old new = OfRead forms.Sched input (λ trace. IsUncutWhole trace old new)
 
--- and of one life at least
+-- power went off with some first ones of those picks, and with one at least
 abbrev pub IsPickedAtLast : RunOptions → (input : Option (List ℕ)) → (old new : BenchState) → Type 0
 IsPickedAtLast options input old new = OfRead forms.Sched input (λ trace. IsPickedLast (picks_of options trace) old new)
 
