@@ -20,6 +20,7 @@ pub mod KeepsMade
 pub mod KeepsLoaded
 pub mod KeepsLooks
 pub mod KeepsBounds
+pub mod KeepsCleaners
 pub mod Reach
 pub mod FaultedCells
 pub mod KeepsFaultedWrites

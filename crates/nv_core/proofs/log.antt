@@ -9,6 +9,7 @@ pub mod RowParts
 pub mod ReadiedLaws
 pub mod WrittenLaws
 pub mod FreedParts
+pub mod TailLaws
 pub mod KeepsWritten
 pub mod ImageLaws
 pub mod KeepsHeader

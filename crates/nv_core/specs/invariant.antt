@@ -5,6 +5,7 @@ pub mod Made
 pub mod CleanerOwnership
 pub mod Ownership
 pub mod CleanerNumbers
+pub mod Cleaners
 pub mod LogWindow
 pub mod StopWord
 pub mod DirtyCounters

@@ -1,5 +1,5 @@
 //! Laws of what the log has.
-ghost use Rattle.nv_core.specs.log.CleaningOrder.{NoCleanBeforeTheStore, NoFreeBeforeTheTail, NoMoveBeforeTheSync, NoSubtractBeforeTheClean};
+ghost use Rattle.nv_core.specs.log.CleaningOrder.{NoCleanBeforeTheStore, NoCleanOfAnothers, NoFreeBeforeTheTail, NoProgressBeforeTheSubtract, NoProgressBeforeTheSync, NoSubtractBeforeTheClean, NoTailAboveAProgress};
 ghost use Rattle.nv_core.specs.log.LogContent.{EventsKeepTheLog, OpeningHasTheLog, RunsKeepTheLog, GroupsAreInImages, GroupsComeLate, NoOldWordCounts};
 ghost use Rattle.nv_core.specs.walks.WalkOpens.{WalkOpensFiles, WalkOpensLog, WalkOpensRegion};
 
@@ -24,12 +24,16 @@ pub fn runs_keep_the_log()
 }
 
 /// What a step of a cleaner has before it, where the content of the log is right: an entry is returned as cleaned when its store
-/// has its piece, a page's DIRTY is lowered when an entry of it is cleaned, the header's tail is moved when each store that has a
-/// piece of the batch is durable, and an entry is freed when each image of the header has a tail above it.
+/// has its piece, and is of the cleaner's own files; a page's DIRTY is lowered when an entry of it is cleaned; a PROG is moved when
+/// each store is durable that has a piece of its files that it passes, and DIRTY has fallen for each; the header's tail is moved no
+/// higher than the PROG of any cleaner; and an entry is freed when each image of the header has a tail above it.
 pub fn cleaning_keeps_its_order()
     ensures store { NoCleanBeforeTheStore }
     ensures dirty { NoSubtractBeforeTheClean }
-    ensures sync { NoMoveBeforeTheSync }
+    ensures own { NoCleanOfAnothers }
+    ensures sync { NoProgressBeforeTheSync }
+    ensures owed { NoProgressBeforeTheSubtract }
+    ensures least { NoTailAboveAProgress }
     ensures tail { NoFreeBeforeTheTail }
 {}
 

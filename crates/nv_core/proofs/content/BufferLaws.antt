@@ -157,8 +157,8 @@ next_pageless sizes (cell ∷ rest) batch cleaner.GiveBack = if_both MayBePagele
 next_pageless sizes owned batch inner = tt
 
 cleaner_op_no_more : (sizes : Sizes) (cleaner_op : CleanerOp) (found page : ℕ) (owned : List Word) → IsPageless cleaner_op → times (PAGE page) (moved (cleaner_move sizes cleaner_op found) owned) ≤ times (PAGE page) owned
-cleaner_op_no_more sizes (TakeCleaner most) found page owned un = if_both (λ m. times (PAGE page) (moved m owned) ≤ times (PAGE page) owned) (found == 0) (Comes CLEANER) Stays
-    (λ _. let e = times_else (PAGE page) CLEANER owned (differ (PAGE page) CLEANER refl) in omega (arith, e)) (λ _. omega arith)
+cleaner_op_no_more sizes (TakeCleaner who most) found page owned un = if_both (λ m. times (PAGE page) (moved m owned) ≤ times (PAGE page) owned) (found == 0) (Comes (CLEANER who)) Stays
+    (λ _. let e = times_else (PAGE page) (CLEANER who) owned (differ (PAGE page) (CLEANER who) refl) in omega (arith, e)) (λ _. omega arith)
 cleaner_op_no_more sizes (cleaner.Take cell) found page owned un = if_both (λ m. times (PAGE page) (moved m owned) ≤ times (PAGE page) owned) (found == 0) (Comes cell) Stays
     (λ _. let e = times_else (PAGE page) cell owned (un page) in omega (arith, e)) (λ _. omega arith)
 cleaner_op_no_more sizes (cleaner.Give cell) found page owned un = less_times (PAGE page) cell owned
@@ -169,7 +169,7 @@ cleaner_op_no_more sizes cleaner_op found page owned un = omega arith
 
 pub by_cleaner_no_more : (sizes : Sizes) (pass : Pass) (cleaner_op : CleanerOp) (found page : ℕ) → CleanerEnabled sizes pass cleaner_op pass.control → times (PAGE page) (moved (cleaner_move sizes cleaner_op found) pass.owned) ≤ times (PAGE page) pass.owned
 by_cleaner_no_more sizes pass cleaner_op found page may =
-    cleaner_op_no_more sizes cleaner_op found page pass.owned (tended (λ c _. IsPageless c) sizes pass cleaner_op pass.control may (λ _. tt) (λ batch inner e. subst MayBePageless e (next_pageless sizes pass.owned batch inner)))
+    cleaner_op_no_more sizes cleaner_op found page pass.owned (tended (λ c _. IsPageless c) sizes pass cleaner_op pass.control may (λ _ _ _. tt) (λ batch inner e. subst MayBePageless e (next_pageless sizes pass.owned batch inner)))
 
 -- ---- control states at which no page is patched
 
@@ -255,7 +255,7 @@ plain_before sizes values pass (Pledge page) mild may = absurd mild
 plain_before sizes values pass (Ready number) mild may = absurd mild
 plain_before sizes values pass (Turn page) mild may = turned_at IsUnpatched sizes values pass page (λ _. tt) (λ _ _. tt) may
 plain_before sizes values pass (Hint buffer page) mild may = hinted_at IsUnpatched values pass buffer page (λ _. tt) may
-plain_before sizes values pass (ByCleaner cleaner_op) mild may = tended (λ _ s. IsUnpatched s) sizes pass cleaner_op pass.control may (λ _. tt) (λ _ _ _. tt)
+plain_before sizes values pass (ByCleaner cleaner_op) mild may = tended (λ _ s. IsUnpatched s) sizes pass cleaner_op pass.control may (λ _ _ _. tt) (λ _ _ _. tt)
 plain_before sizes values pass op mild may = absurd may
 
 module _ (sizes : Sizes) (values : Values) (pass : Pass) (page : ℕ) (old : List ℕ) where

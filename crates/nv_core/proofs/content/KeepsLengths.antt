@@ -86,7 +86,7 @@ step_growing sizes values pass (Hold number) un may = unlike _ may.1 (λ z. z)
 step_growing sizes values pass (Return number) un may = unlike _ may.2 (λ z. z)
 step_growing sizes values pass (Turn page) un may = turned_at (λ s. s ≡ GrowLength → ⊥) sizes values pass page (λ _. unlike _ refl (λ z. z)) (λ _ _. unlike _ refl (λ z. z)) may
 step_growing sizes values pass (Hint buffer page) un may = unlike _ may.is (λ z. z)
-step_growing sizes values pass (ByCleaner cleaner_op) un may = tended (λ c s. s ≡ GrowLength → ⊥) sizes pass cleaner_op pass.control may (λ most. unlike Idle refl (λ z. z)) (λ batch inner e. unlike (Cleaning batch inner) refl (λ z. z))
+step_growing sizes values pass (ByCleaner cleaner_op) un may = tended (λ c s. s ≡ GrowLength → ⊥) sizes pass cleaner_op pass.control may (λ _ _ _. unlike Idle refl (λ z. z)) (λ batch inner e. unlike (Cleaning batch inner) refl (λ z. z))
 step_growing sizes values pass op un may = absurd may
 
 -- and only a step that places a call leads there

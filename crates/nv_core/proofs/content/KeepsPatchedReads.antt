@@ -30,7 +30,7 @@ use Rattle.nv_core.specs.state.Cleaner.{Batch, CleanerControl, WriteBack, CleanE
 use Rattle.nv_core.specs.state.Cleaner as cleaner
 use Rattle.nv_core.specs.steps.CleanerSteps.{group_page}
 use Rattle.nv_core.specs.invariant.CleanerOwnership.{count_in, of_cleaner_cleanup}
-use Rattle.nv_core.specs.log.Progress.{HasLoadedTail}
+use Rattle.nv_core.specs.log.Progress.{HasLoadedProgress}
 use Rattle.nv_core.specs.content.ValidBuffers.{with_own_pieces}
 use Rattle.nv_core.specs.log.Groups.{Group, Log, log_stepped, log_worked}
 use Rattle.nv_core.specs.log.Pieces.{page_of_number}
@@ -57,7 +57,7 @@ use Rattle.nv_core.proofs.log.KeepsLive.{stores_same}
 use Rattle.nv_core.proofs.log.WrittenBackPages.{files_kept, page_left}
 use Rattle.nv_core.proofs.invariant.LockLaws.{only_holder}
 use Rattle.nv_core.proofs.steps.CleanerOps.{count_some}
-use Rattle.nv_core.proofs.log.CleanerGoes.{holds_cleanup, tail_loaded_sweeping}
+use Rattle.nv_core.proofs.log.CleanerGoes.{IsSweeping, holds_cleanup}
 use Rattle.nv_core.proofs.steps.CleanerControls.{tended_to, of_cleaner_worked}
 use Rattle.nv_core.proofs.log.KeepsGroups.{log_group}
 use Rattle.nv_core.proofs.log.WrittenLaws.{some_length}
@@ -135,19 +135,19 @@ module _ (sizes : Sizes) (first : Values) (log : Log) (opening : Files) (core : 
 
 -- where a cleaner holds an entry: it is at a place of the group at hand, and holds the CLEANUPs of the group
 pub record IsPlaced (batch : Batch) (inner : CleanerControl) (number : ℕ) : Type 0 where
-  pub tail_loaded : HasLoadedTail inner
+  pub prog_loaded : HasLoadedProgress inner
   pub low : batch.reached ≤ number
   pub high : number < batch.reached + length batch.pages
   pub cleans : (page : ℕ) → of_cleaner_cleanup batch inner page ≡ count_in batch.pages page
 
 of_cleaner_place : (batch : Batch) (owned : List Word) (inner : CleanerControl) (number : ℕ) → CleanerFactsAt batch owned inner → IsHeldByCleaner batch inner number → IsPlaced batch inner number
-of_cleaner_place batch owned (cleaner.HoldEntry i) number stands is = let a = is.0 in let b = is.1 in record { tail_loaded = tt; low = omega (arith, a); high = omega (arith, b, stands); cleans = λ page. refl }
-of_cleaner_place batch owned (cleaner.ReadPiece i) number stands is = let a = is.0 in let b = is.1 in record { tail_loaded = tt; low = omega (arith, a); high = omega (arith, b, stands); cleans = λ page. refl }
-of_cleaner_place batch owned (WriteBack i) number stands is = let a = is.0 in let b = is.1 in record { tail_loaded = tt; low = omega (arith, a); high = omega (arith, b, stands); cleans = λ page. refl }
-of_cleaner_place batch owned (CleanEntry i) number stands is = let a = is.0 in let b = is.1 in record { tail_loaded = tt; low = omega (arith, a); high = omega (arith, b); cleans = λ page. refl }
-of_cleaner_place batch owned (RefusedReturnEntry i end) number stands is = let a = is.0 in let b = is.1 in let s = stands.1 in record { tail_loaded = tt; low = omega (arith, a); high = omega (arith, b, s); cleans = λ page. refl }
-of_cleaner_place batch owned (FailedReturnEntry i end) number stands is = let a = is.0 in let b = is.1 in let s = stands.1 in record { tail_loaded = tt; low = omega (arith, a); high = omega (arith, b, s); cleans = λ page. refl }
-of_cleaner_place batch owned (SetStop held) number stands is = let a = is.0 in let b = is.1 in record { tail_loaded = tt; low = omega (arith, a); high = omega (arith, b, stands); cleans = λ page. refl }
+of_cleaner_place batch owned (cleaner.HoldEntry i) number stands is = let a = is.0 in let b = is.1 in record { prog_loaded = tt; low = omega (arith, a); high = omega (arith, b, stands); cleans = λ page. refl }
+of_cleaner_place batch owned (cleaner.ReadPiece i) number stands is = let a = is.0 in let b = is.1 in record { prog_loaded = tt; low = omega (arith, a); high = omega (arith, b, stands); cleans = λ page. refl }
+of_cleaner_place batch owned (WriteBack i) number stands is = let a = is.0 in let b = is.1 in record { prog_loaded = tt; low = omega (arith, a); high = omega (arith, b, stands); cleans = λ page. refl }
+of_cleaner_place batch owned (CleanEntry i) number stands is = let a = is.0 in let b = is.1 in record { prog_loaded = tt; low = omega (arith, a); high = omega (arith, b); cleans = λ page. refl }
+of_cleaner_place batch owned (RefusedReturnEntry i end) number stands is = let a = is.0 in let b = is.1 in let s = stands.1 in record { prog_loaded = tt; low = omega (arith, a); high = omega (arith, b, s); cleans = λ page. refl }
+of_cleaner_place batch owned (FailedReturnEntry i end) number stands is = let a = is.0 in let b = is.1 in let s = stands.1 in record { prog_loaded = tt; low = omega (arith, a); high = omega (arith, b, s); cleans = λ page. refl }
+of_cleaner_place batch owned (SetStop held) number stands is = let a = is.0 in let b = is.1 in record { prog_loaded = tt; low = omega (arith, a); high = omega (arith, b, stands); cleans = λ page. refl }
 of_cleaner_place batch owned inner number stands is = absurd is
 
 -- no other pass holds an entry of a page that a read scans
@@ -164,6 +164,10 @@ module _ (sizes : Sizes) (first : Values) (core : Core) (sound : Sound sizes fir
     ap (λ n. page_of (entry_word_at sizes core n)) e ∙ (entry_is held next (entry_word_at sizes core one) is).1,
   )
 
+  held_sweeping : (batch : Batch) (inner : CleanerControl) (number : ℕ) → IsHeldByCleaner batch inner number → IsSweeping inner
+  held_sweeping batch cleaner.GiveBack number is = is
+  held_sweeping batch inner number is = tt
+
   held_of : (m other : ℕ) (control : Control) → (core.passes m).control ≡ control → IsHeldEntry control other → HasCleanup m other
   held_of m other (ReadPiece next one) control is =
       let looks : LooksSound sizes core (core.passes m).pages (ReadPiece next one) = subst (LooksSound sizes core (core.passes m).pages) control (sound.loaded.looks m) in read_cleanup m next one other (ReadPiece next one) control (λ held. held (CLEANUP next) (λ slot. differ (CLEANUP next) (ENTRY slot) refl)) looks.1 is
@@ -178,9 +182,9 @@ module _ (sizes : Sizes) (first : Values) (core : Core) (sound : Sound sizes fir
       let i = other - batch.reached in
       let n : batch.reached + i ≡ other = omega (arith, low) in
       let inside : i < length batch.pages = omega (arith, low, high) in
-      let looked = (sound.grouped.progress.each m batch inner control place.tail_loaded).looked i inside in
+      let looked = (sound.grouped.progress.each m batch inner control place.prog_loaded).looked i inside in
       let c = count_some batch.pages i inside in
-      let e = holds_cleanup sizes first core sound m batch inner control (tail_loaded_sweeping inner place.tail_loaded) (group_page batch i) ∙ place.cleans (group_page batch i) in
+      let e = holds_cleanup sizes first core sound m batch inner control (held_sweeping batch inner other is) (group_page batch i) ∙ place.cleans (group_page batch i) in
       (group_page batch i, omega (arith, c, e), subst (λ k. page_of (entry_word_at sizes core k) ≡ group_page batch i) n looked.page)
   held_of m other control at_control is = absurd is
 

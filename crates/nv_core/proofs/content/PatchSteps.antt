@@ -23,6 +23,7 @@ use Rattle.nv_core.specs.invariant.Loaded.{LooksSound}
 use Rattle.nv_core.specs.steps.Order.{Values}
 use Rattle.nv_core.specs.invariant.ControlFacts.{FactsAt, HasDrawn, IsPage}
 use Rattle.nv_core.specs.state.Core.{Core, with_value, after_step}
+use Rattle.nv_core.proofs.log.TailLaws.{done_below}
 use Rattle.nv_core.proofs.steps.ByKind.{FoundEnabledByKind}
 use Rattle.nv_core.specs.invariant.LogWindow.{InWindow, entry_word_at}
 use Rattle.nv_core.specs.log.Groups.{Log, log_stepped, HasGroup, Groups}
@@ -171,7 +172,7 @@ fresh_high sizes first tails log core sound groups retired number within fresh =
     above : tails.next ≤ number
     above = elim (cases_lt number tails.next) [
       | inr more ↦ more
-      | inl less ↦ absurd (elim (retired.done number within less) [
+      | inl less ↦ absurd (elim (done_below sizes first tails log core sound retired number within less) [
         | inl clean ↦ not_both fresh (fresh_cleaned (entry_word_at sizes core number) clean)
         | inr freed ↦ not_both fresh (ap is_fresh (sound.window.freed_is freed.0 number freed.1))
       ])

@@ -32,6 +32,7 @@ use Rattle.nv_core.specs.log.LogContent.{LogContent}
 use Rattle.nv_core.specs.crash.CrashImages.{HasRegion, is_committed}
 use Rattle.nv_core.specs.invariant.Sound.{Sound}
 use Rattle.nv_core.specs.content.PlainLaws.{PlainLaws}
+use Rattle.nv_core.proofs.log.TailLaws as tail_laws
 use Rattle.nv_core.proofs.state.PageLaws.{write_pages}
 use Rattle.nv_core.proofs.log.LiveLaws.{pieces_after}
 use Rattle.nv_core.proofs.log.KeepsLive.{files_length}
@@ -184,7 +185,7 @@ module _ (plain : PlainLaws) (sizes : Sizes) (first : Values) (opened : Files) (
   next_high = let o = content.retired.order in elim which [ inl e ↦ omega (arith, e, o) | inr e ↦ omega (arith, e) ]
 
   pub tail_high : tail ≤ core.words HEAD
-  tail_high = let n = next_high in let h = content.retired.high in omega (arith, n, h)
+  tail_high = let n = next_high in let h = tail_laws.next_high sizes first tails log core sound content.retired in omega (arith, n, h)
 
   pub tail_low : core.words TAIL ≤ tail
   tail_low = let n = least_low in let l = region.low in omega (arith, n, l)

@@ -31,6 +31,7 @@ use Rattle.nv_core.specs.log.LogContent.{LogContent}
 use Rattle.nv_core.specs.crash.CrashImages.{AreImagesOfStores, is_in_flight, is_committed, is_added, added_unready, added_writes, IsFated, KeptInImage, Stored, Survives, HasRegion, StatesSurviveCrashes}
 use Rattle.nv_core.specs.invariant.Sound.{Sound}
 use Rattle.nv_core.specs.content.PlainLaws.{PlainLaws}
+use Rattle.nv_core.proofs.log.TailLaws.{done_below}
 use Rattle.nv_core.proofs.crash.CommutingLaws.{after_both}
 use Rattle.nv_core.proofs.log.LiveLaws.{rising_same, rising_none, rising_split, AllApart}
 use Rattle.nv_core.proofs.log.KeepsLive.{if_apart}
@@ -231,7 +232,7 @@ module _ (plain : PlainLaws) (sizes : Sizes) (first : Values) (opened : Files) (
   -- a number in flight below the tail was made ready, and is placed next
   stored : (n : ℕ) → InWindow core n → n < tail → leads n ≡ true → placed n ≡ false → (by : ℕ) × IsWaiting (core.passes by) n
   stored n within below leads_n none = content.flight.waiting n within (eqb-true (log.group n).first n leads_n)
-      (elim (content.retired.done n within (let t = to_next in omega (arith, below, t))) [
+      (elim (done_below sizes first tails log core sound content.retired n within (let t = to_next in omega (arith, below, t))) [
         | inl kind ↦ inl (ap (λ k. nat_le ready k && nat_le k cleaned) kind)
         | inr freed ↦ inr freed
       ]) none

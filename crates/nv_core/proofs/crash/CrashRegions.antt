@@ -20,10 +20,11 @@ use Rattle.nv_core.specs.steps.PassSteps.{begun}
 use Rattle.nv_core.specs.steps.Order.{Values}
 use Rattle.nv_core.specs.state.Core.{Core, with_value, after_step, after_begin, after_work, values_stepped, values_worked}
 use Rattle.nv_core.specs.steps.Events.{Act, BeginsCall, TakesStep, CallsDevice, Event, after_act, after_event, EventEnabled}
+use Rattle.nv_core.proofs.log.TailLaws.{next_high, tail_above, tail_within}
 use Rattle.nv_core.proofs.steps.ByKind.{FoundEnabledByKind, ActEnabledByKind, act_kind}
 use Rattle.nv_core.specs.log.Groups.{Log, log_acted, log_after}
 use Rattle.nv_core.specs.log.Written.{IsPart}
-use Rattle.nv_core.specs.log.Tails.{Tails, still, tails_moved, tails_worked, tails_acted, tails_after}
+use Rattle.nv_core.specs.log.Tails.{Tails, still, tails_moved, tails_worked, tails_acted}
 use Rattle.nv_core.specs.log.HeaderStays.{HeaderStays}
 use Rattle.nv_core.specs.log.Retiring.{TailsAt}
 use Rattle.nv_core.specs.crash.PersistentTail.{PersistentTail}
@@ -140,7 +141,7 @@ abbrev pub PersistentGoesOn : Type 0
 PersistentGoesOn =
     (sizes : Sizes) (first : Values) (opened : Files) (names : List (List ℕ)) (tails : Tails) (log : Log) (placed : ℕ → Bool) (core : Core) (event : Event)
     → Sound sizes first core → LogContent sizes first opened tails log placed core → HasRegion sizes names tails log core
-    → EventEnabled sizes event core → PersistentTail sizes (tails_after event core tails).next (log_after sizes event core log) (after_event sizes event core)
+    → EventEnabled sizes event core → PersistentTail sizes (log_after sizes event core log) (after_event sizes event core)
 
 -- these tails lie between two words
 abbrev AreWithin : (low high : ℕ) → Tails → Type 0
@@ -148,7 +149,7 @@ AreWithin low high tails = (low ≤ tails.least) × (tails.least ≤ high) × (t
 
 -- TAIL after a step is as it was, or the tail that the header has
 pub tail_after : (sizes : Sizes) (by : ℕ) (core : Core) (found : ℕ) (op : Op) → FoundEnabledByKind sizes by core op found → (least : ℕ) → core.words TAIL ≤ least
-    → ((batch : Batch) → (core.passes by).control ≡ Cleaning batch AdvanceTail → batch.reached ≤ least) → (after_step sizes by op found core).words TAIL ≤ least
+    → ((batch : Batch) → (core.passes by).control ≡ Cleaning batch AdvanceTail → batch.least ≤ least) → (after_step sizes by op found core).words TAIL ≤ least
 tail_after sizes by core found op may least low retiring = go op may
   where
     same : (op : Op) → FoundEnabledByKind sizes by core op found → touches op TAIL ≡ false → (after_step sizes by op found core).words TAIL ≤ least
@@ -181,7 +182,7 @@ module _ (laws : LogLaws) (sizes : Sizes) (first : Values) (opened : Files) (nam
   now_told = header_tells sizes names tails log core region (region_of part_word core.values) (region_is sizes part_word laws.now core.values)
 
   are_within : AreWithin (core.words TAIL) (core.words HEAD) tails
-  are_within = let l = region.low in let o = content.retired.order in let h = content.retired.high in (l, omega (arith, o, h), h)
+  are_within = let l = region.low in let o = content.retired.order in let h = next_high sizes first tails log core sound content.retired in (l, omega (arith, o, h), h)
 
   -- the tails after a device call
   worked_within : (by : ℕ) (ending : CallEnding) → AreWithin (core.words TAIL) (core.words HEAD) (tails_worked ending (core.passes by).control tails)
@@ -190,15 +191,15 @@ module _ (laws : LogLaws) (sizes : Sizes) (first : Values) (opened : Files) (nam
       go : (control : Control) → (core.passes by).control ≡ control → AreWithin (core.words TAIL) (core.words HEAD) (tails_worked ending control tails)
       go (Cleaning batch (MoveHeaderTail calls)) at = moved ending
         where
-          way : (batch.tail ≡ core.words TAIL) × (batch.tail ≤ batch.reached) × (batch.reached ≤ core.words HEAD)
-          way = let is = content.progress.each by batch (MoveHeaderTail calls) at tt in (is.tail, is.low, is.high)
+          way : (core.words TAIL ≤ batch.least) × (batch.least ≤ core.words HEAD)
+          way = let l = region.low in let o = tail_above sizes first tails log core sound content.retired by batch calls at in (omega (arith, l, o), tail_within sizes first tails log core sound content.retired by batch calls at)
 
-          next : AreWithin (core.words TAIL) (core.words HEAD) (record { least = tails.least; next = batch.reached; calls = calls + 1 })
-          next = (are_within.0, are_within.1, way.2)
+          next : AreWithin (core.words TAIL) (core.words HEAD) (record { least = tails.least; next = batch.least; calls = calls + 1 })
+          next = (are_within.0, are_within.1, way.1)
 
-          moved : (how : CallEnding) → AreWithin (core.words TAIL) (core.words HEAD) (tails_moved how batch.reached (calls + 1) tails)
-          moved Made = if_both (AreWithin (core.words TAIL) (core.words HEAD)) (calls + 1 == length (tail_steps batch.reached)) (still batch.reached) (record { least = tails.least; next = batch.reached; calls = calls + 1 })
-              (λ _. (let t = way.0 in let l = way.1 in omega (arith, t, l), way.2, way.2)) (λ _. next)
+          moved : (how : CallEnding) → AreWithin (core.words TAIL) (core.words HEAD) (tails_moved how batch.least (calls + 1) tails)
+          moved Made = if_both (AreWithin (core.words TAIL) (core.words HEAD)) (calls + 1 == length (tail_steps batch.least)) (still batch.least) (record { least = tails.least; next = batch.least; calls = calls + 1 })
+              (λ _. (way.0, way.1, way.1)) (λ _. next)
           moved (Failed true faults) = next
           moved how = are_within
       go control at = are_within
@@ -218,7 +219,7 @@ module _ (laws : LogLaws) (sizes : Sizes) (first : Values) (opened : Files) (nam
 
   -- a region after an event, by its parts
   region_now : (now : Core) (after : Tails) (next : Log) → HeaderStays core.values after now.values → AreWithin (core.words TAIL) (core.words HEAD) after → (part : Part) → IsPart (now.values HEADER) part
-      → now.words TAIL ≤ after.least → PersistentTail sizes after.next next now → HasRegion sizes names after next now
+      → now.words TAIL ≤ after.least → PersistentTail sizes next now → HasRegion sizes names after next now
   region_now now after next stays within part told low persistent = record {
     header = header_reads now.values after stays within part told;
     files = region.files;
@@ -229,8 +230,8 @@ module _ (laws : LogLaws) (sizes : Sizes) (first : Values) (opened : Files) (nam
 
   -- after a step, be it the first of a call
   region_step : (by : ℕ) (before : Core) (op : Op) (found : ℕ) (next : Log) → before.values ≡ core.values → before.words TAIL ≡ core.words TAIL
-      → ((batch : Batch) → (before.passes by).control ≡ Cleaning batch AdvanceTail → batch.reached ≤ tails.least) → FoundEnabledByKind sizes by before op found
-      → PersistentTail sizes tails.next next (after_step sizes by op found before) → HasRegion sizes names tails next (after_step sizes by op found before)
+      → ((batch : Batch) → (before.passes by).control ≡ Cleaning batch AdvanceTail → batch.least ≤ tails.least) → FoundEnabledByKind sizes by before op found
+      → PersistentTail sizes next (after_step sizes by op found before) → HasRegion sizes names tails next (after_step sizes by op found before)
   region_step by before op found next values tail retiring may persistent =
       region_now (after_step sizes by op found before) tails next
       (subst (λ v. HeaderStays core.values tails (values_stepped sizes (before.passes by) op v)) (sym values) (header_step sizes core.values tails (before.passes by) op core.values stays_here))
@@ -239,7 +240,7 @@ module _ (laws : LogLaws) (sizes : Sizes) (first : Values) (opened : Files) (nam
       (tail_after sizes by before found op may tails.least (let l = region.low in omega (arith, tail, l)) retiring)
       persistent
 
-  region_act : (by : ℕ) (act : Act) → ActEnabledByKind sizes by core act → PersistentTail sizes (tails_acted (core.passes by).control act tails).next (log_acted sizes (core.passes by) act log) (after_act sizes by act core)
+  region_act : (by : ℕ) (act : Act) → ActEnabledByKind sizes by core act → PersistentTail sizes (log_acted sizes (core.passes by) act log) (after_act sizes by act core)
       → HasRegion sizes names (tails_acted (core.passes by).control act tails) (log_acted sizes (core.passes by) act log) (after_act sizes by act core)
   region_act by (BeginsCall call op found) may persistent =
       region_step by (after_begin sizes by call core) op found (log_acted sizes (core.passes by) (BeginsCall call op found) log) refl refl

@@ -1,5 +1,6 @@
 -- Images of the stores: they differ from what the stores read as only where live pieces write that the image's log has, and those below its tail may be left out.
 use Rattle.std.proofs.Common.{◌≡◌, ◌⊎◌, ℕ, zero, suc, ◌+◌, ◌-◌, ◌<◌, ◌≤◌, ◌&&◌, ◌||◌, not, Bool, true, false, List, [], ◌∷◌, ◌++◌, length, get_or, Some, inl, inr, refl, sym, ap, subst, ◌∙◌, arith}
+use Rattle.std.proofs.lemmas.Nat.{mod_below}
 use Rattle.std.proofs.lemmas.Bool.{cases_lt, cases_Bool, eq-eqb, and_parts}
 use Rattle.std.proofs.lemmas.List.{get_or_past}
 use Rattle.std.proofs.lemmas.List.FromFn.{length-map-range_with_len}
@@ -8,7 +9,7 @@ use Rattle.nv_plain.specs.declared.call.FileCall.{FileCall}
 use Rattle.nv_plain.specs.Made.{after_calls, made_calls}
 use Rattle.nv_store.specs.Store.{is_unsynced}
 use Rattle.nv_store.specs.Images.{IsStoreImage}
-use Rattle.nv_core.specs.state.Words.{Sizes, HEAD, TAIL, STORE, kind_of, cleaned, was_readied}
+use Rattle.nv_core.specs.state.Words.{Sizes, HEAD, TAIL, STORE, PROG, cleaner_of_file, kind_of, cleaned, was_readied}
 use Rattle.nv_core.specs.steps.Order.{Values}
 use Rattle.nv_core.specs.state.Core.{Core}
 use Rattle.nv_core.specs.content.StorePages.{store_of_value}
@@ -21,6 +22,7 @@ use Rattle.nv_core.specs.log.LogContent.{LogContent}
 use Rattle.nv_core.specs.crash.CrashImages.{AreImagesOfStores, HasRegion}
 use Rattle.nv_core.specs.invariant.Sound.{Sound}
 use Rattle.nv_core.specs.content.PlainLaws.{PlainLaws}
+use Rattle.nv_core.proofs.log.TailLaws.{done_below, next_high}
 use Rattle.nv_core.proofs.state.Choices.{not_both}
 use Rattle.nv_core.proofs.crash.CoverLaws.{IsTouched, EndAlike, Agree, alike_after}
 use Rattle.nv_core.proofs.crash.DropLaws.{dropped, touched_rising, from_rising}
@@ -39,9 +41,10 @@ module _ (plain : PlainLaws) (sizes : Sizes) (first : Values) (opened : Files) (
 
   -- ---- images of the stores
 
-  in_a_piece : (file i : ℕ) → IsInAPiece sizes tails.next log core file i → IsTouched (pieces_from tail) file i
+  in_a_piece : (file i : ℕ) → IsInAPiece sizes (core.words (PROG (cleaner_of_file sizes file))) log core file i → IsTouched (pieces_from tail) file i
   in_a_piece file i is =
-      let h = is.within.1 in let l = is.high in
+      let h = is.within.1 in
+      let l : tails.next ≤ is.number = (let b = content.retired.below (cleaner_of_file sizes file) (mod_below file sizes.cleaners sound.cleaners.some) in let p = is.high in omega (arith, b, p)) in
       touched_rising piece tail (core.words HEAD - tail) is.number file i (omega (arith, l, high_tail)) (omega (arith, h, l, high_tail))
       (subst (λ b. IsTouched (call_if b (piece_call sizes (log.group is.number) is.number)) file i) (sym is.live) (inl is.touches))
 
@@ -53,7 +56,7 @@ module _ (plain : PlainLaws) (sizes : Sizes) (first : Values) (opened : Files) (
       told : store_of_value (core.values (STORE file)) ≡ Some ((content.tell.each file less).0)
       told = (content.tell.each file less).1
 
-      lies : LiesInPieces sizes tails.next log core file ((content.tell.each file less).0)
+      lies : LiesInPieces sizes (core.words (PROG (cleaner_of_file sizes file))) log core file ((content.tell.each file less).0)
       lies = region.persistent.stores file ((content.tell.each file less).0) less told
 
       is_image : IsStoreImage ((content.tell.each file less).0) (contents_of bytes file)
@@ -106,7 +109,7 @@ module _ (plain : PlainLaws) (sizes : Sizes) (first : Values) (opened : Files) (
 
   -- a live number below the tail is cleaned
   below_cleaned : (n : ℕ) → InWindow core n → n < tail → is_live sizes log core n ≡ true → is_cleaned sizes core n ≡ true
-  below_cleaned n within below live = elim (content.retired.done n within (omega (arith, below, high_tail))) [
+  below_cleaned n within below live = elim (done_below sizes first tails log core sound content.retired n within (omega (arith, below, high_tail))) [
     | inl kind ↦ eq-eqb (kind_of (entry_word_at sizes core n)) cleaned kind
     | inr freed ↦ absurd (not_both (and_parts (is_ready sizes core n) (is_ready sizes core (log.group n).first || is_cleaned sizes core n) live).0 (ap was_readied (sound.window.freed_is freed.0 n freed.1)))
   ]
@@ -141,7 +144,7 @@ module _ (plain : PlainLaws) (sizes : Sizes) (first : Values) (opened : Files) (
       next = omega arith
 
       begins : pieces_from from ≡ piece from ++ later
-      begins = let h = content.retired.high in let c : core.words HEAD - from ≡ suc (core.words HEAD - suc from) = omega (arith, low, high_tail, h) in ap (rising piece from) c
+      begins = let h = next_high sizes first tails log core sound content.retired in let c : core.words HEAD - from ≡ suc (core.words HEAD - suc from) = omega (arith, low, high_tail, h) in ap (rising piece from) c
 
       go : (b : Bool) → is_live sizes log core from ≡ b → after_calls (pieces_from from) (store_files sizes core.values) ≡ after_calls (uncleaned_pieces sizes log core) (store_files sizes core.values)
           → after_calls (pieces_from (core.words TAIL + suc count)) (store_files sizes core.values) ≡ after_calls (uncleaned_pieces sizes log core) (store_files sizes core.values)

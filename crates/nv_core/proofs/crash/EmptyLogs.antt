@@ -11,8 +11,8 @@ use Rattle.nv_plain.specs.Made.{after_calls}
 use Rattle.nv_pmem.specs.Images.{IsQuietPart}
 use Rattle.nv_header.specs.Laws.{after_some_tail}
 use Rattle.nv_store.specs.Store.{Store, IsQuietStore, is_unsynced}
-use Rattle.nv_core.specs.state.Words.{Sizes, HEAD, TAIL, ENTRY, HEADER, slot_of_entry}
-use Rattle.nv_core.specs.state.Cleaner.{MoveHeaderTail, SetStop}
+use Rattle.nv_core.specs.state.Words.{Sizes, HEAD, TAIL, ENTRY, HEADER, slot_of_entry, PROG, cleaner_of_file}
+use Rattle.nv_core.specs.state.Cleaner.{MoveHeaderTail, SetStopAfterMove}
 use Rattle.nv_core.specs.state.Passes.{Control, Pass, Cleaning, times}
 use Rattle.nv_core.specs.invariant.Ownership.{Ownership, HoldsLocks}
 use Rattle.nv_core.specs.state.Core.{Core}
@@ -40,10 +40,10 @@ no_pieces sizes log core none = ap (rising (λ n. call_if (is_live sizes log cor
 pub empty_logs_are_stored : EmptyLogsAreStored
 empty_logs_are_stored sizes first opened tails log placed core content none = content.live.files ∙ ap (λ c. after_calls c (store_files sizes core.values)) (no_pieces sizes log core none)
 
--- a cleaner that moves the tail, or has met a fault, holds HEADER
+-- a cleaner that moves the tail, or has met a fault at that, holds HEADER
 holds_header : (sizes : Sizes) (pass : Pass) (control : Control) → HoldsLocks sizes pass control → IsMoving control → times HEADER pass.owned ≡ 1
 holds_header sizes pass (Cleaning batch (MoveHeaderTail (suc calls))) held moves = held HEADER (λ slot e. cc)
-holds_header sizes pass (Cleaning batch (SetStop many)) held moves = held HEADER (λ slot e. cc)
+holds_header sizes pass (Cleaning batch SetStopAfterMove) held moves = held HEADER (λ slot e. cc)
 holds_header sizes pass (Cleaning batch inner) held moves = absurd moves
 holds_header sizes pass control held moves = absurd moves
 
@@ -78,7 +78,7 @@ filters_none test from (suc count) none = go (filter test (range_with_len (from 
 pub empty_logs_rest : EmptyLogsRest
 empty_logs_rest sizes first opened names tails log placed core sound content region empty = record {
   files = empty_logs_are_stored sizes first opened tails log placed core content empty.none;
-  stores = λ file store less told. durable sizes tails.next log core file store empty (region.persistent.stores file store less told);
+  stores = λ file store less told. durable sizes (core.words (PROG (cleaner_of_file sizes file))) log core file store empty (region.persistent.stores file store less told);
   header = λ part is. let moved = content.header.moved part is in subst IsQuietPart (sym (moved.is ∙ ap (λ c. after_some_tail tails.next c moved.before) unmoved ∙ none_moved tails.next moved.before)) moved.quiet;
   tail = content.retired.same unmoved;
   entries = blank;

@@ -1,16 +1,15 @@
 -- A cleaner's step and device call leave it standing as it needs to.
-use Rattle.std.proofs.Common.{◌≡◌, ◌≢◌, ℕ, zero, suc, ◌+◌, ◌-◌, ◌<◌, ◌≤◌, ◌==◌, nat_lt, not, ◌&&◌, List, [], ◌∷◌, length, refl, sym, subst, arith, length-append}
-use Rattle.std.proofs.lemmas.Bool.{eqb-false, ltb-true}
+use Rattle.std.proofs.Common.{◌≡◌, ◌≢◌, ℕ, zero, suc, ◌+◌, ◌-◌, ◌<◌, ◌≤◌, ◌==◌, nat_lt, if◌then◌else◌, List, [], ◌∷◌, length, refl, sym, subst, arith, length-append}
+use Rattle.std.proofs.lemmas.Bool.{eqb-true, eqb-false, ltb-true}
 use Rattle.nv_pmem.specs.Steps.{durable_store}
 use Rattle.nv_header.specs.HeaderSteps.{tail_steps}
 use Rattle.nv_core.specs.state.Words.{Sizes, Word, page_of}
 use Rattle.nv_core.specs.state.Values.{CallEnding, Made, Failed, Refused}
-use Rattle.nv_core.specs.state.Cleaner.{Batch, CleanerControl, TakeHeader, LoadTail, LoadHead, WriteBack, CleanEntry, SubtractDirty, RefusedReturnEntry, FailedReturnEntry, RefusedGiveCleanup, SyncStores, MoveHeaderTail, FreeEntry, AdvanceTail, GiveStores, GiveHeader, GiveCleaner, SetStop}
+use Rattle.nv_core.specs.state.Cleaner.{Batch, CleanerControl, LoadProgress, LoadHead, GiveCleaner, WriteBack, CleanEntry, SubtractDirty, RefusedReturnEntry, FailedReturnEntry, RefusedGiveCleanup, SyncStores, AdvanceProgress, GiveStores, TakeHeader, LoadStopAgain, LoadTail, LoadEachProgress, MoveHeaderTail, FreeEntry, AdvanceTail, GiveHeader, SetStop, SetStopAfterMove}
 use Rattle.nv_core.specs.state.Cleaner as cleaner
-use Rattle.nv_core.specs.steps.CleanerSteps.{after_cleaner_op, after_cleaner_work, withdrawing, syncing, discharging, finishing, surveying, surveyed, retreating, each_next, claimed, closed, next_group, batch_with_page, may_pass, rising_files, group_file, holds_store}
+use Rattle.nv_core.specs.steps.CleanerSteps.{after_cleaner_op, after_cleaner_work, withdrawing, syncing, discharging, finishing, surveying, surveyed, retreating, each_next, claimed, closed, next_group, passed_over, batch_with_page, is_of_another, may_pass, led, with_progress, retiring, count_of, rising_files, group_file, holds_store}
 use Rattle.nv_core.specs.state.Passes.{Control, Cleaning}
 use Rattle.nv_core.specs.invariant.ControlFacts.{CleanerFactsAt}
-use Rattle.nv_core.specs.log.Progress.{HasLoadedTail}
 use Rattle.nv_core.proofs.state.Choices.{if_both}
 
 -- it stands so where it is at a batch
@@ -33,25 +32,29 @@ pub moves_some : (tail : ℕ) → 0 < length (tail_steps tail)
 unfolding durable_store
 moves_some tail = omega arith
 
-syncs : (owned : List Word) (batch : Batch) (files : List ℕ) → batch.tail < batch.reached → StoodSweeping owned (syncing batch files)
-syncs owned batch [] more = (moves_some batch.reached, more)
-syncs owned batch (file ∷ rest) more = (some_file file rest, more)
+syncs : (owned : List Word) (batch : Batch) (files : List ℕ) → StoodSweeping owned (syncing batch files)
+syncs owned batch [] = tt
+syncs owned batch (file ∷ rest) = some_file file rest
 
 discharges : (owned : List Word) (batch : Batch) (files : List ℕ) → StoodSweeping owned (discharging batch files)
 discharges owned batch [] = tt
 discharges owned batch (file ∷ rest) = some_file file rest
 
-finishes : (sizes : Sizes) (owned : List Word) (batch : Batch) → batch.tail ≤ batch.reached → StoodSweeping owned (finishing sizes owned batch)
-finishes sizes owned batch low = if_both (StoodSweeping owned) (batch.reached == batch.tail) (withdrawing owned (closed batch)) (syncing (closed batch) (rising_files sizes batch))
-    (λ _. withdraws owned (closed batch)) (λ e. let ne = eqb-false batch.reached batch.tail e in syncs owned (closed batch) (rising_files sizes batch) (omega (arith, ne, low)))
+finishes : (sizes : Sizes) (owned : List Word) (batch : Batch) → StoodSweeping owned (finishing sizes batch)
+finishes sizes owned batch = syncs owned (closed batch) (rising_files sizes batch)
 
-surveys : (sizes : Sizes) (owned : List Word) (batch : Batch) → length batch.pages ≡ 0 → batch.tail ≤ batch.reached → StoodSweeping owned (surveying sizes owned batch)
-surveys sizes owned batch none low = if_both (StoodSweeping owned) (nat_lt batch.reached batch.head) (Cleaning batch (cleaner.LoadEntry 0)) (finishing sizes owned batch)
-    (λ e. (none, ltb-true batch.reached batch.head e)) (λ _. finishes sizes owned batch low)
+surveys : (sizes : Sizes) (owned : List Word) (batch : Batch) → length batch.pages ≡ 0 → StoodSweeping owned (surveying sizes batch)
+surveys sizes owned batch none = if_both (StoodSweeping owned) (nat_lt batch.reached batch.head) (Cleaning batch (cleaner.LoadEntry 0)) (finishing sizes batch)
+    (λ e. (none, ltb-true batch.reached batch.head e)) (λ _. finishes sizes owned batch)
 
-retreats : (sizes : Sizes) (owned : List Word) (batch : Batch) (i : ℕ) → i ≤ length batch.pages → batch.tail ≤ batch.reached → StoodSweeping owned (retreating sizes owned batch i)
-retreats sizes owned batch i most low = if_both (StoodSweeping owned) (i == 0) (finishing sizes owned batch) (Cleaning batch (RefusedGiveCleanup (i - 1)))
-    (λ _. finishes sizes owned batch low) (λ e. let ne = eqb-false i 0 e in omega (arith, ne, most))
+retreats : (sizes : Sizes) (owned : List Word) (batch : Batch) (i : ℕ) → i ≤ length batch.pages → StoodSweeping owned (retreating sizes owned batch i)
+retreats sizes owned batch i most = if_both (StoodSweeping owned) (i == 0) (if batch.reached == batch.start then withdrawing owned (closed batch) else finishing sizes batch) (Cleaning batch (RefusedGiveCleanup (i - 1)))
+    (λ _. if_both (StoodSweeping owned) (batch.reached == batch.start) (withdrawing owned (closed batch)) (finishing sizes batch) (λ _. withdraws owned (closed batch)) (λ _. finishes sizes owned batch))
+    (λ e. let ne = eqb-false i 0 e in omega (arith, ne, most))
+
+retires : (owned : List Word) (batch : Batch) → StoodSweeping owned (retiring batch)
+retires owned batch = if_both (StoodSweeping owned) (nat_lt batch.tail batch.least) (Cleaning batch (MoveHeaderTail 0)) (Cleaning batch GiveHeader)
+    (λ e. (moves_some batch.least, ltb-true batch.tail batch.least e)) (λ _. tt)
 
 surveyed_stands : (owned : List Word) (batch : Batch) (i : ℕ) → length batch.pages ≡ i + 1 → StoodSweeping owned (surveyed batch i)
 surveyed_stands owned batch i many = if_both (StoodSweeping owned) (nat_lt (i + 1) batch.count) (Cleaning batch (cleaner.LoadEntry (i + 1))) (Cleaning batch (cleaner.TakeCleanup 0))
@@ -70,60 +73,69 @@ claims sizes owned batch some = if_both (StoodSweeping owned) (holds_store batch
 page_more : (batch : Batch) (i found : ℕ) → length batch.pages ≡ i → length (batch_with_page batch i found).pages ≡ i + 1
 page_more batch i found many = let l = length-append batch.pages (page_of found ∷ []) in omega (arith, l, many)
 
-pub cleaner_stands : (sizes : Sizes) (old owned : List Word) (batch : Batch) (inner : CleanerControl) (found : ℕ) → (HasLoadedTail inner → batch.tail ≤ batch.reached) → CleanerFactsAt batch old inner → StoodSweeping owned (after_cleaner_op sizes owned batch inner found)
-cleaner_stands sizes old owned batch TakeHeader found low stands = if_both (StoodSweeping owned) (found == 0) (Cleaning batch cleaner.LoadStop) (withdrawing owned batch) (λ _. stands) (λ _. withdraws owned batch)
-cleaner_stands sizes old owned batch cleaner.LoadStop found low stands = if_both (StoodSweeping owned) (found == 0) (Cleaning batch LoadTail) (withdrawing owned batch) (λ _. stands) (λ _. withdraws owned batch)
-cleaner_stands sizes old owned batch LoadTail found low stands = stands
-cleaner_stands sizes old owned batch LoadHead found low stands = surveys sizes owned (record batch { head = found }) stands (low tt)
-cleaner_stands sizes old owned batch (cleaner.LoadEntry zero) found low stands =
-    if_both (StoodSweeping owned) (zero == 0 && not (may_pass batch found)) (finishing sizes owned batch) (surveyed (batch_with_page batch 0 found) 0)
-    (λ _. finishes sizes owned batch (low tt)) (λ _. surveyed_stands owned (batch_with_page batch 0 found) 0 (page_more batch 0 found stands.0))
-cleaner_stands sizes old owned batch (cleaner.LoadEntry (suc i)) found low stands =
-    if_both (StoodSweeping owned) (suc i == 0 && not (may_pass batch found)) (finishing sizes owned batch) (surveyed (batch_with_page batch (suc i) found) (suc i))
-    (λ _. finishes sizes owned batch (low tt)) (λ _. surveyed_stands owned (batch_with_page batch (suc i) found) (suc i) (page_more batch (suc i) found stands.0))
-cleaner_stands sizes old owned batch (cleaner.TakeCleanup i) found low stands =
+pub cleaner_stands : (sizes : Sizes) (old owned : List Word) (batch : Batch) (inner : CleanerControl) (found : ℕ) → CleanerFactsAt batch old inner → StoodSweeping owned (after_cleaner_op sizes owned batch inner found)
+cleaner_stands sizes old owned batch (cleaner.TakeCleanup i) found stands =
     if_both (StoodSweeping owned) (found == 0) (each_next batch i (cleaner.TakeCleanup (i + 1)) (claimed sizes batch)) (retreating sizes owned batch i)
     (λ _. next_stands owned batch i (cleaner.TakeCleanup (i + 1)) (claimed sizes batch) stands (λ more. more) (claims sizes owned batch (omega (arith, stands))))
-    (λ _. retreats sizes owned batch i (omega (arith, stands)) (low tt))
-cleaner_stands sizes old owned batch cleaner.TakeStore found low stands =
+    (λ _. retreats sizes owned batch i (omega (arith, stands)))
+cleaner_stands sizes old owned batch cleaner.TakeStore found stands =
     if_both (StoodSweeping owned) (found == 0) (Cleaning (record batch { files = group_file sizes batch ∷ batch.files }) (cleaner.HoldEntry 0)) (retreating sizes owned batch (length batch.pages))
-    (λ _. stands) (λ _. retreats sizes owned batch (length batch.pages) (omega arith) (low tt))
-cleaner_stands sizes old owned batch (cleaner.HoldEntry i) found low stands = stands
-cleaner_stands sizes old owned batch (cleaner.ReadPiece i) found low stands = stands
-cleaner_stands sizes old owned batch (WriteBack i) found low stands = stands
-cleaner_stands sizes old owned batch (CleanEntry i) found low stands = next_stands owned batch i (CleanEntry (i + 1)) (Cleaning batch (SubtractDirty 0)) stands (λ more. more) (omega (arith, stands))
-cleaner_stands sizes old owned batch (SubtractDirty i) found low stands = next_stands owned batch i (SubtractDirty (i + 1)) (Cleaning batch (cleaner.GiveCleanup 0)) stands (λ more. more) (omega (arith, stands))
-cleaner_stands sizes old owned batch (cleaner.GiveCleanup i) found low stands =
-    next_stands owned batch i (cleaner.GiveCleanup (i + 1)) (surveying sizes owned (next_group batch)) stands (λ more. more) (surveys sizes owned (next_group batch) refl (let l = low tt in omega (arith, l)))
-cleaner_stands sizes old owned batch (RefusedReturnEntry i end) found low stands = if_both (StoodSweeping owned) (i + 1 == end) (retreating sizes owned batch (length batch.pages)) (Cleaning batch (RefusedReturnEntry (i + 1) end))
-    (λ _. retreats sizes owned batch (length batch.pages) (omega arith) (low tt)) (λ e. (let ne = eqb-false (i + 1) end e in let s = stands.0 in omega (arith, ne, s), stands.1))
-cleaner_stands sizes old owned batch (FailedReturnEntry i end) found low stands = if_both (StoodSweeping owned) (i + 1 == end) (withdrawing owned batch) (Cleaning batch (FailedReturnEntry (i + 1) end))
-    (λ _. withdraws owned batch) (λ e. (let ne = eqb-false (i + 1) end e in let s = stands.0 in omega (arith, ne, s), stands.1))
-cleaner_stands sizes old owned batch (RefusedGiveCleanup i) found low stands = retreats sizes owned batch i (omega (arith, stands)) (low tt)
-cleaner_stands sizes old owned batch (SyncStores files) found low stands = stands
-cleaner_stands sizes old owned batch (MoveHeaderTail calls) found low stands = stands
-cleaner_stands sizes old owned batch (FreeEntry number) found low stands = if_both (StoodSweeping owned) (number + 1 == batch.reached) (Cleaning batch AdvanceTail) (Cleaning batch (FreeEntry (number + 1)))
-    (λ _. let a = stands.0 in let b = stands.1 in omega (arith, a, b)) (λ e. let ne = eqb-false (number + 1) batch.reached e in let a = stands.0 in let b = stands.1 in (omega (arith, a), omega (arith, ne, b)))
-cleaner_stands sizes old owned batch AdvanceTail found low stands = discharges owned batch (rising_files sizes batch)
-cleaner_stands sizes old owned batch (GiveStores []) found low stands = tt
-cleaner_stands sizes old owned batch (GiveStores (file ∷ rest)) found low stands = discharges owned batch rest
-cleaner_stands sizes old owned batch GiveHeader found low stands = tt
-cleaner_stands sizes old owned batch GiveCleaner found low stands = tt
-cleaner_stands sizes old owned batch (SetStop held) found low stands = if_both (StoodSweeping owned) (held == 0) (withdrawing owned batch) (Cleaning batch (FailedReturnEntry 0 held))
-    (λ _. withdraws owned batch) (λ e. (let ne = eqb-false held 0 e in omega (arith, ne), stands))
-cleaner_stands sizes old owned batch cleaner.GiveBack found low stands = withdraws owned batch
+    (λ _. stands) (λ _. retreats sizes owned batch (length batch.pages) (omega arith))
+cleaner_stands sizes old owned batch (cleaner.HoldEntry i) found stands = stands
+cleaner_stands sizes old owned batch (cleaner.ReadPiece i) found stands = stands
+cleaner_stands sizes old owned batch (WriteBack i) found stands = stands
+cleaner_stands sizes old owned batch (CleanEntry i) found stands = next_stands owned batch i (CleanEntry (i + 1)) (Cleaning batch (SubtractDirty 0)) stands (λ more. more) (omega (arith, stands))
+cleaner_stands sizes old owned batch (SubtractDirty i) found stands = next_stands owned batch i (SubtractDirty (i + 1)) (Cleaning batch (cleaner.GiveCleanup 0)) stands (λ more. more) (omega (arith, stands))
+cleaner_stands sizes old owned batch (RefusedReturnEntry i end) found stands = if_both (StoodSweeping owned) (i + 1 == end) (retreating sizes owned batch (length batch.pages)) (Cleaning batch (RefusedReturnEntry (i + 1) end))
+    (λ _. retreats sizes owned batch (length batch.pages) (omega arith)) (λ e. (let ne = eqb-false (i + 1) end e in let s = stands.0 in omega (arith, ne, s), stands.1))
+cleaner_stands sizes old owned batch (RefusedGiveCleanup i) found stands = retreats sizes owned batch i (omega (arith, stands))
+cleaner_stands sizes old owned batch (SyncStores files) found stands = stands
+cleaner_stands sizes old owned batch (MoveHeaderTail calls) found stands = stands
+cleaner_stands sizes old owned batch (GiveStores (file ∷ rest)) found stands = discharges owned batch rest
+cleaner_stands sizes old owned batch cleaner.LoadStop found stands = if_both (StoodSweeping owned) (found == 0) (Cleaning batch LoadProgress) (Cleaning batch GiveCleaner) (λ _. stands.0) (λ _. stands.1)
+cleaner_stands sizes old owned batch LoadProgress found stands = stands
+cleaner_stands sizes old owned batch LoadHead found stands = surveys sizes owned (record batch { head = found }) stands
+cleaner_stands sizes old owned batch GiveCleaner found stands = tt
+cleaner_stands sizes old owned batch (cleaner.LoadEntry zero) found stands =
+    if_both (StoodSweeping owned) (is_of_another sizes batch found) (surveying sizes (passed_over batch (count_of found))) (if may_pass batch found then surveyed (batch_with_page batch 0 found) 0 else finishing sizes batch)
+    (λ _. surveys sizes owned (passed_over batch (count_of found)) stands.0)
+    (λ _. if_both (StoodSweeping owned) (may_pass batch found) (surveyed (batch_with_page batch 0 found) 0) (finishing sizes batch) (λ _. surveyed_stands owned (batch_with_page batch 0 found) 0 (page_more batch 0 found stands.0)) (λ _. finishes sizes owned batch))
+cleaner_stands sizes old owned batch (cleaner.LoadEntry (suc i)) found stands =
+    if_both (StoodSweeping owned) (suc i == 0) (led sizes batch found) (surveyed (batch_with_page batch (suc i) found) (suc i))
+    (λ e. absurd (let z = eqb-true (suc i) 0 e in omega (arith, z))) (λ _. surveyed_stands owned (batch_with_page batch (suc i) found) (suc i) (page_more batch (suc i) found stands.0))
+cleaner_stands sizes old owned batch (cleaner.GiveCleanup i) found stands =
+    next_stands owned batch i (cleaner.GiveCleanup (i + 1)) (surveying sizes (next_group batch)) stands (λ more. more) (surveys sizes owned (next_group batch) refl)
+cleaner_stands sizes old owned batch (FailedReturnEntry i end) found stands = if_both (StoodSweeping owned) (i + 1 == end) (withdrawing owned (closed batch)) (Cleaning batch (FailedReturnEntry (i + 1) end))
+    (λ _. withdraws owned (closed batch)) (λ e. (let ne = eqb-false (i + 1) end e in let s = stands.0 in omega (arith, ne, s), stands.1))
+cleaner_stands sizes old owned batch AdvanceProgress found stands = discharges owned batch (rising_files sizes batch)
+cleaner_stands sizes old owned batch (GiveStores []) found stands = discharges owned batch []
+cleaner_stands sizes old owned batch TakeHeader found stands = if_both (StoodSweeping owned) (found == 0) (Cleaning batch LoadStopAgain) (withdrawing owned batch) (λ _. tt) (λ _. withdraws owned batch)
+cleaner_stands sizes old owned batch LoadStopAgain found stands = if_both (StoodSweeping owned) (found == 0) (Cleaning batch LoadTail) (withdrawing owned batch) (λ _. tt) (λ _. withdraws owned batch)
+cleaner_stands sizes old owned batch LoadTail found stands = tt
+cleaner_stands sizes old owned batch (LoadEachProgress who) found stands =
+    if_both (StoodSweeping owned) (who + 1 == sizes.cleaners) (retiring (with_progress batch who found)) (Cleaning (with_progress batch who found) (LoadEachProgress (who + 1)))
+    (λ _. retires owned (with_progress batch who found)) (λ _. tt)
+cleaner_stands sizes old owned batch (FreeEntry number) found stands = if_both (StoodSweeping owned) (number + 1 == batch.least) (Cleaning batch AdvanceTail) (Cleaning batch (FreeEntry (number + 1)))
+    (λ _. let a = stands.0 in let b = stands.1 in omega (arith, a, b)) (λ e. let ne = eqb-false (number + 1) batch.least e in let a = stands.0 in let b = stands.1 in (omega (arith, a), omega (arith, ne, b)))
+cleaner_stands sizes old owned batch AdvanceTail found stands = tt
+cleaner_stands sizes old owned batch GiveHeader found stands = withdraws owned batch
+cleaner_stands sizes old owned batch (SetStop held) found stands = if_both (StoodSweeping owned) (held == 0) (withdrawing owned (closed batch)) (Cleaning batch (FailedReturnEntry 0 held))
+    (λ _. withdraws owned (closed batch)) (λ e. (let ne = eqb-false held 0 e in omega (arith, ne), stands))
+cleaner_stands sizes old owned batch SetStopAfterMove found stands = withdraws owned batch
+cleaner_stands sizes old owned batch cleaner.GiveBack found stands = withdraws owned batch
 
 -- and a device call
 pub cleaner_works : (owned : List Word) (batch : Batch) (how : CallEnding) (inner : CleanerControl) → CleanerFactsAt batch owned inner → StoodSweeping owned (after_cleaner_work batch how inner)
 cleaner_works owned batch Made (cleaner.ReadPiece i) stands = stands
 cleaner_works owned batch Made (WriteBack i) stands = next_stands owned batch i (cleaner.HoldEntry (i + 1)) (Cleaning batch (CleanEntry 0)) stands (λ more. more) (omega (arith, stands))
 cleaner_works owned batch Made (SyncStores []) stands = stands
-cleaner_works owned batch Made (SyncStores (file ∷ rest)) stands = syncs owned batch rest stands.1
-cleaner_works owned batch Made (MoveHeaderTail calls) stands = if_both (StoodSweeping owned) (calls + 1 == length (tail_steps batch.reached)) (Cleaning batch (FreeEntry batch.tail)) (Cleaning batch (MoveHeaderTail (calls + 1)))
-    (λ _. (omega arith, stands.1)) (λ e. (let ne = eqb-false (calls + 1) (length (tail_steps batch.reached)) e in let s = stands.0 in omega (arith, ne, s), stands.1))
+cleaner_works owned batch Made (SyncStores (file ∷ rest)) stands = syncs owned batch rest
+cleaner_works owned batch Made (MoveHeaderTail calls) stands = if_both (StoodSweeping owned) (calls + 1 == length (tail_steps batch.least)) (Cleaning batch (FreeEntry batch.tail)) (Cleaning batch (MoveHeaderTail (calls + 1)))
+    (λ _. (omega arith, stands.1)) (λ e. (let ne = eqb-false (calls + 1) (length (tail_steps batch.least)) e in let s = stands.0 in omega (arith, ne, s), stands.1))
 cleaner_works owned batch Made inner stands = stands
 cleaner_works owned batch (Failed came faults) (cleaner.ReadPiece i) stands = omega (arith, stands)
 cleaner_works owned batch (Failed came faults) (WriteBack i) stands = omega (arith, stands)
+cleaner_works owned batch (Failed came faults) (MoveHeaderTail calls) stands = tt
 cleaner_works owned batch (Failed came faults) inner stands = omega arith
 cleaner_works owned batch Refused (WriteBack i) stands = (omega arith, omega (arith, stands))
 cleaner_works owned batch Refused inner stands = stands

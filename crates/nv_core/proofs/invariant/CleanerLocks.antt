@@ -1,12 +1,12 @@
 -- A cleaner's step leaves it with the locks that it then holds.
-use Rattle.std.proofs.Common.{◌≡◌, ◌≢◌, ℕ, zero, suc, ◌+◌, ◌-◌, ◌<◌, ◌≤◌, ◌==◌, nat_lt, not, ◌&&◌, ◌||◌, Bool, true, false, if◌then◌else◌, List, [], ◌∷◌, length, take, drop, Option, inl, inr, refl, sym, ap, subst, ◌∙◌, arith}
+use Rattle.std.proofs.Common.{◌≡◌, ◌≢◌, ℕ, zero, suc, ◌+◌, ◌-◌, ◌<◌, ◌≤◌, ◌==◌, nat_lt, ◌||◌, Bool, true, false, if◌then◌else◌, List, [], ◌∷◌, length, take, drop, Option, inl, inr, refl, sym, ap, subst, ◌∙◌, arith}
 use Rattle.std.specs.Prelude.{Some, None, filter}
-use Rattle.std.specs.List.{range_with_len}
+use Rattle.std.specs.List.{list_any, range_with_len}
 use Rattle.std.proofs.lemmas.Bool.{eqb-true, eqb-false, eq-eqb, ne_eqb, true≢false, cases_eq}
-use Rattle.nv_core.specs.state.Words.{Sizes, Word, STOP, HEAD, TAIL, CLEANER, HEADER, SIZE, STORE, ENTRY, CLEANUP, same, is_lock, slot_of_entry}
-use Rattle.nv_core.specs.state.Cleaner.{Batch, CleanerControl, TakeHeader, LoadTail, LoadHead, WriteBack, CleanEntry, SubtractDirty, RefusedReturnEntry, FailedReturnEntry, RefusedGiveCleanup, SyncStores, MoveHeaderTail, FreeEntry, AdvanceTail, GiveStores, GiveHeader, GiveCleaner, SetStop, CleanerOp, Clean, Subtract, Free, MoveTail}
+use Rattle.nv_core.specs.state.Words.{Sizes, Word, STOP, HEAD, TAIL, CLEANER, HEADER, SIZE, STORE, ENTRY, CLEANUP, PROG, same, is_lock, slot_of_entry}
+use Rattle.nv_core.specs.state.Cleaner.{Batch, CleanerControl, LoadProgress, LoadHead, GiveCleaner, WriteBack, CleanEntry, SubtractDirty, RefusedReturnEntry, FailedReturnEntry, RefusedGiveCleanup, SyncStores, AdvanceProgress, GiveStores, TakeHeader, LoadStopAgain, LoadTail, LoadEachProgress, MoveHeaderTail, FreeEntry, AdvanceTail, GiveHeader, SetStop, SetStopAfterMove, CleanerOp, Clean, Subtract, MoveProgress, Free, MoveTail}
 use Rattle.nv_core.specs.state.Cleaner as cleaner
-use Rattle.nv_core.specs.steps.CleanerSteps.{next_cleaner_op, last_taken, after_cleaner_op, withdrawing, syncing, discharging, finishing, surveying, surveyed, retreating, each_next, claimed, closed, next_group, batch_with_page, may_pass, rising_files, group_file, group_page, holds_store}
+use Rattle.nv_core.specs.steps.CleanerSteps.{next_cleaner_op, last_taken, after_cleaner_op, withdrawing, syncing, discharging, finishing, surveying, surveyed, retreating, each_next, claimed, closed, next_group, passed_over, batch_with_page, is_of_another, may_pass, led, with_progress, retiring, count_of, rising_files, group_file, group_page, holds_store}
 use Rattle.nv_core.specs.state.Passes.{Control, Idle, Cleaning, Pass, file_of, times, without}
 use Rattle.nv_core.specs.steps.Ops.{Comes, Stays, moved, cleaner_move}
 use Rattle.nv_core.specs.invariant.Ownership.{one_if, lock_held, HoldsLocks}
@@ -77,10 +77,15 @@ rising_count sizes batch file within = go (holds_store batch file) refl
 
 -- ---- locks at two places
 
--- where the three families agree, the locks do
-alike : (sizes : Sizes) (pass now : Pass) (one other : Batch) (s t : CleanerControl) → of_cleaner_header t ≡ of_cleaner_header s → ((file : ℕ) → of_cleaner_store other t file ≡ of_cleaner_store one s file) → ((page : ℕ) → of_cleaner_cleanup other t page ≡ of_cleaner_cleanup one s page)
+-- of CLEANER and HEADER
+abbrev own_of : Batch → CleanerControl → ℕ × ℕ
+own_of batch inner = (batch.cleaner, of_cleaner_header inner)
+
+-- where the families agree, the locks do
+alike : (sizes : Sizes) (pass now : Pass) (one other : Batch) (s t : CleanerControl) → own_of other t ≡ own_of one s → ((file : ℕ) → of_cleaner_store other t file ≡ of_cleaner_store one s file) → ((page : ℕ) → of_cleaner_cleanup other t page ≡ of_cleaner_cleanup one s page)
     → (cell : Word) → lock_held sizes now (Cleaning other t) cell ≡ lock_held sizes pass (Cleaning one s) cell
-alike sizes pass now one other s t header store cleanup HEADER = header
+alike sizes pass now one other s t header store cleanup HEADER = ap (λ (p : ℕ × ℕ). p.1) header
+alike sizes pass now one other s t header store cleanup (CLEANER c) = ap (λ (p : ℕ × ℕ). one_if (c == p.0)) header
 alike sizes pass now one other s t header store cleanup (STORE file) = store file
 alike sizes pass now one other s t header store cleanup (CLEANUP page) = cleanup page
 alike sizes pass now one other s t header store cleanup (SIZE file) = both_same (file == file_of now.call) 0 ∙ sym (both_same (file == file_of pass.call) 0)
@@ -94,11 +99,11 @@ module _ (sizes : Sizes) (pass now : Pass) where
   abbrev pub Was : Batch → CleanerControl → Type 0
   Was batch inner = HoldsAt sizes pass (Cleaning batch inner) pass.owned
 
-  pub goes_on : (one other : Batch) (s t : CleanerControl) → now.owned ≡ pass.owned → of_cleaner_header t ≡ of_cleaner_header s → ((file : ℕ) → of_cleaner_store other t file ≡ of_cleaner_store one s file) → ((page : ℕ) → of_cleaner_cleanup other t page ≡ of_cleaner_cleanup one s page)
+  pub goes_on : (one other : Batch) (s t : CleanerControl) → now.owned ≡ pass.owned → own_of other t ≡ own_of one s → ((file : ℕ) → of_cleaner_store other t file ≡ of_cleaner_store one s file) → ((page : ℕ) → of_cleaner_cleanup other t page ≡ of_cleaner_cleanup one s page)
       → Was one s → At other t
   goes_on one other s t owned header store cleanup was cell lock = ap (times cell) owned ∙ was cell lock ∙ sym (alike sizes pass now one other s t header store cleanup cell)
 
-  moves : (one other : Batch) (s t : CleanerControl) → of_cleaner_header t ≡ of_cleaner_header s → ((file : ℕ) → of_cleaner_store other t file ≡ of_cleaner_store one s file) → ((page : ℕ) → of_cleaner_cleanup other t page ≡ of_cleaner_cleanup one s page) → At one s → At other t
+  moves : (one other : Batch) (s t : CleanerControl) → own_of other t ≡ own_of one s → ((file : ℕ) → of_cleaner_store other t file ≡ of_cleaner_store one s file) → ((page : ℕ) → of_cleaner_cleanup other t page ≡ of_cleaner_cleanup one s page) → At one s → At other t
   moves one other s t header store cleanup at cell lock = at cell lock ∙ sym (alike sizes now now one other s t header store cleanup cell)
 
   -- ---- what follows
@@ -108,24 +113,24 @@ module _ (sizes : Sizes) (pass now : Pass) where
   withdrawn (cell ∷ rest) batch is = tt
 
   synced : (batch : Batch) (files : List ℕ) → At batch LoadHead → HoldsLocks sizes now (syncing batch files)
-  synced batch [] at = moves batch batch LoadHead (MoveHeaderTail 0) refl (λ file. refl) (λ page. refl) at
+  synced batch [] at = moves batch batch LoadHead AdvanceProgress refl (λ file. refl) (λ page. refl) at
   synced batch (file ∷ rest) at = moves batch batch LoadHead (SyncStores (file ∷ rest)) refl (λ file. refl) (λ page. refl) at
 
-  finished : (batch : Batch) → At batch LoadHead → HoldsLocks sizes now (finishing sizes now.owned batch)
-  finished batch at = if_both (HoldsLocks sizes now) (batch.reached == batch.tail) (withdrawing now.owned (closed batch)) (syncing (closed batch) (rising_files sizes batch))
-      (λ _. withdrawn now.owned (closed batch) refl) (λ _. synced (closed batch) (rising_files sizes batch) (moves batch (closed batch) LoadHead LoadHead refl (λ file. refl) (λ page. refl) at))
+  finished : (batch : Batch) → At batch LoadHead → HoldsLocks sizes now (finishing sizes batch)
+  finished batch at = synced (closed batch) (rising_files sizes batch) (moves batch (closed batch) LoadHead LoadHead refl (λ file. refl) (λ page. refl) at)
 
-  surveyed_next : (batch : Batch) → At batch LoadHead → HoldsLocks sizes now (surveying sizes now.owned batch)
-  surveyed_next batch at = if_both (HoldsLocks sizes now) (nat_lt batch.reached batch.head) (Cleaning batch (cleaner.LoadEntry 0)) (finishing sizes now.owned batch)
+  surveyed_next : (batch : Batch) → At batch LoadHead → HoldsLocks sizes now (surveying sizes batch)
+  surveyed_next batch at = if_both (HoldsLocks sizes now) (nat_lt batch.reached batch.head) (Cleaning batch (cleaner.LoadEntry 0)) (finishing sizes batch)
       (λ _. moves batch batch LoadHead (cleaner.LoadEntry 0) refl (λ file. refl) (λ page. refl) at) (λ _. finished batch at)
 
   retreated : (batch : Batch) (i : ℕ) → At batch (cleaner.TakeCleanup i) → HoldsLocks sizes now (retreating sizes now.owned batch i)
-  retreated batch i at = if_both (HoldsLocks sizes now) (i == 0) (finishing sizes now.owned batch) (Cleaning batch (RefusedGiveCleanup (i - 1)))
-      (λ e. let z = eqb-true i 0 e in finished batch (moves batch batch (cleaner.TakeCleanup i) LoadHead refl (λ file. refl) (λ page. sym (ap (λ n. count_in (take n batch.pages) page) z)) at))
+  retreated batch i at = if_both (HoldsLocks sizes now) (i == 0) (if batch.reached == batch.start then withdrawing now.owned (closed batch) else finishing sizes batch) (Cleaning batch (RefusedGiveCleanup (i - 1)))
+      (λ e. let z = eqb-true i 0 e in if_both (HoldsLocks sizes now) (batch.reached == batch.start) (withdrawing now.owned (closed batch)) (finishing sizes batch) (λ _. withdrawn now.owned (closed batch) refl)
+      (λ _. finished batch (moves batch batch (cleaner.TakeCleanup i) LoadHead refl (λ file. refl) (λ page. sym (ap (λ n. count_in (take n batch.pages) page) z)) at)))
       (λ e. let ne = eqb-false i 0 e in let n : i - 1 + 1 ≡ i = omega (arith, ne) in moves batch batch (cleaner.TakeCleanup i) (RefusedGiveCleanup (i - 1)) refl (λ file. refl) (λ page. ap (λ k. count_in (take k batch.pages) page) n) at)
 
   -- all pages of the group at hand, however they are counted
-  all_claimed : (batch : Batch) (t : CleanerControl) → of_cleaner_header t ≡ 1 → ((file : ℕ) → of_cleaner_store batch t file ≡ of_cleaner_store batch LoadHead file) → ((page : ℕ) → of_cleaner_cleanup batch t page ≡ count_in batch.pages page) → At batch (cleaner.TakeCleanup (length batch.pages)) → At batch t
+  all_claimed : (batch : Batch) (t : CleanerControl) → own_of batch t ≡ own_of batch LoadHead → ((file : ℕ) → of_cleaner_store batch t file ≡ of_cleaner_store batch LoadHead file) → ((page : ℕ) → of_cleaner_cleanup batch t page ≡ count_in batch.pages page) → At batch (cleaner.TakeCleanup (length batch.pages)) → At batch t
   all_claimed batch t header store cleanup at = moves batch batch (cleaner.TakeCleanup (length batch.pages)) t header store (λ page. cleanup page ∙ sym (count_all batch.pages (length batch.pages) page (omega arith))) at
 
   pub next_held : (batch : Batch) (i : ℕ) (inner : CleanerControl) (last : Control) → HoldsLocks sizes now (Cleaning batch inner) → (i + 1 ≡ length batch.pages → HoldsLocks sizes now last) → HoldsLocks sizes now (each_next batch i inner last)
@@ -147,34 +152,41 @@ module _ (sizes : Sizes) (old new : Pass) (one other : Batch) (s t : CleanerCont
   sizes_owe : (file : ℕ) → (if file == file_of new.call then 0 else 0) ≡ 0 + (if file == file_of old.call then 0 else 0)
   sizes_owe file = none_more (if file == file_of new.call then 0 else 0) (if file == file_of old.call then 0 else 0) (both_same (file == file_of new.call) 0) (both_same (file == file_of old.call) 0)
 
-  owe_header : of_cleaner_header t ≡ 1 + of_cleaner_header s → ((file : ℕ) → of_cleaner_store other t file ≡ of_cleaner_store one s file) → ((page : ℕ) → of_cleaner_cleanup other t page ≡ of_cleaner_cleanup one s page) → Owes HEADER
-  owe_header header store cleanup HEADER = header
+  owe_header : own_of other t ≡ (one.cleaner, 1 + of_cleaner_header s) → ((file : ℕ) → of_cleaner_store other t file ≡ of_cleaner_store one s file) → ((page : ℕ) → of_cleaner_cleanup other t page ≡ of_cleaner_cleanup one s page) → Owes HEADER
+  owe_header header store cleanup HEADER = ap (λ (p : ℕ × ℕ). p.1) header
+  owe_header header store cleanup (CLEANER c) = ap (λ (p : ℕ × ℕ). one_if (c == p.0)) header ∙ zero_more _
   owe_header header store cleanup (STORE file) = store file ∙ zero_more (of_cleaner_store one s file)
   owe_header header store cleanup (CLEANUP page) = cleanup page ∙ zero_more (of_cleaner_cleanup one s page)
   owe_header header store cleanup (SIZE file) = sizes_owe file
   owe_header header store cleanup word = refl
 
-  owe_store : (cell : ℕ) → of_cleaner_header t ≡ of_cleaner_header s → ((file : ℕ) → of_cleaner_store other t file ≡ one_if (file == cell) + of_cleaner_store one s file) → ((page : ℕ) → of_cleaner_cleanup other t page ≡ of_cleaner_cleanup one s page) → Owes (STORE cell)
-  owe_store cell header store cleanup HEADER = header ∙ zero_more (of_cleaner_header s)
+  owe_store : (cell : ℕ) → own_of other t ≡ own_of one s → ((file : ℕ) → of_cleaner_store other t file ≡ one_if (file == cell) + of_cleaner_store one s file) → ((page : ℕ) → of_cleaner_cleanup other t page ≡ of_cleaner_cleanup one s page) → Owes (STORE cell)
+  owe_store cell header store cleanup HEADER = ap (λ (p : ℕ × ℕ). p.1) header ∙ zero_more (of_cleaner_header s)
+  owe_store cell header store cleanup (CLEANER c) = ap (λ (p : ℕ × ℕ). one_if (c == p.0)) header ∙ zero_more _
   owe_store cell header store cleanup (STORE file) = store file
   owe_store cell header store cleanup (CLEANUP page) = cleanup page ∙ zero_more (of_cleaner_cleanup one s page)
   owe_store cell header store cleanup (SIZE file) = sizes_owe file
   owe_store cell header store cleanup word = refl
 
-  owe_cleanup : (cell : ℕ) → of_cleaner_header t ≡ of_cleaner_header s → ((file : ℕ) → of_cleaner_store other t file ≡ of_cleaner_store one s file) → ((page : ℕ) → of_cleaner_cleanup other t page ≡ one_if (page == cell) + of_cleaner_cleanup one s page) → Owes (CLEANUP cell)
-  owe_cleanup cell header store cleanup HEADER = header ∙ zero_more (of_cleaner_header s)
+  owe_cleanup : (cell : ℕ) → own_of other t ≡ own_of one s → ((file : ℕ) → of_cleaner_store other t file ≡ of_cleaner_store one s file) → ((page : ℕ) → of_cleaner_cleanup other t page ≡ one_if (page == cell) + of_cleaner_cleanup one s page) → Owes (CLEANUP cell)
+  owe_cleanup cell header store cleanup HEADER = ap (λ (p : ℕ × ℕ). p.1) header ∙ zero_more (of_cleaner_header s)
+  owe_cleanup cell header store cleanup (CLEANER c) = ap (λ (p : ℕ × ℕ). one_if (c == p.0)) header ∙ zero_more _
   owe_cleanup cell header store cleanup (STORE file) = store file ∙ zero_more (of_cleaner_store one s file)
   owe_cleanup cell header store cleanup (CLEANUP page) = cleanup page
   owe_cleanup cell header store cleanup (SIZE file) = sizes_owe file
   owe_cleanup cell header store cleanup word = refl
 
--- CLEANER alone is held where HEADER is next, and where it is given back last
+-- CLEANER alone is held where the batch begins, and where STOP was found
 pub owe_cleaner : (sizes : Sizes) (old new : Pass) (batch : Batch) (t : CleanerControl) → of_cleaner_header t ≡ 0 → ((file : ℕ) → of_cleaner_store batch t file ≡ 0) → ((page : ℕ) → of_cleaner_cleanup batch t page ≡ 0)
-    → (word : Word) → lock_held sizes new (Cleaning batch t) word ≡ one_if (same word CLEANER) + lock_held sizes old Idle word
+    → (word : Word) → lock_held sizes new (Cleaning batch t) word ≡ one_if (same word (CLEANER batch.cleaner)) + lock_held sizes old Idle word
 owe_cleaner sizes old new batch t header store cleanup HEADER = none_more (of_cleaner_header t) 0 header refl
 owe_cleaner sizes old new batch t header store cleanup (STORE file) = none_more (of_cleaner_store batch t file) (if file == file_of old.call then 0 else 0) (store file) (both_same (file == file_of old.call) 0)
 owe_cleaner sizes old new batch t header store cleanup (CLEANUP page) = none_more (of_cleaner_cleanup batch t page) 0 (cleanup page) refl
 owe_cleaner sizes old new batch t header store cleanup (SIZE file) = none_more (if file == file_of new.call then 0 else 0) (if file == file_of old.call then 0 else 0) (both_same (file == file_of new.call) 0) (both_same (file == file_of old.call) 0)
+owe_cleaner sizes old new batch t header store cleanup (CLEANER c) = more _
+  where
+    more : (n : ℕ) → n ≡ n + 0
+    more n = omega arith
 owe_cleaner sizes old new batch t header store cleanup word = refl
 
 -- ---- steps
@@ -199,11 +211,11 @@ module _ (sizes : Sizes) (pass now : Pass) (found : ℕ) (cleaner_op : CleanerOp
   missed cell e shut = after_next (cleaner.Take cell) e ∙ ap (λ m. moved m pass.owned) (when_false (found == 0) (Comes cell) Stays shut)
 
   -- an entry that moves leaves the locks
-  entry_more : (batch other : Batch) (s t : CleanerControl) (slot : ℕ) → now.owned ≡ ENTRY slot ∷ pass.owned → of_cleaner_header t ≡ of_cleaner_header s → ((file : ℕ) → of_cleaner_store other t file ≡ of_cleaner_store batch s file) → ((page : ℕ) → of_cleaner_cleanup other t page ≡ of_cleaner_cleanup batch s page)
+  entry_more : (batch other : Batch) (s t : CleanerControl) (slot : ℕ) → now.owned ≡ ENTRY slot ∷ pass.owned → own_of other t ≡ own_of batch s → ((file : ℕ) → of_cleaner_store other t file ≡ of_cleaner_store batch s file) → ((page : ℕ) → of_cleaner_cleanup other t page ≡ of_cleaner_cleanup batch s page)
       → Was sizes pass now batch s → At sizes pass now other t
   entry_more batch other s t slot is header store cleanup was cell lock = entry_taken sizes pass now (Cleaning batch s) slot is was cell lock ∙ sym (alike sizes pass now batch other s t header store cleanup cell)
 
-  entry_less : (batch other : Batch) (s t : CleanerControl) (slot : ℕ) → now.owned ≡ without (ENTRY slot) pass.owned → of_cleaner_header t ≡ of_cleaner_header s → ((file : ℕ) → of_cleaner_store other t file ≡ of_cleaner_store batch s file) → ((page : ℕ) → of_cleaner_cleanup other t page ≡ of_cleaner_cleanup batch s page)
+  entry_less : (batch other : Batch) (s t : CleanerControl) (slot : ℕ) → now.owned ≡ without (ENTRY slot) pass.owned → own_of other t ≡ own_of batch s → ((file : ℕ) → of_cleaner_store other t file ≡ of_cleaner_store batch s file) → ((page : ℕ) → of_cleaner_cleanup other t page ≡ of_cleaner_cleanup batch s page)
       → Was sizes pass now batch s → At sizes pass now other t
   entry_less batch other s t slot is header store cleanup was cell lock = entry_given sizes pass now (Cleaning batch s) slot is was cell lock ∙ sym (alike sizes pass now batch other s t header store cleanup cell)
 
@@ -212,7 +224,7 @@ module _ (sizes : Sizes) (pass now : Pass) where
   took_page batch i within is was = taken sizes pass now (Cleaning batch (cleaner.TakeCleanup i)) (Cleaning batch (cleaner.TakeCleanup (i + 1))) (CLEANUP (group_page batch i)) is
       (owe_cleanup sizes pass now batch batch (cleaner.TakeCleanup i) (cleaner.TakeCleanup (i + 1)) (group_page batch i) refl (λ file. refl) (λ page. count_take batch.pages i page within)) was
 
-  gave_page : (batch : Batch) (s t : CleanerControl) (i : ℕ) → now.owned ≡ without (CLEANUP (group_page batch i)) pass.owned → lock_held sizes pass (Cleaning batch s) (CLEANUP (group_page batch i)) ≢ 0 → of_cleaner_header s ≡ of_cleaner_header t
+  gave_page : (batch : Batch) (s t : CleanerControl) (i : ℕ) → now.owned ≡ without (CLEANUP (group_page batch i)) pass.owned → lock_held sizes pass (Cleaning batch s) (CLEANUP (group_page batch i)) ≢ 0 → own_of batch s ≡ own_of batch t
       → ((file : ℕ) → of_cleaner_store batch s file ≡ of_cleaner_store batch t file) → ((page : ℕ) → of_cleaner_cleanup batch s page ≡ one_if (page == group_page batch i) + of_cleaner_cleanup batch t page) → HoldsAt sizes pass (Cleaning batch s) pass.owned → At sizes pass now batch t
   gave_page batch s t i is some header store cleanup was = given sizes pass now (Cleaning batch s) (Cleaning batch t) (CLEANUP (group_page batch i)) is
       (let h = was (CLEANUP (group_page batch i)) (λ slot e. cc) in omega (arith, h, some)) (owe_cleanup sizes now pass batch batch t s (group_page batch i) header store cleanup) was
@@ -230,29 +242,18 @@ module _ (sizes : Sizes) (pass now : Pass) where
   ]
 
   discharged : (batch : Batch) (files : List ℕ) → At sizes pass now batch (GiveStores files) → HoldsLocks sizes now (discharging batch files)
-  discharged batch [] at = moves sizes pass now batch batch (GiveStores []) GiveHeader refl (λ file. refl) (λ page. refl) at
+  discharged batch [] at = moves sizes pass now batch (record batch { files = [] }) (GiveStores []) TakeHeader refl (λ file. refl) (λ page. refl) at
   discharged batch (file ∷ rest) at = at
+
+  one_more_page : (batch : Batch) (i found : ℕ) → At sizes pass now batch LoadHead → HoldsLocks sizes now (surveyed (batch_with_page batch i found) i)
+  one_more_page batch i found at = if_both (HoldsLocks sizes now) (nat_lt (i + 1) (batch_with_page batch i found).count) (Cleaning (batch_with_page batch i found) (cleaner.LoadEntry (i + 1))) (Cleaning (batch_with_page batch i found) (cleaner.TakeCleanup 0))
+      (λ _. moves sizes pass now batch (batch_with_page batch i found) LoadHead (cleaner.LoadEntry (i + 1)) refl (λ file. refl) (λ page. refl) at)
+      (λ _. moves sizes pass now batch (batch_with_page batch i found) LoadHead (cleaner.TakeCleanup 0) refl (λ file. refl) (λ page. refl) at)
 
   -- a step of a cleaner leaves it with its locks
   pub cleaner_locks : (batch : Batch) (inner : CleanerControl) (cleaner_op : CleanerOp) (found : ℕ) → now.owned ≡ moved (cleaner_move sizes cleaner_op found) pass.owned → next_cleaner_op sizes pass.owned batch inner ≡ Some cleaner_op → CleanerFactsAt batch pass.owned inner
-      → ((found == 0) ≡ true → (cell : Word) → cleaner_op ≡ cleaner.Take cell → times cell pass.owned ≡ 0) → (inner ≡ AdvanceTail → (file : ℕ) → holds_store batch file ≡ true → file < sizes.files)
+      → ((found == 0) ≡ true → (cell : Word) → cleaner_op ≡ cleaner.Take cell → times cell pass.owned ≡ 0) → (inner ≡ AdvanceProgress → (file : ℕ) → holds_store batch file ≡ true → file < sizes.files)
       → HoldsLocks sizes pass (Cleaning batch inner) → HoldsLocks sizes now (after_cleaner_op sizes now.owned batch inner found)
-  cleaner_locks batch TakeHeader cleaner_op found owned e stands free files was = if_both (HoldsLocks sizes now) (found == 0) (Cleaning batch cleaner.LoadStop) (withdrawing now.owned batch)
-      (λ open_. taken sizes pass now (Cleaning batch TakeHeader) (Cleaning batch cleaner.LoadStop) HEADER (grabbed sizes pass now found cleaner_op owned HEADER e open_) (owe_header sizes pass now batch batch TakeHeader cleaner.LoadStop refl (λ file. refl) (λ page. refl)) was)
-      (λ shut. withdrawn sizes pass now now.owned batch refl)
-  cleaner_locks batch cleaner.LoadStop cleaner_op found owned e stands free files was = if_both (HoldsLocks sizes now) (found == 0) (Cleaning batch LoadTail) (withdrawing now.owned batch)
-      (λ open_. goes_on sizes pass now batch batch cleaner.LoadStop LoadTail (after_next sizes pass now found cleaner_op owned (cleaner.Load STOP) e) refl (λ file. refl) (λ page. refl) was)
-      (λ shut. withdrawn sizes pass now now.owned batch refl)
-  cleaner_locks batch LoadTail cleaner_op found owned e stands free files was = goes_on sizes pass now batch (record batch { tail = found; reached = found }) LoadTail LoadHead (after_next sizes pass now found cleaner_op owned (cleaner.Load TAIL) e) refl (λ file. refl) (λ page. refl) was
-  cleaner_locks batch LoadHead cleaner_op found owned e stands free files was = surveyed_next sizes pass now (record batch { head = found })
-      (goes_on sizes pass now batch (record batch { head = found }) LoadHead LoadHead (after_next sizes pass now found cleaner_op owned (cleaner.Load HEAD) e) refl (λ file. refl) (λ page. refl) was)
-  cleaner_locks batch (cleaner.LoadEntry i) cleaner_op found owned e stands free files was =
-      let same_owned = after_next sizes pass now found cleaner_op owned (cleaner.Load (ENTRY (slot_of_entry sizes (batch.reached + i)))) e in
-      if_both (HoldsLocks sizes now) (i == 0 && not (may_pass batch found)) (finishing sizes now.owned batch) (surveyed (batch_with_page batch i found) i)
-      (λ _. finished sizes pass now batch (goes_on sizes pass now batch batch (cleaner.LoadEntry i) LoadHead same_owned refl (λ file. refl) (λ page. refl) was))
-      (λ _. if_both (HoldsLocks sizes now) (nat_lt (i + 1) (batch_with_page batch i found).count) (Cleaning (batch_with_page batch i found) (cleaner.LoadEntry (i + 1))) (Cleaning (batch_with_page batch i found) (cleaner.TakeCleanup 0))
-      (λ _. goes_on sizes pass now batch (batch_with_page batch i found) (cleaner.LoadEntry i) (cleaner.LoadEntry (i + 1)) same_owned refl (λ file. refl) (λ page. refl) was)
-      (λ _. goes_on sizes pass now batch (batch_with_page batch i found) (cleaner.LoadEntry i) (cleaner.TakeCleanup 0) same_owned refl (λ file. refl) (λ page. refl) was))
   cleaner_locks batch (cleaner.TakeCleanup i) cleaner_op found owned e stands free files was = if_both (HoldsLocks sizes now) (found == 0) (each_next batch i (cleaner.TakeCleanup (i + 1)) (claimed sizes batch)) (retreating sizes now.owned batch i)
       (λ open_. let at = took_page batch i stands (grabbed sizes pass now found cleaner_op owned (CLEANUP (group_page batch i)) e open_) was in
       next_held sizes pass now batch i (cleaner.TakeCleanup (i + 1)) (claimed sizes batch) at (λ last. let full : At sizes pass now batch (cleaner.TakeCleanup (length batch.pages)) = subst (λ n. At sizes pass now batch (cleaner.TakeCleanup n)) last at in
@@ -281,39 +282,69 @@ module _ (sizes : Sizes) (pass now : Pass) where
   cleaner_locks batch (cleaner.GiveCleanup i) cleaner_op found owned e stands free files was =
       let some : count_in (drop i batch.pages) (group_page batch i) ≢ 0 = λ z. (let c = count_drop batch.pages i (group_page batch i) stands in let o : one_if (group_page batch i == group_page batch i) ≡ 1 = when_true (group_page batch i == group_page batch i) 1 0 (eq-eqb (group_page batch i) (group_page batch i) refl) in omega (arith, z, c, o)) in
       let at = gave_page batch (cleaner.GiveCleanup i) (cleaner.GiveCleanup (i + 1)) i (after_next sizes pass now found cleaner_op owned (cleaner.Give (CLEANUP (group_page batch i))) e) some refl (λ file. refl) (λ page. count_drop batch.pages i page stands) was in
-      next_held sizes pass now batch i (cleaner.GiveCleanup (i + 1)) (surveying sizes now.owned (next_group batch)) at
+      next_held sizes pass now batch i (cleaner.GiveCleanup (i + 1)) (surveying sizes (next_group batch)) at
       (λ last. surveyed_next sizes pass now (next_group batch) (moves sizes pass now batch (next_group batch) (cleaner.GiveCleanup (i + 1)) LoadHead refl (λ file. refl) (λ page. sym (count_none batch.pages (i + 1) page (omega (arith, last)))) at))
   cleaner_locks batch (RefusedReturnEntry i end) cleaner_op found owned e stands free files was =
       let less = after_next sizes pass now found cleaner_op owned (cleaner.Return (batch.reached + i)) e in
       if_both (HoldsLocks sizes now) (i + 1 == end) (retreating sizes now.owned batch (length batch.pages)) (Cleaning batch (RefusedReturnEntry (i + 1) end))
       (λ _. retreated sizes pass now batch (length batch.pages) (entry_less sizes pass now found cleaner_op owned batch batch (RefusedReturnEntry i end) (cleaner.TakeCleanup (length batch.pages)) (slot_of_entry sizes (batch.reached + i)) less refl (λ file. refl) (λ page. count_all batch.pages (length batch.pages) page (omega arith)) was))
       (λ _. entry_less sizes pass now found cleaner_op owned batch batch (RefusedReturnEntry i end) (RefusedReturnEntry (i + 1) end) (slot_of_entry sizes (batch.reached + i)) less refl (λ file. refl) (λ page. refl) was)
-  cleaner_locks batch (FailedReturnEntry i end) cleaner_op found owned e stands free files was =
-      if_both (HoldsLocks sizes now) (i + 1 == end) (withdrawing now.owned batch) (Cleaning batch (FailedReturnEntry (i + 1) end)) (λ _. withdrawn sizes pass now now.owned batch refl)
-      (λ _. entry_less sizes pass now found cleaner_op owned batch batch (FailedReturnEntry i end) (FailedReturnEntry (i + 1) end) (slot_of_entry sizes (batch.reached + i)) (after_next sizes pass now found cleaner_op owned (cleaner.Return (batch.reached + i)) e) refl (λ file. refl) (λ page. refl) was)
   cleaner_locks batch (RefusedGiveCleanup i) cleaner_op found owned e stands free files was =
       let some : count_in (take (i + 1) batch.pages) (group_page batch i) ≢ 0 = λ z. (let c = count_take batch.pages i (group_page batch i) stands in let o : one_if (group_page batch i == group_page batch i) ≡ 1 = when_true (group_page batch i == group_page batch i) 1 0 (eq-eqb (group_page batch i) (group_page batch i) refl) in omega (arith, z, c, o)) in
       retreated sizes pass now batch i (gave_page batch (RefusedGiveCleanup i) (cleaner.TakeCleanup i) i (after_next sizes pass now found cleaner_op owned (cleaner.Give (CLEANUP (group_page batch i))) e) some refl (λ file. refl) (λ page. count_take batch.pages i page stands) was)
   cleaner_locks batch (SyncStores files_) cleaner_op found owned e stands free files was = absurd (none_next e)
   cleaner_locks batch (MoveHeaderTail calls) cleaner_op found owned e stands free files was = absurd (none_next e)
-  cleaner_locks batch (FreeEntry number) cleaner_op found owned e stands free files was =
-      let same_owned = after_next sizes pass now found cleaner_op owned (Free number) e in
-      if_both (HoldsLocks sizes now) (number + 1 == batch.reached) (Cleaning batch AdvanceTail) (Cleaning batch (FreeEntry (number + 1)))
-      (λ _. goes_on sizes pass now batch batch (FreeEntry number) AdvanceTail same_owned refl (λ file. refl) (λ page. refl) was)
-      (λ _. goes_on sizes pass now batch batch (FreeEntry number) (FreeEntry (number + 1)) same_owned refl (λ file. refl) (λ page. refl) was)
-  cleaner_locks batch AdvanceTail cleaner_op found owned e stands free files was = discharged batch (rising_files sizes batch)
-      (goes_on sizes pass now batch batch AdvanceTail (GiveStores (rising_files sizes batch)) (after_next sizes pass now found cleaner_op owned (MoveTail batch.reached) e) refl (λ file. rising_count sizes batch file (files refl file)) (λ page. refl) was)
   cleaner_locks batch (GiveStores []) cleaner_op found owned e stands free files was = absurd (none_next e)
   cleaner_locks batch (GiveStores (file ∷ rest)) cleaner_op found owned e stands free files was = discharged batch rest
       (given sizes pass now (Cleaning batch (GiveStores (file ∷ rest))) (Cleaning batch (GiveStores rest)) (STORE file) (after_next sizes pass now found cleaner_op owned (cleaner.Give (STORE file)) e)
       (let h = was (STORE file) (λ slot f. cc) in let o : one_if (file == file) ≡ 1 = when_true (file == file) 1 0 (eq-eqb file file refl) in omega (arith, h, o))
       (owe_store sizes now pass batch batch (GiveStores rest) (GiveStores (file ∷ rest)) file refl (λ other. refl) (λ page. refl)) was)
-  cleaner_locks batch GiveHeader cleaner_op found owned e stands free files was = given sizes pass now (Cleaning batch GiveHeader) (Cleaning batch GiveCleaner) HEADER (after_next sizes pass now found cleaner_op owned (cleaner.Give HEADER) e)
-      (let h = was HEADER (λ slot f. cc) in omega (arith, h)) (owe_header sizes now pass batch batch GiveCleaner GiveHeader refl (λ file. refl) (λ page. refl)) was
-  cleaner_locks batch GiveCleaner cleaner_op found owned e stands free files was = given sizes pass now (Cleaning batch GiveCleaner) Idle CLEANER (after_next sizes pass now found cleaner_op owned (cleaner.Give CLEANER) e)
-      (let h = was CLEANER (λ slot f. cc) in omega (arith, h)) (owe_cleaner sizes now pass batch GiveCleaner refl (λ file. refl) (λ page. refl)) was
-  cleaner_locks batch (SetStop held) cleaner_op found owned e stands free files was = if_both (HoldsLocks sizes now) (held == 0) (withdrawing now.owned batch) (Cleaning batch (FailedReturnEntry 0 held)) (λ _. withdrawn sizes pass now now.owned batch refl)
-      (λ _. goes_on sizes pass now batch batch (SetStop held) (FailedReturnEntry 0 held) (after_next sizes pass now found cleaner_op owned cleaner.Stop e) refl (λ file. refl) (λ page. refl) was)
+  cleaner_locks batch cleaner.LoadStop cleaner_op found owned e stands free files was = if_both (HoldsLocks sizes now) (found == 0) (Cleaning batch LoadProgress) (Cleaning batch GiveCleaner)
+      (λ _. goes_on sizes pass now batch batch cleaner.LoadStop LoadProgress (after_next sizes pass now found cleaner_op owned (cleaner.Load STOP) e) refl (λ file. refl) (λ page. refl) was)
+      (λ _. goes_on sizes pass now batch batch cleaner.LoadStop GiveCleaner (after_next sizes pass now found cleaner_op owned (cleaner.Load STOP) e) refl (λ file. refl) (λ page. refl) was)
+  cleaner_locks batch LoadProgress cleaner_op found owned e stands free files was = goes_on sizes pass now batch (record batch { start = found; reached = found }) LoadProgress LoadHead (after_next sizes pass now found cleaner_op owned (cleaner.Load (PROG batch.cleaner)) e) refl (λ file. refl) (λ page. refl) was
+  cleaner_locks batch LoadHead cleaner_op found owned e stands free files was = surveyed_next sizes pass now (record batch { head = found })
+      (goes_on sizes pass now batch (record batch { head = found }) LoadHead LoadHead (after_next sizes pass now found cleaner_op owned (cleaner.Load HEAD) e) refl (λ file. refl) (λ page. refl) was)
+  cleaner_locks batch GiveCleaner cleaner_op found owned e stands free files was = given sizes pass now (Cleaning batch GiveCleaner) Idle (CLEANER batch.cleaner) (after_next sizes pass now found cleaner_op owned (cleaner.Give (CLEANER batch.cleaner)) e)
+      (let h = was (CLEANER batch.cleaner) (λ slot f. cc) in let o : one_if (batch.cleaner == batch.cleaner) ≡ 1 = when_true (batch.cleaner == batch.cleaner) 1 0 (eq-eqb batch.cleaner batch.cleaner refl) in omega (arith, h, o))
+      (owe_cleaner sizes now pass batch GiveCleaner refl (λ file. ap (λ l. if list_any (λ held. held == file) l then 1 else 0) stands) (λ page. refl)) was
+  cleaner_locks batch (cleaner.LoadEntry i) cleaner_op found owned e stands free files was =
+      let same_owned = after_next sizes pass now found cleaner_op owned (cleaner.Load (ENTRY (slot_of_entry sizes (batch.reached + i)))) e in
+      let at : At sizes pass now batch LoadHead = goes_on sizes pass now batch batch (cleaner.LoadEntry i) LoadHead same_owned refl (λ file. refl) (λ page. refl) was in
+      if_both (HoldsLocks sizes now) (i == 0) (led sizes batch found) (surveyed (batch_with_page batch i found) i)
+      (λ _. if_both (HoldsLocks sizes now) (is_of_another sizes batch found) (surveying sizes (passed_over batch (count_of found))) (if may_pass batch found then surveyed (batch_with_page batch 0 found) 0 else finishing sizes batch)
+      (λ _. surveyed_next sizes pass now (passed_over batch (count_of found)) (moves sizes pass now batch (passed_over batch (count_of found)) LoadHead LoadHead refl (λ file. refl) (λ page. refl) at))
+      (λ _. if_both (HoldsLocks sizes now) (may_pass batch found) (surveyed (batch_with_page batch 0 found) 0) (finishing sizes batch) (λ _. one_more_page batch 0 found at) (λ _. finished sizes pass now batch at)))
+      (λ _. one_more_page batch i found at)
+  cleaner_locks batch (FailedReturnEntry i end) cleaner_op found owned e stands free files was =
+      if_both (HoldsLocks sizes now) (i + 1 == end) (withdrawing now.owned (closed batch)) (Cleaning batch (FailedReturnEntry (i + 1) end)) (λ _. withdrawn sizes pass now now.owned (closed batch) refl)
+      (λ _. entry_less sizes pass now found cleaner_op owned batch batch (FailedReturnEntry i end) (FailedReturnEntry (i + 1) end) (slot_of_entry sizes (batch.reached + i)) (after_next sizes pass now found cleaner_op owned (cleaner.Return (batch.reached + i)) e) refl (λ file. refl) (λ page. refl) was)
+  cleaner_locks batch AdvanceProgress cleaner_op found owned e stands free files was = discharged batch (rising_files sizes batch)
+      (goes_on sizes pass now batch batch AdvanceProgress (GiveStores (rising_files sizes batch)) (after_next sizes pass now found cleaner_op owned (MoveProgress batch.cleaner batch.reached) e) refl (λ file. rising_count sizes batch file (files refl file)) (λ page. refl) was)
+  cleaner_locks batch TakeHeader cleaner_op found owned e stands free files was = if_both (HoldsLocks sizes now) (found == 0) (Cleaning batch LoadStopAgain) (withdrawing now.owned batch)
+      (λ open_. taken sizes pass now (Cleaning batch TakeHeader) (Cleaning batch LoadStopAgain) HEADER (grabbed sizes pass now found cleaner_op owned HEADER e open_) (owe_header sizes pass now batch batch TakeHeader LoadStopAgain refl (λ file. refl) (λ page. refl)) was)
+      (λ shut. withdrawn sizes pass now now.owned batch refl)
+  cleaner_locks batch LoadStopAgain cleaner_op found owned e stands free files was = if_both (HoldsLocks sizes now) (found == 0) (Cleaning batch LoadTail) (withdrawing now.owned batch)
+      (λ _. goes_on sizes pass now batch batch LoadStopAgain LoadTail (after_next sizes pass now found cleaner_op owned (cleaner.Load STOP) e) refl (λ file. refl) (λ page. refl) was)
+      (λ _. withdrawn sizes pass now now.owned batch refl)
+  cleaner_locks batch LoadTail cleaner_op found owned e stands free files was = goes_on sizes pass now batch (record batch { tail = found }) LoadTail (LoadEachProgress 0) (after_next sizes pass now found cleaner_op owned (cleaner.Load TAIL) e) refl (λ file. refl) (λ page. refl) was
+  cleaner_locks batch (LoadEachProgress who) cleaner_op found owned e stands free files was =
+      let same_owned = (after_next sizes pass now found cleaner_op owned (cleaner.Load (PROG who)) e) in
+      if_both (HoldsLocks sizes now) (who + 1 == sizes.cleaners) (retiring (with_progress batch who found)) (Cleaning (with_progress batch who found) (LoadEachProgress (who + 1)))
+      (λ _. if_both (HoldsLocks sizes now) (nat_lt batch.tail (with_progress batch who found).least) (Cleaning (with_progress batch who found) (MoveHeaderTail 0)) (Cleaning (with_progress batch who found) GiveHeader)
+      (λ _. goes_on sizes pass now batch (with_progress batch who found) (LoadEachProgress who) (MoveHeaderTail 0) same_owned refl (λ file. refl) (λ page. refl) was)
+      (λ _. goes_on sizes pass now batch (with_progress batch who found) (LoadEachProgress who) GiveHeader same_owned refl (λ file. refl) (λ page. refl) was))
+      (λ _. goes_on sizes pass now batch (with_progress batch who found) (LoadEachProgress who) (LoadEachProgress (who + 1)) same_owned refl (λ file. refl) (λ page. refl) was)
+  cleaner_locks batch (FreeEntry number) cleaner_op found owned e stands free files was =
+      let same_owned = (after_next sizes pass now found cleaner_op owned (Free number) e) in
+      if_both (HoldsLocks sizes now) (number + 1 == batch.least) (Cleaning batch AdvanceTail) (Cleaning batch (FreeEntry (number + 1)))
+      (λ _. goes_on sizes pass now batch batch (FreeEntry number) AdvanceTail same_owned refl (λ file. refl) (λ page. refl) was)
+      (λ _. goes_on sizes pass now batch batch (FreeEntry number) (FreeEntry (number + 1)) same_owned refl (λ file. refl) (λ page. refl) was)
+  cleaner_locks batch AdvanceTail cleaner_op found owned e stands free files was = goes_on sizes pass now batch batch AdvanceTail GiveHeader (after_next sizes pass now found cleaner_op owned (MoveTail batch.least) e) refl (λ file. refl) (λ page. refl) was
+  cleaner_locks batch GiveHeader cleaner_op found owned e stands free files was = withdrawn sizes pass now now.owned batch refl
+  cleaner_locks batch (SetStop held) cleaner_op found owned e stands free files was = if_both (HoldsLocks sizes now) (held == 0) (withdrawing now.owned (closed batch)) (Cleaning batch (FailedReturnEntry 0 held)) (λ _. withdrawn sizes pass now now.owned (closed batch) refl)
+      (λ _. goes_on sizes pass now batch batch (SetStop held) (FailedReturnEntry 0 held) (after_next sizes pass now found cleaner_op owned (cleaner.Stop) e) refl (λ file. refl) (λ page. refl) was)
+  cleaner_locks batch SetStopAfterMove cleaner_op found owned e stands free files was = withdrawn sizes pass now now.owned batch refl
   cleaner_locks batch cleaner.GiveBack cleaner_op found owned e stands free files was = withdrawn sizes pass now now.owned batch refl
 
 -- ---- what is given back
@@ -337,7 +368,8 @@ gives_next sizes pass batch (RefusedGiveCleanup i) stands held =
 gives_next sizes pass batch (GiveStores []) stands held = tt
 gives_next sizes pass batch (GiveStores (file ∷ rest)) stands held = let h = held (STORE file) (λ slot e. cc) in let o : one_if (file == file) ≡ 1 = when_true (file == file) 1 0 (eq-eqb file file refl) in omega (arith, h, o)
 gives_next sizes pass batch GiveHeader stands held = let h = held HEADER (λ slot e. cc) in omega (arith, h)
-gives_next sizes pass batch GiveCleaner stands held = let h = held CLEANER (λ slot e. cc) in omega (arith, h)
+gives_next sizes pass batch GiveCleaner stands held =
+    let h = held (CLEANER batch.cleaner) (λ slot e. cc) in let o : one_if (batch.cleaner == batch.cleaner) ≡ 1 = when_true (batch.cleaner == batch.cleaner) 1 0 (eq-eqb batch.cleaner batch.cleaner refl) in omega (arith, h, o)
 gives_next sizes pass batch cleaner.GiveBack stands held = last_held pass.owned
 gives_next sizes pass batch inner stands held = tt
 

@@ -199,7 +199,7 @@ clear_to sizes values pass op found plain may = bare_clear (control_after sizes 
 pub clear_from : (sizes : Sizes) (values : Values) (pass : Pass) (op : Op) → IsPlain op → EnabledByKind sizes values pass op → IsClear pass.control
 clear_from sizes values pass (Hold number) plain may = subst IsClear (sym may.1) tt
 clear_from sizes values pass (Return number) plain may = subst IsClear (sym may.2) tt
-clear_from sizes values pass (ByCleaner cleaner_op) plain may = tended (λ _ s. IsClear s) sizes pass cleaner_op pass.control may (λ _. tt) (λ _ _ _. tt)
+clear_from sizes values pass (ByCleaner cleaner_op) plain may = tended (λ _ s. IsClear s) sizes pass cleaner_op pass.control may (λ _ _ _. tt) (λ _ _ _. tt)
 clear_from sizes values pass op plain may = bare_clear pass.control (bare_from sizes values pass op plain may)
 
 -- ---- still steps move no entry

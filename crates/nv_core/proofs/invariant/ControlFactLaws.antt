@@ -6,8 +6,8 @@ use Rattle.nv_plain.specs.declared.call.FileCall.{FileCall}
 use Rattle.nv_core.specs.state.Words.{Sizes, Word, STOP, ORDER, HEAD, TAIL, SIZE, LENGTH, STORE, ENTRY, HINT, PAGE, DIRTY, CLEANUP, ready, is_entry_of, slot_of_entry}
 use Rattle.nv_core.specs.state.Passes.{Control, Idle, TakePage, LoadLength, TakeSize, LoadStop, LoadOrder, VisitPage, TakeStore, ReadStore, GiveStore, TakeCleanup, Search, LoadHint, TakeVictim, GiveVictim, VictimGiven, NotFound, Searching, WriteLoadHead, WriteLoadTail, DrawNumbers, SeizeEntry, CommitGroup, PledgePage, ReadyEntry, TakePlace, GrowLength, GiveSize, GivePage, GiveBack, SetStopAfterRead, SetStopAfterCommit, BreakEntry, Pass, is_read, is_write, page_count, first_page, end_page, without, IsAmong, IsAllowed, ReadLoadHead, LoadEntry, HoldEntry, ReadPiece, GiveCleanup, SetStopAfterPiece, Cleaning, plain_call}
 use Rattle.nv_core.specs.state.Cleaner.{Batch, CleanerControl, TakeHeader, CleanerOp, TakeCleaner}
+use Rattle.nv_core.specs.state.Cleaner as cleaner
 use Rattle.nv_core.specs.steps.CleanerSteps.{after_cleaner_op, after_cleaner_work, new_batch}
-use Rattle.nv_core.specs.log.Progress.{HasLoadedTail}
 use Rattle.nv_core.specs.steps.Ops.{Op, Stays, Comes, moved, Load, Take, Give, Place, Stop, Draw, Seize, Pledge, Ready, Grow, Break, Turn, Hint, Hold, Return, ByCleaner, cleaner_move}
 use Rattle.nv_core.specs.steps.ControlSteps.{copying, pursued, control_after, after_load, after_give, after_stop, leaving, giving, ending, ordered, exceeds, scanning, after_head, after_tail, after_look, after_hold, after_return, after_by_cleaner}
 use Rattle.nv_core.specs.steps.PassSteps.{stepped, begun, pages_after}
@@ -172,34 +172,29 @@ draws sizes pass found number history stands may =
     (record { write = write; many = many; some = omega arith }, (omega arith, omega arith)))
     (λ e. out sizes now pass.owned refl)
 
--- a cleaner that has footed has cleaned none below its tail
-abbrev pub IsTailLoaded : Control → Type 0
-IsTailLoaded (Cleaning batch inner) = HasLoadedTail inner → batch.tail ≤ batch.reached
-IsTailLoaded control = Unit {0}
-
 -- where it is idle or at a batch, that is all
 stands_sweeping : (sizes : Sizes) (now : Pass) (owned : List Word) (control : Control) → now.owned ≡ owned → has_call control ≡ false → StoodSweeping owned control → FactsAt sizes now control
 stands_sweeping sizes now owned Idle is none stood = tt
 stands_sweeping sizes now owned (Cleaning batch inner) is none stood = subst (λ h. CleanerFactsAt batch h inner) (sym is) stood
 stands_sweeping sizes now owned control is none stood = absurd (true≢false none)
 
-by_cleaner : (sizes : Sizes) (pass now : Pass) (cleaner_op : CleanerOp) (found : ℕ) (control : Control) → FactsAt sizes pass control → IsTailLoaded control → CleanerEnabled sizes pass cleaner_op control → FactsAt sizes now (after_by_cleaner sizes now.owned cleaner_op found control)
-by_cleaner sizes pass now cleaner_op found control stands tail_loaded may = go cleaner_op control stands tail_loaded may (tended_to (λ s. has_call s ≡ false) refl (λ batch inner. refl) sizes pass now.owned cleaner_op found control may)
+by_cleaner : (sizes : Sizes) (pass now : Pass) (cleaner_op : CleanerOp) (found : ℕ) (control : Control) → FactsAt sizes pass control → CleanerEnabled sizes pass cleaner_op control → FactsAt sizes now (after_by_cleaner sizes now.owned cleaner_op found control)
+by_cleaner sizes pass now cleaner_op found control stands may = go cleaner_op control stands may (tended_to (λ s. has_call s ≡ false) refl (λ batch inner. refl) sizes pass now.owned cleaner_op found control may)
   where
-    go : (cleaner_op : CleanerOp) (control : Control) → FactsAt sizes pass control → IsTailLoaded control → CleanerEnabled sizes pass cleaner_op control → has_call (after_by_cleaner sizes now.owned cleaner_op found control) ≡ false → FactsAt sizes now (after_by_cleaner sizes now.owned cleaner_op found control)
-    go cleaner_op (Cleaning batch inner) stands tail_loaded may none = stands_sweeping sizes now now.owned (after_cleaner_op sizes now.owned batch inner found) refl none (cleaner_stands sizes pass.owned now.owned batch inner found tail_loaded stands)
-    go (TakeCleaner most) Idle stands tail_loaded may none = if_both (FactsAt sizes now) (found == 0) (Cleaning (new_batch most) TakeHeader) Idle (λ _. refl) (λ _. tt)
-    go cleaner_op control stands tail_loaded may none = absurd may
+    go : (cleaner_op : CleanerOp) (control : Control) → FactsAt sizes pass control → CleanerEnabled sizes pass cleaner_op control → has_call (after_by_cleaner sizes now.owned cleaner_op found control) ≡ false → FactsAt sizes now (after_by_cleaner sizes now.owned cleaner_op found control)
+    go cleaner_op (Cleaning batch inner) stands may none = stands_sweeping sizes now now.owned (after_cleaner_op sizes now.owned batch inner found) refl none (cleaner_stands sizes pass.owned now.owned batch inner found stands)
+    go (TakeCleaner who most) Idle stands may none = if_both (FactsAt sizes now) (found == 0) (Cleaning (new_batch who most) cleaner.LoadStop) Idle (λ _. (refl, refl)) (λ _. tt)
+    go cleaner_op control stands may none = absurd may
 
-steps : (sizes : Sizes) (values : Values) (pass : Pass) (op : Op) (found number : ℕ) (history : List Answered) → ControlFacts sizes pass → IsTailLoaded pass.control → EnabledByKind sizes values pass op
+steps : (sizes : Sizes) (values : Values) (pass : Pass) (op : Op) (found number : ℕ) (history : List Answered) → ControlFacts sizes pass → EnabledByKind sizes values pass op
     → FactsAt sizes (stepped sizes number history op found pass) (control_after sizes pass op found)
-steps sizes values pass (Load word) found number history stands tail_loaded may = loads sizes values pass word found number history stands may
-steps sizes values pass (Take cell) found number history stands tail_loaded may = takes sizes pass cell found number history stands may
-steps sizes values pass (Give cell) found number history stands tail_loaded may = gives_at sizes pass cell found number history pass.control stands.at (gives_back pass cell pass.control may)
-steps sizes values pass (Place reply) found number history stands tail_loaded may =
+steps sizes values pass (Load word) found number history stands may = loads sizes values pass word found number history stands may
+steps sizes values pass (Take cell) found number history stands may = takes sizes pass cell found number history stands may
+steps sizes values pass (Give cell) found number history stands may = gives_at sizes pass cell found number history pass.control stands.at (gives_back pass cell pass.control may)
+steps sizes values pass (Place reply) found number history stands may =
     let now = stepped sizes number history (Place reply) found pass in
     if_both (FactsAt sizes now) (is_write pass.call && exceeds pass pass.length) GrowLength (ending sizes pass) (λ e. (and_parts (is_write pass.call) (exceeds pass pass.length) e).1) (λ e. ends sizes pass now refl refl)
-steps sizes values pass Stop found number history stands tail_loaded may = stops pass.control may stands.at
+steps sizes values pass Stop found number history stands may = stops pass.control may stands.at
   where
     now : Pass
     now = stepped sizes number history Stop found pass
@@ -209,13 +204,13 @@ steps sizes values pass Stop found number history stands tail_loaded may = stops
     stops (SetStopAfterPiece page next) is at = at
     stops SetStopAfterCommit is at = (at, first_among pass.first pass.entries at.some)
     stops control is at = absurd is
-steps sizes values pass Draw found number history stands tail_loaded may = draws sizes pass found number history stands may
-steps sizes values pass (Seize next) found number history stands tail_loaded may =
+steps sizes values pass Draw found number history stands may = draws sizes pass found number history stands may
+steps sizes values pass (Seize next) found number history stands may =
     let at : HasDrawn sizes pass.call pass.entries × IsAmong pass.first pass.entries next = subst (FactsAt sizes pass) may stands.at in
     let drawn = at.0 in
     if_both (FactsAt sizes (stepped sizes number history (Seize next) found pass)) (next + 1 == pass.first + pass.entries) (CommitGroup 0) (SeizeEntry (next + 1))
     (λ e. drawn) (λ e. (drawn, next_among pass.first pass.entries next at.1 e))
-steps sizes values pass (Pledge page) found number history stands tail_loaded may =
+steps sizes values pass (Pledge page) found number history stands may =
     let at : HasDrawn sizes pass.call pass.entries × IsPage sizes pass.call page = subst (FactsAt sizes pass) may stands.at in
     let drawn = at.0 in
     if_both (FactsAt sizes (stepped sizes number history (Pledge page) found pass)) (page + 1 == end_page sizes pass.call)
@@ -227,7 +222,7 @@ steps sizes values pass (Pledge page) found number history stands tail_loaded ma
     ))
     (λ last. let ne = eqb-false (page + 1) (end_page sizes pass.call) last in let from = at.1.0 in let to = at.1.1 in
     let within : IsPage sizes pass.call (page + 1) = (omega arith, omega arith) in (drawn, within))
-steps sizes values pass (Ready next) found number history stands tail_loaded may =
+steps sizes values pass (Ready next) found number history stands may =
     let at : HasDrawn sizes pass.call pass.entries × IsAmong pass.first pass.entries next = subst (FactsAt sizes pass) may stands.at in
     let drawn = at.0 in
     if_both (FactsAt sizes (stepped sizes number history (Ready next) found pass)) (next == pass.first) TakePlace
@@ -238,26 +233,26 @@ steps sizes values pass (Ready next) found number history stands tail_loaded may
       if_both (IsAmong pass.first pass.entries) (next + 1 == pass.first + pass.entries) pass.first (next + 1)
           (λ _. first_among pass.first pass.entries at.0.some) (next_among pass.first pass.entries next at.1),
     ))
-steps sizes values pass Grow found number history stands tail_loaded may = ends sizes pass (stepped sizes number history Grow found pass) refl refl
-steps sizes values pass (Break next) found number history stands tail_loaded may =
+steps sizes values pass Grow found number history stands may = ends sizes pass (stepped sizes number history Grow found pass) refl refl
+steps sizes values pass (Break next) found number history stands may =
     let at : HasDrawn sizes pass.call pass.entries × IsAmong pass.first pass.entries next = subst (FactsAt sizes pass) may stands.at in
     let drawn = at.0 in
     let now = stepped sizes number history (Break next) found pass in
     if_both (FactsAt sizes now) (next + 1 == pass.first + pass.entries) (leaving (without (ENTRY (slot_of_entry sizes next)) pass.owned)) (BreakEntry (next + 1))
     (λ e. out sizes now (without (ENTRY (slot_of_entry sizes next)) pass.owned) refl) (λ e. (drawn, next_among pass.first pass.entries next at.1 e))
-steps sizes values pass (Hold next) found number history stands tail_loaded may =
+steps sizes values pass (Hold next) found number history stands may =
     subst (λ s. FactsAt sizes (stepped sizes number history (Hold next) found pass) (after_hold s)) (sym may.1) (subst (FactsAt sizes pass) may.1 stands.at)
-steps sizes values pass (Return next) found number history stands tail_loaded may =
+steps sizes values pass (Return next) found number history stands may =
     let now = stepped sizes number history (Return next) found pass in
     let at : ReadsPage sizes pass may.0 × (next < pass.head) = subst (FactsAt sizes pass) may.2 stands.at in
     subst (λ s. FactsAt sizes now (after_return sizes pass s)) (sym may.2)
     (if_both (FactsAt sizes now) may.1 (leaving (without (ENTRY (slot_of_entry sizes next)) pass.owned)) (scanning pass may.0 (next + 1))
     (λ _. out sizes now (without (ENTRY (slot_of_entry sizes next)) pass.owned) refl) (λ _. scans sizes pass now may.0 (next + 1) refl at.0))
-steps sizes values pass (Turn page) found number history stands tail_loaded may = let at = missed_page sizes values pass page may.tries stands.at may.miss in (at.0, at.1, tt)
-steps sizes values pass (Hint buffer page) found number history stands tail_loaded may =
+steps sizes values pass (Turn page) found number history stands may = let at = missed_page sizes values pass page may.tries stands.at may.miss in (at.0, at.1, tt)
+steps sizes values pass (Hint buffer page) found number history stands may =
     let at : FactsAt sizes pass (Searching page may.tries (VictimGiven buffer)) = subst (FactsAt sizes pass) may.is stands.at in (at.0, at.1, tt)
-steps sizes values pass (ByCleaner cleaner_op) found number history stands tail_loaded may = by_cleaner sizes pass (stepped sizes number history (ByCleaner cleaner_op) found pass) cleaner_op found pass.control stands.at tail_loaded may
-steps sizes values pass op found number history stands tail_loaded may = absurd may
+steps sizes values pass (ByCleaner cleaner_op) found number history stands may = by_cleaner sizes pass (stepped sizes number history (ByCleaner cleaner_op) found pass) cleaner_op found pass.control stands.at may
+steps sizes values pass op found number history stands may = absurd may
 
 -- where no call is at hand before a step, there is none after
 pub called_before : (sizes : Sizes) (values : Values) (pass : Pass) (op : Op) (found : ℕ) → EnabledByKind sizes values pass op → has_call (control_after sizes pass op found) ≡ true → has_call pass.control ≡ true
@@ -268,10 +263,10 @@ called_before sizes values pass op found may = from op may (step_idle sizes valu
         absurd (not_both now (tended_to (λ s. has_call s ≡ false) refl (λ batch inner. refl) sizes pass (moved (cleaner_move sizes cleaner_op found) pass.owned) cleaner_op found pass.control may))
     from op may has now = has
 
-pub control_facts_steps : (sizes : Sizes) (values : Values) (pass : Pass) (op : Op) (found number : ℕ) (history : List Answered) → ControlFacts sizes pass → IsTailLoaded pass.control → EnabledByKind sizes values pass op
+pub control_facts_steps : (sizes : Sizes) (values : Values) (pass : Pass) (op : Op) (found number : ℕ) (history : List Answered) → ControlFacts sizes pass → EnabledByKind sizes values pass op
     → ControlFacts sizes (stepped sizes number history op found pass)
-control_facts_steps sizes values pass op found number history stands tail_loaded may = record {
-  at = steps sizes values pass op found number history stands tail_loaded may;
+control_facts_steps sizes values pass op found number history stands may = record {
+  at = steps sizes values pass op found number history stands may;
   pages = pages_steps sizes values pass op found number history stands.at stands.pages may;
   allowed = λ now. stands.allowed (called_before sizes values pass op found may now);
 }

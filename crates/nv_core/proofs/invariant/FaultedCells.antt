@@ -196,7 +196,7 @@ step_none sizes values pass (Hold next) still may = robs_none (HoldEntry may.0 n
 step_none sizes values pass (Return next) still may = robs_none (ReturnEntry may.0 next may.1) may.2 (λ _. refl)
 step_none sizes values pass (Turn page) still may = missed_none sizes values pass page may.tries may.miss
 step_none sizes values pass (Hint buffer page) still may = robs_none (Searching page may.tries (VictimGiven buffer)) may.is (λ _. refl)
-step_none sizes values pass (ByCleaner cleaner_op) still may = tended (λ _ s. RobsNone s) sizes pass cleaner_op pass.control may (λ _ _. refl) (λ _ _ _ _. refl)
+step_none sizes values pass (ByCleaner cleaner_op) still may = tended (λ _ s. RobsNone s) sizes pass cleaner_op pass.control may (λ _ _ _ _. refl) (λ _ _ _ _. refl)
 step_none sizes values pass op still may = absurd may
 
 -- how often a pass holds a cell as a victim's

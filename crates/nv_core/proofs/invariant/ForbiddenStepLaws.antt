@@ -1,10 +1,10 @@
 -- What no sound state allows.
-use Rattle.std.proofs.Common.{◌≡◌, ◌≢◌, ◌⊎◌, ℕ, ◌+◌, ◌≤◌, ◌==◌, ◌&&◌, ◌||◌, nat_lt, nat_le, not, Bool, true, false, List, [], ◌∷◌, inl, inr, refl, sym, ap, subst, arith, ◌∙◌}
+use Rattle.std.proofs.Common.{◌≡◌, ◌≢◌, ◌⊎◌, ℕ, ◌+◌, ◌/◌, ◌≤◌, ◌==◌, ◌&&◌, ◌||◌, nat_lt, nat_le, not, Bool, true, false, if◌then◌else◌, List, [], ◌∷◌, inl, inr, refl, sym, ap, subst, arith, ◌∙◌}
 use Rattle.std.proofs.lemmas.Bool.{cases_eq, and_from, and_parts, eqb-true, eq-eqb, leb-true, le-leb}
-use Rattle.nv_core.specs.state.Words.{Word, PAGE, ENTRY, CLEANUP, kind_of, ready, is_entry_of, slot_of_entry}
+use Rattle.nv_core.specs.state.Words.{Word, PAGE, ENTRY, CLEANUP, kind_of, page_of, was_readied, ready, is_entry_of, slot_of_entry, cleaner_of_file}
 use Rattle.nv_core.specs.state.Passes.{Control, SeizeEntry, CommitGroup, PledgePage, ReadyEntry, TakePlace, SetStopAfterCommit, IsUnseized, IsFilling, IsAmong, times, GiveBack, Searching, TakeVictim, GiveVictim, Cleaning, pages_of}
 use Rattle.nv_core.specs.state.Cleaner as cleaner
-use Rattle.nv_core.specs.steps.CleanerSteps.{after_cleaner_op, surveyed, batch_with_page, count_of, may_pass, finishing, withdrawing, syncing, closed, rising_files}
+use Rattle.nv_core.specs.steps.CleanerSteps.{after_cleaner_op, surveyed, surveying, passed_over, batch_with_page, count_of, is_of_another, may_pass, finishing, syncing, closed, rising_files}
 use Rattle.nv_core.specs.steps.Ops.{Draw, Place, Give, Ready, Grow, Stop, Seize, Hold, Break}
 use Rattle.nv_core.specs.steps.StepKinds.{MayPlace}
 use Rattle.nv_core.specs.invariant.ControlFacts.{FactsAt, HasDrawn, IsPage, PagesAt}
@@ -140,7 +140,7 @@ no_broken_before_stop sizes first core number sound within word =
     sound.stop.stays of.by (sound.broken.stopped of.by (some_fault (core.passes of.by).faulted of.fault of.ended))
 
 pub no_batch_past_its_bound : NoBatchPastItsBound
-no_batch_past_its_bound sizes first core by batch inner sound at tail_loaded = (sound.grouped.progress.each by batch inner at tail_loaded).bound
+no_batch_past_its_bound sizes first core by batch inner sound at prog_loaded = (sound.grouped.progress.each by batch inner at prog_loaded).bound
 
 -- a cleaner that looks at a group, or takes its CLEANUPs
 abbrev is_at_group : Control → Bool
@@ -148,28 +148,32 @@ is_at_group (Cleaning batch (cleaner.LoadEntry i)) = true
 is_at_group (Cleaning batch (cleaner.TakeCleanup i)) = true
 is_at_group control = false
 
+-- no group of its own files is another cleaner's
+and_none : (b : Bool) → (b && false) ≡ false
+and_none true = refl
+and_none false = refl
+
 pub groups_are_passed_by_the_bound : GroupsArePassedByTheBound
-groups_are_passed_by_the_bound sizes owned batch found = (goes (may_pass batch found) refl, comes)
+groups_are_passed_by_the_bound sizes owned batch found own = (goes (may_pass batch found) refl, comes)
   where
     surveys : is_at_group (surveyed (batch_with_page batch 0 found) 0) ≡ true
     surveys = if_both (λ s. is_at_group s ≡ true) (nat_lt (0 + 1) (batch_with_page batch 0 found).count) (Cleaning (batch_with_page batch 0 found) (cleaner.LoadEntry (0 + 1))) (Cleaning (batch_with_page batch 0 found) (cleaner.TakeCleanup 0)) (λ _. refl) (λ _. refl)
-
-    withdraws : (owned : List Word) → is_at_group (withdrawing owned (closed batch)) ≡ false
-    withdraws [] = refl
-    withdraws (cell ∷ rest) = refl
 
     syncs : (files : List ℕ) → is_at_group (syncing (closed batch) files) ≡ false
     syncs [] = refl
     syncs (file ∷ rest) = refl
 
-    ends : is_at_group (finishing sizes owned batch) ≡ false
-    ends = if_both (λ s. is_at_group s ≡ false) (batch.reached == batch.tail) (withdrawing owned (closed batch)) (syncing (closed batch) (rising_files sizes batch)) (λ _. withdraws owned) (λ _. syncs (rising_files sizes batch))
+    -- it is of its own files
+    is_own : is_of_another sizes batch found ≡ false
+    is_own = ap (λ t. was_readied found && not t) (eq-eqb (cleaner_of_file sizes (page_of found / sizes.pages)) batch.cleaner own) ∙ and_none (was_readied found)
+
+    led_as : after_cleaner_op sizes owned batch (cleaner.LoadEntry 0) found ≡ (if may_pass batch found then surveyed (batch_with_page batch 0 found) 0 else finishing sizes batch)
+    led_as = when_false (is_of_another sizes batch found) (surveying sizes (passed_over batch (count_of found))) (if may_pass batch found then surveyed (batch_with_page batch 0 found) 0 else finishing sizes batch) is_own
 
     -- what a test that holds says, and the other way round
-    first_or_fits : (b : Bool) → (batch.reached == batch.tail) ≡ b → (b || nat_le (batch.reached + count_of found) (batch.tail + batch.most)) ≡ true
-        → (batch.reached ≡ batch.tail) ⊎ (batch.reached + count_of found ≤ batch.tail + batch.most)
-    first_or_fits true e is = inl (eqb-true batch.reached batch.tail e)
-    first_or_fits false e is = inr (leb-true (batch.reached + count_of found) (batch.tail + batch.most) is)
+    first_or_fits : (b : Bool) → (batch.passed == 0) ≡ b → (b || nat_le (batch.passed + count_of found) batch.most) ≡ true → (batch.passed ≡ 0) ⊎ (batch.passed + count_of found ≤ batch.most)
+    first_or_fits true e is = inl (eqb-true batch.passed 0 e)
+    first_or_fits false e is = inr (leb-true (batch.passed + count_of found) batch.most is)
 
     or_left : (a b : Bool) → a ≡ true → (a || b) ≡ true
     or_left a b e = ap (λ c. c || b) e
@@ -179,17 +183,18 @@ groups_are_passed_by_the_bound sizes owned batch found = (goes (may_pass batch f
     or_right false b e = e
 
     goes : (b : Bool) → may_pass batch found ≡ b → after_cleaner_op sizes owned batch (cleaner.LoadEntry 0) found ≡ surveyed (batch_with_page batch 0 found) 0
-        → (kind_of found ≡ ready) × ((batch.reached ≡ batch.tail) ⊎ (batch.reached + count_of found ≤ batch.tail + batch.most))
+        → (kind_of found ≡ ready) × ((batch.passed ≡ 0) ⊎ (batch.passed + count_of found ≤ batch.most))
     goes true e is =
-        let both = and_parts (kind_of found == ready) (batch.reached == batch.tail || nat_le (batch.reached + count_of found) (batch.tail + batch.most)) e in
-        (eqb-true (kind_of found) ready both.0, first_or_fits (batch.reached == batch.tail) refl both.1)
-    goes false e is = absurd (not_both surveys (ap is_at_group (sym is ∙ when_true (0 == 0 && not (may_pass batch found)) (finishing sizes owned batch) (surveyed (batch_with_page batch 0 found) 0) (ap not e)) ∙ ends))
+        let both = and_parts (kind_of found == ready) (batch.passed == 0 || nat_le (batch.passed + count_of found) batch.most) e in
+        (eqb-true (kind_of found) ready both.0, first_or_fits (batch.passed == 0) refl both.1)
+    goes false e is = absurd (not_both surveys
+        (ap is_at_group (sym is ∙ led_as ∙ when_false (may_pass batch found) (surveyed (batch_with_page batch 0 found) 0) (finishing sizes batch) e) ∙ syncs (rising_files sizes batch)))
 
-    comes : (kind_of found ≡ ready) × ((batch.reached ≡ batch.tail) ⊎ (batch.reached + count_of found ≤ batch.tail + batch.most)) → after_cleaner_op sizes owned batch (cleaner.LoadEntry 0) found ≡ surveyed (batch_with_page batch 0 found) 0
+    comes : (kind_of found ≡ ready) × ((batch.passed ≡ 0) ⊎ (batch.passed + count_of found ≤ batch.most)) → after_cleaner_op sizes owned batch (cleaner.LoadEntry 0) found ≡ surveyed (batch_with_page batch 0 found) 0
     comes is =
-        let test : (batch.reached == batch.tail || nat_le (batch.reached + count_of found) (batch.tail + batch.most)) ≡ true = elim is.1 [
-          | inl same ↦ or_left (batch.reached == batch.tail) (nat_le (batch.reached + count_of found) (batch.tail + batch.most)) (eq-eqb batch.reached batch.tail same)
-          | inr few ↦ or_right (batch.reached == batch.tail) (nat_le (batch.reached + count_of found) (batch.tail + batch.most)) (le-leb (batch.reached + count_of found) (batch.tail + batch.most) few)
+        let test : (batch.passed == 0 || nat_le (batch.passed + count_of found) batch.most) ≡ true = elim is.1 [
+          | inl same ↦ or_left (batch.passed == 0) (nat_le (batch.passed + count_of found) batch.most) (eq-eqb batch.passed 0 same)
+          | inr few ↦ or_right (batch.passed == 0) (nat_le (batch.passed + count_of found) batch.most) (le-leb (batch.passed + count_of found) batch.most few)
         ] in
-        when_false (0 == 0 && not (may_pass batch found)) (finishing sizes owned batch) (surveyed (batch_with_page batch 0 found) 0)
-        (ap not (and_from (kind_of found == ready) (batch.reached == batch.tail || nat_le (batch.reached + count_of found) (batch.tail + batch.most)) (eq-eqb (kind_of found) ready is.0) test))
+        led_as ∙ when_true (may_pass batch found) (surveyed (batch_with_page batch 0 found) 0) (finishing sizes batch)
+        (and_from (kind_of found == ready) (batch.passed == 0 || nat_le (batch.passed + count_of found) batch.most) (eq-eqb (kind_of found) ready is.0) test)

@@ -1,5 +1,5 @@
 -- The header's part has room where no cleaner moves its tail, and comes to have it by a move: each event keeps this.
-use Rattle.std.proofs.Common.{◌≡◌, ◌≢◌, ◌⊎◌, ℕ, zero, suc, ◌+◌, ◌≤◌, ◌==◌, Bool, false, List, [], ◌∷◌, length, drop, drop-cons, inl, inr, refl, sym, ap, subst, ◌∙◌, arith}
+use Rattle.std.proofs.Common.{◌≡◌, ◌≢◌, ◌⊎◌, ℕ, zero, suc, ◌+◌, ◌-◌, ◌≤◌, ◌==◌, nat_lt, if◌then◌else◌, Bool, false, List, [], ◌∷◌, length, drop, drop-cons, inl, inr, refl, sym, ap, subst, ◌∙◌, arith}
 use Rattle.std.specs.Prelude.{Some, None}
 use Rattle.std.proofs.Math.Numerals.{add-one}
 use Rattle.std.proofs.lemmas.Bool.{eqb-true, cases_eq}
@@ -12,9 +12,9 @@ use Rattle.nv_pmem.specs.Steps.{LineStep, durable_store}
 use Rattle.nv_header.specs.HeaderSteps.{tail_steps}
 use Rattle.nv_header.specs.Regions.{IsRoomy}
 use Rattle.nv_core.specs.state.Words.{Sizes, Word, STOP, HEADER, STORE, ENTRY, slot_of_entry}
-use Rattle.nv_core.specs.state.Cleaner.{Batch, CleanerControl, TakeHeader, LoadTail, WriteBack, CleanEntry, FailedReturnEntry, SyncStores, MoveHeaderTail, FreeEntry, AdvanceTail, GiveStores, GiveHeader, GiveCleaner, SetStop, CleanerOp}
+use Rattle.nv_core.specs.state.Cleaner.{Batch, CleanerControl, LoadProgress, LoadHead, GiveCleaner, WriteBack, CleanEntry, SubtractDirty, RefusedReturnEntry, FailedReturnEntry, RefusedGiveCleanup, SyncStores, AdvanceProgress, GiveStores, TakeHeader, LoadStopAgain, LoadTail, LoadEachProgress, MoveHeaderTail, FreeEntry, AdvanceTail, GiveHeader, SetStop, SetStopAfterMove, CleanerOp}
 use Rattle.nv_core.specs.state.Cleaner as cleaner
-use Rattle.nv_core.specs.steps.CleanerSteps.{next_cleaner_op, after_cleaner_op, after_cleaner_work, withdrawing, discharging, rising_files, cleaner_word, new_batch, group_file}
+use Rattle.nv_core.specs.steps.CleanerSteps.{next_cleaner_op, after_cleaner_op, after_cleaner_work, withdrawing, syncing, discharging, finishing, surveying, surveyed, retreating, each_next, claimed, closed, next_group, passed_over, batch_with_page, is_of_another, may_pass, led, with_progress, retiring, count_of, rising_files, cleaner_word, new_batch, group_file, holds_store}
 use Rattle.nv_core.specs.state.Spares.{Spares, room_of_spares}
 use Rattle.nv_core.specs.state.Values.{Value, Bare, APart, AStore, ABuffer, PartStep, CallEnding, Made, Failed, Refused, called}
 use Rattle.nv_core.specs.state.Passes.{Control, Idle, TakePage, LoadStop, CommitGroup, ReadStore, ReadPiece, PledgePage, Cleaning, Pass, page_count, first_page, file_of, plain_call}
@@ -34,8 +34,8 @@ use Rattle.nv_core.proofs.state.Choices.{if_both, not_both, step_idle}
 use Rattle.nv_core.proofs.steps.WordLaws.{untouched}
 use Rattle.nv_core.proofs.log.KeepsHeader.{header_stepped, header_read}
 use Rattle.nv_core.proofs.log.KeepsProgress.{IsCall, step_call}
-use Rattle.nv_core.proofs.log.CleanerGoes.{IsSweeping, one_cleaner}
-use Rattle.nv_core.proofs.steps.CleanerLands.{IsLanding, lands}
+use Rattle.nv_core.specs.invariant.CleanerOwnership.{of_cleaner_header}
+use Rattle.nv_core.proofs.steps.CleanerOps.{one_header}
 use Rattle.nv_core.proofs.invariant.ControlFactLaws.{worked_control}
 use Rattle.nv_core.proofs.steps.CleanerControls.{tended}
 
@@ -81,39 +81,102 @@ moving_calls : (control : Control) → IsMoving control → has_call control ≡
 moving_calls (Cleaning batch inner) is = refl
 moving_calls control is = absurd is
 
--- one that is still to move the tail, or has given that up
-roomy_moves : (batch : Batch) (value : Value) (inner : CleanerControl) → IsLanding inner → KeepsRoomy value → MovesRoomy (Cleaning batch inner) value
-roomy_moves batch value (MoveHeaderTail zero) lands is = λ _. is
-roomy_moves batch value (MoveHeaderTail (suc calls)) lands is = absurd lands
-roomy_moves batch value inner lands is = λ _. is
-
 withdrawn_moves : (owned : List Word) (batch : Batch) (value : Value) → MovesRoomy (withdrawing owned batch) value
 withdrawn_moves [] batch value = tt
 withdrawn_moves (cell ∷ rest) batch value = λ f. absurd f
 
-discharged_moves : (batch : Batch) (files : List ℕ) (value : Value) → MovesRoomy (discharging batch files) value
-discharged_moves batch [] value = λ f. absurd f
-discharged_moves batch (file ∷ rest) value = λ f. absurd f
+-- a step that isn't one of retiring leads to none that is
+abbrev IsApart : CleanerControl → Type 0
+IsApart LoadStopAgain = ⊥
+IsApart LoadTail = ⊥
+IsApart (LoadEachProgress who) = ⊥
+IsApart (MoveHeaderTail calls) = ⊥
+IsApart inner = Unit {0}
+
+abbrev Owes : Value → Control → Type 0
+Owes value control = MovesRoomy control value
+
+owes_withdrawing : (value : Value) → (owned : List Word) (batch : Batch) → (Owes value) (withdrawing owned batch)
+owes_withdrawing value [] batch = tt
+owes_withdrawing value (cell ∷ rest) batch = λ f. absurd f
+
+owes_syncing : (value : Value) → (batch : Batch) (files : List ℕ) → (Owes value) (syncing batch files)
+owes_syncing value batch [] = λ f. absurd f
+owes_syncing value batch (file ∷ rest) = λ f. absurd f
+
+owes_discharging : (value : Value) → (batch : Batch) (files : List ℕ) → (Owes value) (discharging batch files)
+owes_discharging value batch [] = λ f. absurd f
+owes_discharging value batch (file ∷ rest) = λ f. absurd f
+
+owes_finishing : (value : Value) → (sizes : Sizes) (batch : Batch) → (Owes value) (finishing sizes batch)
+owes_finishing value sizes batch = owes_syncing value (closed batch) (rising_files sizes batch)
+
+owes_surveying : (value : Value) → (sizes : Sizes) (batch : Batch) → (Owes value) (surveying sizes batch)
+owes_surveying value sizes batch = if_both (Owes value) (nat_lt batch.reached batch.head) (Cleaning batch (cleaner.LoadEntry 0)) (finishing sizes batch) (λ _ f. absurd f) (λ _. owes_finishing value sizes batch)
+
+owes_retreating : (value : Value) → (sizes : Sizes) (owned : List Word) (batch : Batch) (i : ℕ) → (Owes value) (retreating sizes owned batch i)
+owes_retreating value sizes owned batch i = if_both (Owes value) (i == 0) (if batch.reached == batch.start then withdrawing owned (closed batch) else finishing sizes batch) (Cleaning batch (RefusedGiveCleanup (i - 1)))
+    (λ _. if_both (Owes value) (batch.reached == batch.start) (withdrawing owned (closed batch)) (finishing sizes batch) (λ _. owes_withdrawing value owned (closed batch)) (λ _. owes_finishing value sizes batch)) (λ _ f. absurd f)
+
+owes_surveyed : (value : Value) → (batch : Batch) (i : ℕ) → (Owes value) (surveyed batch i)
+owes_surveyed value batch i = if_both (Owes value) (nat_lt (i + 1) batch.count) (Cleaning batch (cleaner.LoadEntry (i + 1))) (Cleaning batch (cleaner.TakeCleanup 0)) (λ _ f. absurd f) (λ _ f. absurd f)
+
+owes_next : (value : Value) → (batch : Batch) (i : ℕ) (inner : CleanerControl) (last : Control) → (Owes value) (Cleaning batch inner) → (Owes value) last → (Owes value) (each_next batch i inner last)
+owes_next value batch i inner last more done = if_both (Owes value) (i + 1 == length batch.pages) last (Cleaning batch inner) (λ _. done) (λ _. more)
+
+owes_claimed : (value : Value) → (sizes : Sizes) (batch : Batch) → (Owes value) (claimed sizes batch)
+owes_claimed value sizes batch = if_both (Owes value) (holds_store batch (group_file sizes batch)) (Cleaning batch (cleaner.HoldEntry 0)) (Cleaning batch cleaner.TakeStore) (λ _ f. absurd f) (λ _ f. absurd f)
+
+quiet_moves : (value : Value) (sizes : Sizes) (owned : List Word) (batch : Batch) (inner : CleanerControl) (found : ℕ) → IsApart inner → (Owes value) (after_cleaner_op sizes owned batch inner found)
+quiet_moves value sizes owned batch cleaner.LoadStop found quiet = if_both (Owes value) (found == 0) (Cleaning batch LoadProgress) (Cleaning batch GiveCleaner) (λ _ f. absurd f) (λ _ f. absurd f)
+quiet_moves value sizes owned batch LoadProgress found quiet = λ f. absurd f
+quiet_moves value sizes owned batch LoadHead found quiet = owes_surveying value sizes (record batch { head = found })
+quiet_moves value sizes owned batch GiveCleaner found quiet = tt
+quiet_moves value sizes owned batch (cleaner.LoadEntry i) found quiet =
+    if_both (Owes value) (i == 0) (led sizes batch found) (surveyed (batch_with_page batch i found) i)
+    (λ _. if_both (Owes value) (is_of_another sizes batch found) (surveying sizes (passed_over batch (count_of found))) (if may_pass batch found then surveyed (batch_with_page batch 0 found) 0 else finishing sizes batch)
+    (λ _. owes_surveying value sizes (passed_over batch (count_of found)))
+    (λ _. if_both (Owes value) (may_pass batch found) (surveyed (batch_with_page batch 0 found) 0) (finishing sizes batch) (λ _. owes_surveyed value (batch_with_page batch 0 found) 0) (λ _. owes_finishing value sizes batch)))
+    (λ _. owes_surveyed value (batch_with_page batch i found) i)
+quiet_moves value sizes owned batch (cleaner.TakeCleanup i) found quiet = if_both (Owes value) (found == 0) (each_next batch i (cleaner.TakeCleanup (i + 1)) (claimed sizes batch)) (retreating sizes owned batch i)
+    (λ _. owes_next value batch i (cleaner.TakeCleanup (i + 1)) (claimed sizes batch) (λ f. absurd f) (owes_claimed value sizes batch)) (λ _. owes_retreating value sizes owned batch i)
+quiet_moves value sizes owned batch cleaner.TakeStore found quiet =
+    if_both (Owes value) (found == 0) (Cleaning (record batch { files = group_file sizes batch ∷ batch.files }) (cleaner.HoldEntry 0)) (retreating sizes owned batch (length batch.pages))
+    (λ _ f. absurd f) (λ _. owes_retreating value sizes owned batch (length batch.pages))
+quiet_moves value sizes owned batch (CleanEntry i) found quiet = owes_next value batch i (CleanEntry (i + 1)) (Cleaning batch (SubtractDirty 0)) (λ f. absurd f) (λ f. absurd f)
+quiet_moves value sizes owned batch (SubtractDirty i) found quiet = owes_next value batch i (SubtractDirty (i + 1)) (Cleaning batch (cleaner.GiveCleanup 0)) (λ f. absurd f) (λ f. absurd f)
+quiet_moves value sizes owned batch (cleaner.GiveCleanup i) found quiet = owes_next value batch i (cleaner.GiveCleanup (i + 1)) (surveying sizes (next_group batch)) (λ f. absurd f) (owes_surveying value sizes (next_group batch))
+quiet_moves value sizes owned batch (RefusedReturnEntry i end) found quiet = if_both (Owes value) (i + 1 == end) (retreating sizes owned batch (length batch.pages)) (Cleaning batch (RefusedReturnEntry (i + 1) end)) (λ _. owes_retreating value sizes owned batch (length batch.pages)) (λ _ f. absurd f)
+quiet_moves value sizes owned batch (FailedReturnEntry i end) found quiet = if_both (Owes value) (i + 1 == end) (withdrawing owned (closed batch)) (Cleaning batch (FailedReturnEntry (i + 1) end)) (λ _. owes_withdrawing value owned (closed batch)) (λ _ f. absurd f)
+quiet_moves value sizes owned batch (RefusedGiveCleanup i) found quiet = owes_retreating value sizes owned batch i
+quiet_moves value sizes owned batch AdvanceProgress found quiet = owes_discharging value batch (rising_files sizes batch)
+quiet_moves value sizes owned batch (GiveStores []) found quiet = owes_discharging value batch []
+quiet_moves value sizes owned batch (GiveStores (file ∷ rest)) found quiet = owes_discharging value batch rest
+quiet_moves value sizes owned batch TakeHeader found quiet = if_both (Owes value) (found == 0) (Cleaning batch LoadStopAgain) (withdrawing owned batch) (λ _ f. absurd f) (λ _. owes_withdrawing value owned batch)
+quiet_moves value sizes owned batch LoadStopAgain found quiet = absurd quiet
+quiet_moves value sizes owned batch LoadTail found quiet = absurd quiet
+quiet_moves value sizes owned batch (LoadEachProgress who) found quiet = absurd quiet
+quiet_moves value sizes owned batch (FreeEntry number) found quiet = if_both (Owes value) (number + 1 == batch.least) (Cleaning batch AdvanceTail) (Cleaning batch (FreeEntry (number + 1))) (λ _ f. absurd f) (λ _ f. absurd f)
+quiet_moves value sizes owned batch AdvanceTail found quiet = λ f. absurd f
+quiet_moves value sizes owned batch GiveHeader found quiet = owes_withdrawing value owned batch
+quiet_moves value sizes owned batch (SetStop held) found quiet = if_both (Owes value) (held == 0) (withdrawing owned (closed batch)) (Cleaning batch (FailedReturnEntry 0 held)) (λ _. owes_withdrawing value owned (closed batch)) (λ _ f. absurd f)
+quiet_moves value sizes owned batch SetStopAfterMove found quiet = owes_withdrawing value owned batch
+quiet_moves value sizes owned batch cleaner.GiveBack found quiet = owes_withdrawing value owned batch
+quiet_moves value sizes owned batch (MoveHeaderTail calls) found quiet = absurd quiet
+quiet_moves value sizes owned batch inner found quiet = λ f. absurd f
 
 -- after a cleaner's step
-cleaner_op_moves : (sizes : Sizes) (old owned : List Word) (batch : Batch) (inner : CleanerControl) (cleaner_op : CleanerOp) (found : ℕ) (value : Value) → next_cleaner_op sizes old batch inner ≡ Some cleaner_op → (inner ≡ cleaner.LoadStop → found ≡ 0 → KeepsRoomy value)
+cleaner_op_moves : (sizes : Sizes) (old owned : List Word) (batch : Batch) (inner : CleanerControl) (cleaner_op : CleanerOp) (found : ℕ) (value : Value) → next_cleaner_op sizes old batch inner ≡ Some cleaner_op → (inner ≡ LoadStopAgain → found ≡ 0 → KeepsRoomy value)
     → MovesRoomy (Cleaning batch inner) value → MovesRoomy (after_cleaner_op sizes owned batch inner found) value
-cleaner_op_moves sizes old owned batch TakeHeader cleaner_op found value e new was = if_both (λ s. MovesRoomy s value) (found == 0) (Cleaning batch cleaner.LoadStop) (withdrawing owned batch) (λ _ f. absurd f) (λ _. withdrawn_moves owned batch value)
-cleaner_op_moves sizes old owned batch cleaner.LoadStop cleaner_op found value e new was = if_both (λ s. MovesRoomy s value) (found == 0) (Cleaning batch LoadTail) (withdrawing owned batch) (λ z _. new refl (eqb-true found 0 z)) (λ _. withdrawn_moves owned batch value)
-cleaner_op_moves sizes old owned batch (FailedReturnEntry i end) cleaner_op found value e new was = if_both (λ s. MovesRoomy s value) (i + 1 == end) (withdrawing owned batch) (Cleaning batch (FailedReturnEntry (i + 1) end)) (λ _. withdrawn_moves owned batch value) (λ _ f. absurd f)
-cleaner_op_moves sizes old owned batch (FreeEntry number) cleaner_op found value e new was = if_both (λ s. MovesRoomy s value) (number + 1 == batch.reached) (Cleaning batch AdvanceTail) (Cleaning batch (FreeEntry (number + 1))) (λ _ f. absurd f) (λ _ f. absurd f)
-cleaner_op_moves sizes old owned batch AdvanceTail cleaner_op found value e new was = discharged_moves batch (rising_files sizes batch) value
-cleaner_op_moves sizes old owned batch (GiveStores []) cleaner_op found value e new was = λ f. absurd f
-cleaner_op_moves sizes old owned batch (GiveStores (file ∷ rest)) cleaner_op found value e new was = discharged_moves batch rest value
-cleaner_op_moves sizes old owned batch GiveHeader cleaner_op found value e new was = λ f. absurd f
-cleaner_op_moves sizes old owned batch GiveCleaner cleaner_op found value e new was = tt
-cleaner_op_moves sizes old owned batch (SetStop n) cleaner_op found value e new was = if_both (λ s. MovesRoomy s value) (n == 0) (withdrawing owned batch) (Cleaning batch (FailedReturnEntry 0 n)) (λ _. withdrawn_moves owned batch value) (λ _ f. absurd f)
-cleaner_op_moves sizes old owned batch cleaner.GiveBack cleaner_op found value e new was = withdrawn_moves owned batch value
+cleaner_op_moves sizes old owned batch LoadStopAgain cleaner_op found value e new was = if_both (λ s. MovesRoomy s value) (found == 0) (Cleaning batch LoadTail) (withdrawing owned batch) (λ z _. new refl (eqb-true found 0 z)) (λ _. withdrawn_moves owned batch value)
+cleaner_op_moves sizes old owned batch LoadTail cleaner_op found value e new was = λ _. was tt
+cleaner_op_moves sizes old owned batch (LoadEachProgress who) cleaner_op found value e new was = if_both (λ s. MovesRoomy s value) (who + 1 == sizes.cleaners) (retiring (with_progress batch who found)) (Cleaning (with_progress batch who found) (LoadEachProgress (who + 1)))
+    (λ _. if_both (λ s. MovesRoomy s value) (nat_lt batch.tail (with_progress batch who found).least) (Cleaning (with_progress batch who found) (MoveHeaderTail 0)) (Cleaning (with_progress batch who found) cleaner.GiveHeader) (λ _ _. was tt) (λ _ f. absurd f)) (λ _ _. was tt)
 cleaner_op_moves sizes old owned batch (MoveHeaderTail calls) cleaner_op found value e new was = absurd (none_next e)
   where
     none_next : {T : Type 0} {cleaner_op : T} → None ≡ Some cleaner_op → ⊥
     none_next e = cc
-cleaner_op_moves sizes old owned batch inner cleaner_op found value e new was = lands (λ s. MovesRoomy s value) tt (λ b s landing. roomy_moves b value s landing (was tt)) sizes old owned batch inner cleaner_op found e
+cleaner_op_moves sizes old owned batch inner cleaner_op found value e new was = quiet_moves value sizes owned batch inner found tt
 
 -- ---- a step
 
@@ -127,14 +190,14 @@ module _ (sizes : Sizes) (first : Values) (by : ℕ) (core : Core) (found : ℕ)
   -- a cleaner that moved the tail still does, or has set STOP
   tended_still : (cleaner_op : CleanerOp) (control : Control) → (core.passes by).control ≡ control → CleanerEnabled sizes (core.passes by) cleaner_op control → FoundEnabledByKind sizes by core (ByCleaner cleaner_op) found → IsMoving control → (after_step sizes by (ByCleaner cleaner_op) found core).words STOP ≡ 1
   tended_still cleaner_op control at cleaner_step may is = tended (λ c s. (core.passes by).control ≡ s → IsMoving s → (after_step sizes by (ByCleaner c) found core).words STOP ≡ 1) sizes (core.passes by) cleaner_op control cleaner_step
-      (λ most at is. absurd is) (λ batch inner e at is. go batch inner e is) at is
+      (λ who most less at is. absurd is) (λ batch inner e at is. go batch inner e is) at is
     where
       go : (batch : Batch) (inner : CleanerControl) → next_cleaner_op sizes (core.passes by).owned batch inner ≡ Some cleaner_op → IsMoving (Cleaning batch inner) → (after_step sizes by (ByCleaner cleaner_op) found core).words STOP ≡ 1
       go batch (MoveHeaderTail (suc calls)) e is = absurd (none_next e)
         where
           none_next : {T : Type 0} {cleaner_op : T} → None ≡ Some cleaner_op → ⊥
           none_next e = cc
-      go batch (SetStop n) e is = subst (λ c. (after_step sizes by (ByCleaner c) found core).words STOP ≡ 1) (some_same cleaner.Stop cleaner_op e) (word_here core.words STOP 1)
+      go batch SetStopAfterMove e is = subst (λ c. (after_step sizes by (ByCleaner c) found core).words STOP ≡ 1) (some_same cleaner.Stop cleaner_op e) (word_here core.words STOP 1)
         where
           some_same : (one other : CleanerOp) → Some one ≡ Some other → one ≡ other
           some_same one other e = cc
@@ -159,23 +222,23 @@ module _ (sizes : Sizes) (first : Values) (by : ℕ) (core : Core) (found : ℕ)
       was_zero : (n : ℕ) → n ≤ 1 → n ≢ 1 → n ≡ 0
       was_zero n bit ne = omega (arith, bit, ne)
 
-  -- a cleaner that finds STOP at 0 finds the header's part with room
-  found_roomy : (batch : Batch) → (core.passes by).control ≡ Cleaning batch cleaner.LoadStop → core.words STOP ≡ 0 → KeepsRoomy (core.values HEADER)
+  -- a cleaner that finds STOP at 0 under HEADER finds the header's part with room
+  found_roomy : (batch : Batch) → (core.passes by).control ≡ Cleaning batch LoadStopAgain → core.words STOP ≡ 0 → KeepsRoomy (core.values HEADER)
   found_roomy batch at zero_ = sound.rooms.header zero_ (λ n. go n (core.passes n).control refl)
     where
-      no_other : (n : ℕ) (b : Batch) (s : CleanerControl) → (core.passes n).control ≡ Cleaning b s → IsSweeping s → IsMoving (Cleaning b s) → ⊥
-      no_other n b s e sweeping is = subst IsMoving (sym e ∙ ap (λ k. (core.passes k).control) (one_cleaner sizes first core sound n by b batch s cleaner.LoadStop e at sweeping tt) ∙ at) is
+      no_other : (n : ℕ) (b : Batch) (s : CleanerControl) → (core.passes n).control ≡ Cleaning b s → of_cleaner_header s ≡ 1 → IsMoving (Cleaning b s) → ⊥
+      no_other n b s e header is = subst IsMoving (sym e ∙ ap (λ k. (core.passes k).control) (one_header sizes first core sound n by b batch s LoadStopAgain e at header refl) ∙ at) is
 
       go : (n : ℕ) (control : Control) → (core.passes n).control ≡ control → IsMoving control → ⊥
-      go n (Cleaning b (MoveHeaderTail (suc calls))) e is = no_other n b (MoveHeaderTail (suc calls)) e tt is
-      go n (Cleaning b (SetStop m)) e is = no_other n b (SetStop m) e tt is
+      go n (Cleaning b (MoveHeaderTail (suc calls))) e is = no_other n b (MoveHeaderTail (suc calls)) e refl is
+      go n (Cleaning b SetStopAfterMove) e is = no_other n b SetStopAfterMove e refl is
       go n control e is = is
 
   tended_moves : (cleaner_op : CleanerOp) (control : Control) → (core.passes by).control ≡ control → CleanerEnabled sizes (core.passes by) cleaner_op control → FoundEnabledByKind sizes by core (ByCleaner cleaner_op) found
       → MovesRoomy (after_by_cleaner sizes (moved (cleaner_move sizes cleaner_op found) (core.passes by).owned) cleaner_op found control) (core.values HEADER)
   tended_moves cleaner_op control at cleaner_step may = tended (λ c s. (core.passes by).control ≡ s → FoundEnabledByKind sizes by core (ByCleaner c) found → MovesRoomy (after_by_cleaner sizes (moved (cleaner_move sizes c found) (core.passes by).owned) c found s) (core.values HEADER))
       sizes (core.passes by) cleaner_op control cleaner_step
-      (λ most at may. if_both (λ s. MovesRoomy s (core.values HEADER)) (found == 0) (Cleaning (new_batch most) TakeHeader) Idle (λ _ f. absurd f) (λ _. tt))
+      (λ who most less at may. if_both (λ s. MovesRoomy s (core.values HEADER)) (found == 0) (Cleaning (new_batch who most) cleaner.LoadStop) Idle (λ _ f. absurd f) (λ _. tt))
       (λ batch inner e at may. cleaner_op_moves sizes (core.passes by).owned (moved (cleaner_move sizes cleaner_op found) (core.passes by).owned) batch inner cleaner_op found (core.values HEADER) e
       (λ mind zero_. found_roomy batch (at ∙ ap (Cleaning batch) mind) (stop_found batch inner cleaner_op e mind may ∙ zero_)) (subst (λ s. MovesRoomy s (core.values HEADER)) at (sound.rooms.moving by)))
       at may
@@ -183,7 +246,7 @@ module _ (sizes : Sizes) (first : Values) (by : ℕ) (core : Core) (found : ℕ)
       some_same : (one other : CleanerOp) → Some one ≡ Some other → one ≡ other
       some_same one other e = cc
 
-      stop_found : (batch : Batch) (inner : CleanerControl) (cleaner_op : CleanerOp) → next_cleaner_op sizes (core.passes by).owned batch inner ≡ Some cleaner_op → inner ≡ cleaner.LoadStop → FoundEnabledByKind sizes by core (ByCleaner cleaner_op) found → core.words STOP ≡ found
+      stop_found : (batch : Batch) (inner : CleanerControl) (cleaner_op : CleanerOp) → next_cleaner_op sizes (core.passes by).owned batch inner ≡ Some cleaner_op → inner ≡ LoadStopAgain → FoundEnabledByKind sizes by core (ByCleaner cleaner_op) found → core.words STOP ≡ found
       stop_found batch inner cleaner_op e mind may = ap (λ c. core.words (cleaner_word sizes c)) (some_same (cleaner.Load STOP) cleaner_op (sym (ap (next_cleaner_op sizes (core.passes by).owned batch) mind) ∙ e)) ∙ may.is
 
   moves_here : (op : Op) → FoundEnabledByKind sizes by core op found → MovesRoomy (changed_pass sizes by core op found).control (core.values HEADER)
@@ -240,13 +303,19 @@ module _ (sizes : Sizes) (first : Values) (by : ℕ) (core : Core) (work : Work)
       on : (n : ℕ) → IsMoving (core.passes n).control → IsMoving ((after_work sizes by work core).passes n).control
       on = by_number (λ n (p : Pass). IsMoving (core.passes n).control → IsMoving p.control) core.passes by (worked sizes work (core.passes by)) (λ is. absurd (still is)) (λ n ne is. is)
 
-  -- no other cleaner has found STOP at 0
-  others : (batch : Batch) (inner : CleanerControl) → (core.passes by).control ≡ Cleaning batch inner → IsSweeping inner → (value : Value) (n : ℕ) → n ≢ by → (control : Control) → (core.passes n).control ≡ control → MovesRoomy control value
-  others batch inner at sweeping value n ne (Cleaning b cleaner.GiveBack) e = λ f. absurd f
-  others batch inner at sweeping value n ne (Cleaning b s) e = absurd (ne (one_cleaner sizes first core sound n by b batch s inner e at tt sweeping))
-  others batch inner at sweeping value n ne control e = tt
+  -- no other cleaner retires
+  unmoved_header : (inner : CleanerControl) → IsUnmoved inner → of_cleaner_header inner ≡ 1
+  unmoved_header LoadTail is = refl
+  unmoved_header (LoadEachProgress who) is = refl
+  unmoved_header (MoveHeaderTail calls) is = refl
+  unmoved_header inner is = absurd is
 
-  module _ (batch : Batch) (calls : ℕ) (at : (core.passes by).control ≡ Cleaning batch (MoveHeaderTail calls)) (due : IsTailCall batch.reached calls work) where
+  others : (batch : Batch) (inner : CleanerControl) → (core.passes by).control ≡ Cleaning batch inner → of_cleaner_header inner ≡ 1 → (value : Value) (n : ℕ) → n ≢ by → (control : Control) → (core.passes n).control ≡ control → MovesRoomy control value
+  others batch inner at header value n ne (Cleaning b (MoveHeaderTail (suc calls))) e = absurd (ne (one_header sizes first core sound n by b batch (MoveHeaderTail (suc calls)) inner e at refl header))
+  others batch inner at header value n ne (Cleaning b s) e = λ f. absurd (ne (one_header sizes first core sound n by b batch s inner e at (unmoved_header s f) header))
+  others batch inner at header value n ne control e = tt
+
+  module _ (batch : Batch) (calls : ℕ) (at : (core.passes by).control ≡ Cleaning batch (MoveHeaderTail calls)) (due : IsTailCall batch.least calls work) where
     value_now : (after_work sizes by work core).values HEADER ≡ called (PartStep due.step due.spares) work.ending (core.values HEADER)
     value_now = header_read (core.passes by).pages work.job work.ending (core.passes by).control (with_value core.values work.cell (called work.job work.ending (core.values work.cell)))
         ∙ ap (λ c. with_value core.values c (called work.job work.ending (core.values c)) HEADER) due.cell ∙ word_here core.values HEADER (called work.job work.ending (core.values HEADER)) ∙ ap (λ j. called j work.ending (core.values HEADER)) due.job
@@ -254,27 +323,27 @@ module _ (sizes : Sizes) (first : Values) (by : ℕ) (core : Core) (work : Work)
     leaves : CallMayLeave (core.values HEADER) (PartStep due.step due.spares) work.ending
     leaves = subst (λ c. CallMayLeave (core.values c) (PartStep due.step due.spares) work.ending) due.cell (subst (λ j. CallMayLeave (core.values work.cell) j work.ending) due.job may.leaves)
 
-    before_call : EndsRoomy (drop calls (tail_steps batch.reached)) (core.values HEADER)
+    before_call : EndsRoomy (drop calls (tail_steps batch.least)) (core.values HEADER)
     before_call = go calls at
       where
-        go : (calls : ℕ) → (core.passes by).control ≡ Cleaning batch (MoveHeaderTail calls) → EndsRoomy (drop calls (tail_steps batch.reached)) (core.values HEADER)
-        go zero at = let was : IsUnmoved (MoveHeaderTail zero) → KeepsRoomy (core.values HEADER) = subst (λ s. MovesRoomy s (core.values HEADER)) at (sound.rooms.moving by) in all_to_come batch.reached (core.values HEADER) (was tt)
+        go : (calls : ℕ) → (core.passes by).control ≡ Cleaning batch (MoveHeaderTail calls) → EndsRoomy (drop calls (tail_steps batch.least)) (core.values HEADER)
+        go zero at = let was : IsUnmoved (MoveHeaderTail zero) → KeepsRoomy (core.values HEADER) = subst (λ s. MovesRoomy s (core.values HEADER)) at (sound.rooms.moving by) in all_to_come batch.least (core.values HEADER) (was tt)
         go (suc calls) at = subst (λ s. MovesRoomy s (core.values HEADER)) at (sound.rooms.moving by)
 
-    after_call : work.ending ≡ Made → EndsRoomy (drop (suc calls) (tail_steps batch.reached)) ((after_work sizes by work core).values HEADER)
-    after_call made = subst (EndsRoomy (drop (suc calls) (tail_steps batch.reached))) (sym (value_now ∙ ap (λ how. called (PartStep due.step due.spares) how (core.values HEADER)) made))
-        (one_comes due.step due.spares (drop (suc calls) (tail_steps batch.reached)) (core.values HEADER)
-        (subst (λ list. EndsRoomy list (core.values HEADER)) (drop-cons (tail_steps batch.reached) calls due.step due.there ∙ ap (λ step. step ∷ drop (suc calls) (tail_steps batch.reached)) due.at) before_call)
+    after_call : work.ending ≡ Made → EndsRoomy (drop (suc calls) (tail_steps batch.least)) ((after_work sizes by work core).values HEADER)
+    after_call made = subst (EndsRoomy (drop (suc calls) (tail_steps batch.least))) (sym (value_now ∙ ap (λ how. called (PartStep due.step due.spares) how (core.values HEADER)) made))
+        (one_comes due.step due.spares (drop (suc calls) (tail_steps batch.least)) (core.values HEADER)
+        (subst (λ list. EndsRoomy list (core.values HEADER)) (drop-cons (tail_steps batch.least) calls due.step due.there ∙ ap (λ step. step ∷ drop (suc calls) (tail_steps batch.least)) due.at) before_call)
         (subst (CallMayLeave (core.values HEADER) (PartStep due.step due.spares)) made leaves))
 
     -- where the cleaner stands then
     after_control : (how : CallEnding) → work.ending ≡ how → ((core.words STOP ≡ 0 → (IsMoving (after_cleaner_work batch how (MoveHeaderTail calls)) → ⊥) → KeepsRoomy ((after_work sizes by work core).values HEADER))
         × MovesRoomy (after_cleaner_work batch how (MoveHeaderTail calls)) ((after_work sizes by work core).values HEADER))
     after_control Made made = if_both (λ s. (core.words STOP ≡ 0 → (IsMoving s → ⊥) → KeepsRoomy ((after_work sizes by work core).values HEADER)) × MovesRoomy s ((after_work sizes by work core).values HEADER))
-        (calls + 1 == length (tail_steps batch.reached)) (Cleaning batch (FreeEntry batch.tail)) (Cleaning batch (MoveHeaderTail (calls + 1)))
+        (calls + 1 == length (tail_steps batch.least)) (Cleaning batch (FreeEntry batch.tail)) (Cleaning batch (MoveHeaderTail (calls + 1)))
         (λ last. (
           λ _ _. none_to_come ((after_work sizes by work core).values HEADER) (subst (λ list. EndsRoomy list ((after_work sizes by work core).values HEADER))
-              (drop_all (suc calls) (tail_steps batch.reached) (let l = eqb-true (calls + 1) (length (tail_steps batch.reached)) last in omega (arith, l))) (after_call made)),
+              (drop_all (suc calls) (tail_steps batch.least) (let l = eqb-true (calls + 1) (length (tail_steps batch.least)) last in omega (arith, l))) (after_call made)),
           λ f. absurd f,
         ))
         (λ _. subst (λ n. (core.words STOP ≡ 0 → (IsMoving (Cleaning batch (MoveHeaderTail n)) → ⊥) → KeepsRoomy ((after_work sizes by work core).values HEADER)) × MovesRoomy (Cleaning batch (MoveHeaderTail n)) ((after_work sizes by work core).values HEADER))
@@ -286,7 +355,7 @@ module _ (sizes : Sizes) (first : Values) (by : ℕ) (core : Core) (work : Work)
     moves_tail = (
       λ zero_ none. stands.0 zero_ (λ is. none by (subst (λ (p : Pass). IsMoving p.control) (sym (number_here core.passes by (worked sizes work (core.passes by)))) (subst IsMoving (sym control_now) is))),
       by_number (λ n (p : Pass). MovesRoomy p.control ((after_work sizes by work core).values HEADER)) core.passes by (worked sizes work (core.passes by)) (subst (λ s. MovesRoomy s ((after_work sizes by work core).values HEADER)) (sym control_now) stands.1)
-          (λ n ne. others batch (MoveHeaderTail calls) at tt ((after_work sizes by work core).values HEADER) n ne (core.passes n).control refl),
+          (λ n ne. others batch (MoveHeaderTail calls) at refl ((after_work sizes by work core).values HEADER) n ne (core.passes n).control refl),
     )
       where
         stands : (core.words STOP ≡ 0 → (IsMoving (after_cleaner_work batch work.ending (MoveHeaderTail calls)) → ⊥) → KeepsRoomy ((after_work sizes by work core).values HEADER))
@@ -297,19 +366,19 @@ module _ (sizes : Sizes) (first : Values) (by : ℕ) (core : Core) (work : Work)
         control_now = ap (control_worked sizes (core.passes by) work.ending) at ∙ worked_control sizes (core.passes by) batch work.ending (MoveHeaderTail calls)
 
   -- a cleaner's other device calls
-  of_cleaner_moves : (batch : Batch) (how : CallEnding) (inner : CleanerControl) (value : Value) → (KeepsRoomy value) → CleanerCallDue sizes core.values batch work inner → ((calls : ℕ) → inner ≢ MoveHeaderTail calls) → MovesRoomy (after_cleaner_work batch how inner) value
-  of_cleaner_moves batch Made (cleaner.ReadPiece i) value is due other = λ _. is
-  of_cleaner_moves batch Made (WriteBack i) value is due other = if_both (λ s. MovesRoomy s value) (i + 1 == length batch.pages) (Cleaning batch (CleanEntry 0)) (Cleaning batch (cleaner.HoldEntry (i + 1))) (λ _ _. is) (λ _ _. is)
-  of_cleaner_moves batch Made (SyncStores (file ∷ [])) value is due other = λ _. is
-  of_cleaner_moves batch Made (SyncStores (file ∷ (next ∷ rest))) value is due other = λ _. is
-  of_cleaner_moves batch (Failed came faults) (cleaner.ReadPiece i) value is due other = λ f. absurd f
-  of_cleaner_moves batch (Failed came faults) (WriteBack i) value is due other = λ f. absurd f
-  of_cleaner_moves batch (Failed came faults) (SyncStores (file ∷ rest)) value is due other = λ f. absurd f
-  of_cleaner_moves batch Refused (cleaner.ReadPiece i) value is due other = λ _. is
-  of_cleaner_moves batch Refused (WriteBack i) value is due other = λ _. is
-  of_cleaner_moves batch Refused (SyncStores (file ∷ rest)) value is due other = λ _. is
-  of_cleaner_moves batch how (MoveHeaderTail calls) value is due other = absurd (other calls refl)
-  of_cleaner_moves batch how inner value is due other = absurd due
+  of_cleaner_moves : (batch : Batch) (how : CallEnding) (inner : CleanerControl) (value : Value) → CleanerCallDue sizes core.values batch work inner → ((calls : ℕ) → inner ≢ MoveHeaderTail calls) → MovesRoomy (after_cleaner_work batch how inner) value
+  of_cleaner_moves batch Made (cleaner.ReadPiece i) value due other = λ f. absurd f
+  of_cleaner_moves batch Made (WriteBack i) value due other = if_both (λ s. MovesRoomy s value) (i + 1 == length batch.pages) (Cleaning batch (CleanEntry 0)) (Cleaning batch (cleaner.HoldEntry (i + 1))) (λ _ f. absurd f) (λ _ f. absurd f)
+  of_cleaner_moves batch Made (SyncStores (file ∷ [])) value due other = λ f. absurd f
+  of_cleaner_moves batch Made (SyncStores (file ∷ (next ∷ rest))) value due other = λ f. absurd f
+  of_cleaner_moves batch (Failed came faults) (cleaner.ReadPiece i) value due other = λ f. absurd f
+  of_cleaner_moves batch (Failed came faults) (WriteBack i) value due other = λ f. absurd f
+  of_cleaner_moves batch (Failed came faults) (SyncStores (file ∷ rest)) value due other = λ f. absurd f
+  of_cleaner_moves batch Refused (cleaner.ReadPiece i) value due other = λ f. absurd f
+  of_cleaner_moves batch Refused (WriteBack i) value due other = λ f. absurd f
+  of_cleaner_moves batch Refused (SyncStores (file ∷ rest)) value due other = λ f. absurd f
+  of_cleaner_moves batch how (MoveHeaderTail calls) value due other = absurd (other calls refl)
+  of_cleaner_moves batch how inner value due other = absurd due
 
   header_room_work : HasHeader
   header_room_work = go (core.passes by).control refl may.due
@@ -335,11 +404,11 @@ module _ (sizes : Sizes) (first : Values) (by : ℕ) (core : Core) (work : Work)
       patched (Failed came faults) page number = tt
       patched Refused page number = tt
 
-      of_cleaner : (batch : Batch) (inner : CleanerControl) → (core.passes by).control ≡ Cleaning batch inner → IsUnmoved inner → (MovesRoomy (Cleaning batch inner) (core.values HEADER) → KeepsRoomy (core.values HEADER)) → CleanerCallDue sizes core.values batch work inner
+      of_cleaner : (batch : Batch) (inner : CleanerControl) → (core.passes by).control ≡ Cleaning batch inner → CleanerCallDue sizes core.values batch work inner
           → ((calls : ℕ) → inner ≢ MoveHeaderTail calls) → HEADER ≢ work.cell → (IsMoving (Cleaning batch inner) → ⊥) → HasHeader
-      of_cleaner batch inner at unmoved was due other ne none = elsewhere ne (still (Cleaning batch inner) at none)
+      of_cleaner batch inner at due other ne none = elsewhere ne (still (Cleaning batch inner) at none)
           (here (Cleaning batch inner) at (subst (λ s. MovesRoomy s (core.values HEADER)) (sym (worked_control sizes (core.passes by) batch work.ending inner))
-          (of_cleaner_moves batch work.ending inner (core.values HEADER) (was (subst (λ s. MovesRoomy s (core.values HEADER)) at (sound.rooms.moving by))) due other)))
+          (of_cleaner_moves batch work.ending inner (core.values HEADER) due other)))
 
       at_entry : (slot : ℕ) → work.cell ≡ ENTRY slot → HEADER ≢ work.cell
       at_entry slot cell e = differ HEADER (ENTRY slot) refl (e ∙ cell)
@@ -348,9 +417,9 @@ module _ (sizes : Sizes) (first : Values) (by : ℕ) (core : Core) (work : Work)
       at_store file cell e = differ HEADER (STORE file) refl (e ∙ cell)
 
       tidy : (batch : Batch) (inner : CleanerControl) → (core.passes by).control ≡ Cleaning batch inner → CleanerCallDue sizes core.values batch work inner → HasHeader
-      tidy batch (cleaner.ReadPiece i) at due = of_cleaner batch (cleaner.ReadPiece i) at tt (λ w. w tt) due (λ calls e. cc) (at_entry (slot_of_entry sizes (batch.reached + i)) due.cell) (λ f. f)
-      tidy batch (WriteBack i) at due = of_cleaner batch (WriteBack i) at tt (λ w. w tt) due (λ calls e. cc) (at_store (group_file sizes batch) due.cell) (λ f. f)
-      tidy batch (SyncStores (file ∷ rest)) at due = of_cleaner batch (SyncStores (file ∷ rest)) at tt (λ w. w tt) due (λ calls e. cc) (at_store file due.0) (λ f. f)
+      tidy batch (cleaner.ReadPiece i) at due = of_cleaner batch (cleaner.ReadPiece i) at due (λ calls e. cc) (at_entry (slot_of_entry sizes (batch.reached + i)) due.cell) (λ f. f)
+      tidy batch (WriteBack i) at due = of_cleaner batch (WriteBack i) at due (λ calls e. cc) (at_store (group_file sizes batch) due.cell) (λ f. f)
+      tidy batch (SyncStores (file ∷ rest)) at due = of_cleaner batch (SyncStores (file ∷ rest)) at due (λ calls e. cc) (at_store file due.0) (λ f. f)
       tidy batch (MoveHeaderTail calls) at due = moves_tail batch calls at due
       tidy batch inner at due = absurd due
 

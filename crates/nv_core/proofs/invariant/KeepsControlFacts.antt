@@ -3,10 +3,10 @@ use Rattle.std.proofs.Common.{◌≡◌, ◌≢◌, ℕ, zero, suc, ◌≤◌, �
 use Rattle.std.proofs.lemmas.Bool.{eqb-true}
 use Rattle.nv_plain.specs.declared.call.FileCall.{FileCall}
 use Rattle.nv_core.specs.state.Words.{Sizes, Word, CLEANER, ENTRY, is_lock, is_shut}
-use Rattle.nv_core.specs.state.Cleaner.{Batch, CleanerControl, TakeHeader, LoadHead, SyncStores, MoveHeaderTail, FreeEntry, AdvanceTail, CleanerOp, TakeCleaner}
+use Rattle.nv_core.specs.state.Cleaner.{Batch, CleanerControl, LoadProgress, LoadHead, GiveCleaner, SyncStores, AdvanceProgress, CleanerOp, TakeCleaner}
 use Rattle.nv_core.specs.state.Cleaner as cleaner
 use Rattle.nv_core.specs.steps.CleanerSteps.{cleaner_word, new_batch, after_cleaner_work}
-use Rattle.nv_core.specs.log.Progress.{HasLoadedTail, HasNoGroup}
+use Rattle.nv_core.specs.log.Progress.{HasLoadedProgress, HasMovedProgress, HasNoGroup}
 use Rattle.nv_core.specs.state.Passes.{Control, Idle, GiveBack, Pass, Cleaning, times}
 use Rattle.nv_core.specs.steps.Ops.{Op, Stays, Comes, moved, cleaner_move, ByCleaner, Split, PutBack, Join}
 use Rattle.nv_core.specs.steps.ControlSteps.{after_by_cleaner}
@@ -20,7 +20,7 @@ use Rattle.nv_core.specs.invariant.Ownership.{lock_held, HoldsLocks, Ownership}
 use Rattle.nv_core.specs.invariant.Sound.{Sound}
 use Rattle.nv_core.proofs.state.Changes.{by_number}
 use Rattle.nv_core.proofs.state.Choices.{if_both, when_true, when_false, not_both}
-use Rattle.nv_core.proofs.invariant.ControlFactLaws.{IsTailLoaded, control_facts_steps, control_facts_begins, control_facts_works, worked_control}
+use Rattle.nv_core.proofs.invariant.ControlFactLaws.{control_facts_steps, control_facts_begins, control_facts_works, worked_control}
 use Rattle.nv_core.proofs.steps.CleanerControls.{tended, tended_to, of_cleaner_worked}
 use Rattle.nv_core.proofs.invariant.CleanerLocks.{owe_cleaner, cleaner_locks}
 use Rattle.nv_core.proofs.invariant.CleanerEntries.{IsFree, WritesBack, none_still, unlifted, cleaner_entries, cleaner_work_entries, cleaner_work_locks}
@@ -41,16 +41,12 @@ left_locks : (sizes : Sizes) (pass : Pass) (left : List Word) (control : Control
 left_locks sizes pass left GiveBack held = held
 left_locks sizes pass left control held = held
 
-tail_loaded : (sizes : Sizes) (first : Values) (by : ℕ) (core : Core) (control : Control) → (core.passes by).control ≡ control → Sound sizes first core → IsTailLoaded control
-tail_loaded sizes first by core (Cleaning batch inner) is sound = λ has. (sound.grouped.progress.each by batch inner is has).low
-tail_loaded sizes first by core control is sound = tt
-
 stands : (sizes : Sizes) (first : Values) (by : ℕ) (core : Core) (found : ℕ) (op : Op) → Sound sizes first core → StepEnabledByKind sizes by core op → ControlFacts sizes (changed_pass sizes by core op found)
 stands sizes first by core found Split sound may = record { at = tt; pages = tt; allowed = λ now. absurd (not_both now refl) }
 stands sizes first by core found (PutBack cell) sound may =
     let old = sound.control_facts by in record { at = left_stands sizes (core.passes by) (cell ∷ (core.passes by).left) (core.passes by).control old.at; pages = left_pages sizes (core.passes by) (cell ∷ (core.passes by).left) (core.passes by).control old.pages; allowed = old.allowed }
 stands sizes first by core found (Join number) sound may = sound.control_facts by
-stands sizes first by core found op sound may = control_facts_steps sizes core.values (core.passes by) op found by core.history (sound.control_facts by) (tail_loaded sizes first by core (core.passes by).control refl sound) may
+stands sizes first by core found op sound may = control_facts_steps sizes core.values (core.passes by) op found by core.history (sound.control_facts by) may
 
 pub control_facts_step : (sizes : Sizes) (first : Values) (by : ℕ) (core : Core) (op : Op) (found : ℕ) → Sound sizes first core → StepEnabledByKind sizes by core op
     → (n : ℕ) → ControlFacts sizes ((after_step sizes by op found core).passes n)
@@ -66,7 +62,7 @@ control_facts_work sizes first by core work sound may = by_number (λ n p. Contr
 -- ---- a cleaner's locks and entries
 
 -- a group has no more entries than the log
-pub few_pages : (sizes : Sizes) (first : Values) (by : ℕ) (core : Core) (batch : Batch) (inner : CleanerControl) → Sound sizes first core → (core.passes by).control ≡ Cleaning batch inner → HasLoadedTail inner → length batch.pages ≤ sizes.entries
+pub few_pages : (sizes : Sizes) (first : Values) (by : ℕ) (core : Core) (batch : Batch) (inner : CleanerControl) → Sound sizes first core → (core.passes by).control ≡ Cleaning batch inner → HasLoadedProgress inner → length batch.pages ≤ sizes.entries
 few_pages sizes first by core batch inner sound is has = go (length batch.pages) refl
   where
     go : (n : ℕ) → length batch.pages ≡ n → n ≤ sizes.entries
@@ -74,7 +70,7 @@ few_pages sizes first by core batch inner sound is has = go (length batch.pages)
     go (suc m) e =
         let way = sound.grouped.progress.each by batch inner is has in
         let within = (way.looked m (omega (arith, e))).within in
-        let tail = way.tail in let low = way.low in let high = within.1 in let room = sound.window.room in omega (arith, tail, low, high, room)
+        let tail = sound.grouped.progress.low batch.cleaner (sound.cleaners.there by batch inner is) in let low = way.low in let high = within.1 in let room = sound.window.room in omega (arith, tail, low, high, room)
 
 -- a lock that is found open is no pass's
 found_open : (sizes : Sizes) (first : Values) (by : ℕ) (core : Core) (cell : Word) (found : ℕ) → Sound sizes first core → is_lock cell ≡ true → core.words cell ≡ found → (found == 0) ≡ true → times cell (core.passes by).owned ≡ 0
@@ -89,13 +85,13 @@ by_cleaner_locks : (sizes : Sizes) (first : Values) (by : ℕ) (core : Core) (no
 by_cleaner_locks sizes first by core now cleaner_op found (Cleaning batch inner) sound at may is owned =
     cleaner_locks sizes (core.passes by) now batch inner cleaner_op found owned may (subst (FactsAt sizes (core.passes by)) at (sound.control_facts by).at)
     (λ open_ cell e. found_open sizes first by core cell found sound (cleaner_take_lock cleaner_op cell (cleaner_op_locks sizes (core.passes by) cleaner_op (Cleaning batch inner) may) e) (ap (λ c. core.words (cleaner_word sizes c)) (sym e) ∙ is) open_)
-    (λ e. (sound.grouped.progress.each by batch inner at (subst HasLoadedTail (sym e) tt)).files)
+    (λ e. (sound.grouped.progress.each by batch inner at (subst HasLoadedProgress (sym e) tt)).files)
     (subst (HoldsLocks sizes (core.passes by)) at (sound.ownership by).locks)
-by_cleaner_locks sizes first by core now (TakeCleaner most) found Idle sound at may is owned =
-    if_both (HoldsLocks sizes now) (found == 0) (Cleaning (new_batch most) TakeHeader) Idle
-    (λ open_. taken sizes (core.passes by) now Idle (Cleaning (new_batch most) TakeHeader) CLEANER (owned ∙ ap (λ m. moved m (core.passes by).owned) (when_true (found == 0) (Comes CLEANER) Stays open_))
-    (owe_cleaner sizes (core.passes by) now (new_batch most) TakeHeader refl (λ file. refl) (λ page. refl)) held)
-    (λ shut cell lock. ap (times cell) (owned ∙ ap (λ m. moved m (core.passes by).owned) (when_false (found == 0) (Comes CLEANER) Stays shut)) ∙ held cell lock ∙ nothing sizes (core.passes by) cell ∙ sym (nothing sizes now cell))
+by_cleaner_locks sizes first by core now (TakeCleaner who most) found Idle sound at may is owned =
+    if_both (HoldsLocks sizes now) (found == 0) (Cleaning (new_batch who most) cleaner.LoadStop) Idle
+    (λ open_. taken sizes (core.passes by) now Idle (Cleaning (new_batch who most) cleaner.LoadStop) (CLEANER who) (owned ∙ ap (λ m. moved m (core.passes by).owned) (when_true (found == 0) (Comes (CLEANER who)) Stays open_))
+    (owe_cleaner sizes (core.passes by) now (new_batch who most) cleaner.LoadStop refl (λ file. refl) (λ page. refl)) held)
+    (λ shut cell lock. ap (times cell) (owned ∙ ap (λ m. moved m (core.passes by).owned) (when_false (found == 0) (Comes (CLEANER who)) Stays shut)) ∙ held cell lock ∙ nothing sizes (core.passes by) cell ∙ sym (nothing sizes now cell))
   where
     held : (cell : Word) → ((slot : ℕ) → cell ≢ ENTRY slot) → times cell (core.passes by).owned ≡ lock_held sizes (core.passes by) Idle cell
     held = subst (HoldsLocks sizes (core.passes by)) at (sound.ownership by).locks
@@ -117,9 +113,9 @@ by_cleaner_entries : (sizes : Sizes) (first : Values) (by : ℕ) (core : Core) (
 by_cleaner_entries sizes first by core now cleaner_op found (Cleaning batch inner) sound at may owned held =
     cleaner_entries sizes (core.passes by).owned now batch inner cleaner_op found owned may (subst (FactsAt sizes (core.passes by)) at (sound.control_facts by).at) (cleaner_op_locks sizes (core.passes by) cleaner_op (Cleaning batch inner) may)
     (few_pages sizes first by core batch inner sound at) held
-by_cleaner_entries sizes first by core now (TakeCleaner most) found Idle sound at may owned held =
-    none_still sizes Idle (if found == 0 then Cleaning (new_batch most) TakeHeader else Idle) (core.passes by).owned now (λ n is. is) (if_both IsFree (found == 0) (Cleaning (new_batch most) TakeHeader) Idle (λ _ n is. is) (λ _ n is. is))
-    (λ slot. ap (times (ENTRY slot)) owned ∙ unlifted sizes (TakeCleaner most) found slot (core.passes by).owned tt tt) held
+by_cleaner_entries sizes first by core now (TakeCleaner who most) found Idle sound at may owned held =
+    none_still sizes Idle (if found == 0 then Cleaning (new_batch who most) cleaner.LoadStop else Idle) (core.passes by).owned now (λ n is. is) (if_both IsFree (found == 0) (Cleaning (new_batch who most) cleaner.LoadStop) Idle (λ _ n is. is) (λ _ n is. is))
+    (λ slot. ap (times (ENTRY slot)) owned ∙ unlifted sizes (TakeCleaner who most) found slot (core.passes by).owned tt tt) held
 by_cleaner_entries sizes first by core now cleaner_op found control sound at may owned held = absurd may
 
 by_cleaner_ownership : (sizes : Sizes) (first : Values) (by : ℕ) (core : Core) (found : ℕ) (cleaner_op : CleanerOp) → Sound sizes first core → FoundEnabledByKind sizes by core (ByCleaner cleaner_op) found → Ownership sizes (changed_pass sizes by core (ByCleaner cleaner_op) found)
@@ -127,7 +123,7 @@ by_cleaner_ownership sizes first by core found cleaner_op sound may =
     from_owned sizes now (by_cleaner_locks sizes first by core now cleaner_op found pass.control sound refl may.may may.is refl)
     (written_back sizes now.control now.first now.entries now.owned (tended_to (λ s. has_call s ≡ false) refl (λ batch inner. refl) sizes pass now.owned cleaner_op found pass.control may.may)
     (by_cleaner_entries sizes first by core now.owned cleaner_op found pass.control sound refl may.may refl
-    (written_back_from sizes pass.control pass.first pass.entries pass.owned (tended (λ _ s. has_call s ≡ false) sizes pass cleaner_op pass.control may.may (λ _. refl) (λ _ _ _. refl)) (in_owned sizes pass (sound.ownership by)))))
+    (written_back_from sizes pass.control pass.first pass.entries pass.owned (tended (λ _ s. has_call s ≡ false) sizes pass cleaner_op pass.control may.may (λ _ _ _. refl) (λ _ _ _. refl)) (in_owned sizes pass (sound.ownership by)))))
   where
     pass : Pass
     pass = core.passes by
@@ -151,19 +147,24 @@ ownership_step sizes first by core op found sound may =
 pub ownership_begin : (sizes : Sizes) (first : Values) (by : ℕ) (core : Core) (call : FileCall) → Sound sizes first core → CallMayBegin sizes call (core.passes by) → (n : ℕ) → Ownership sizes ((after_begin sizes by call core).passes n)
 ownership_begin sizes first by core call sound may = by_number (λ n p. Ownership sizes p) core.passes by _ (ownership_begins sizes call (core.passes by) may.idle (sound.ownership by)) (λ n ne. sound.ownership n)
 
-none_tail_loaded : (inner : CleanerControl) → HasNoGroup inner → HasLoadedTail inner
-none_tail_loaded LoadHead none = tt
-none_tail_loaded (SyncStores files) none = tt
-none_tail_loaded (MoveHeaderTail calls) none = tt
-none_tail_loaded (FreeEntry number) none = tt
-none_tail_loaded AdvanceTail none = tt
-none_tail_loaded inner none = absurd none
+moved_loaded : (inner : CleanerControl) → HasMovedProgress inner → HasLoadedProgress inner
+moved_loaded cleaner.LoadStop is = is
+moved_loaded LoadProgress is = is
+moved_loaded GiveCleaner is = is
+moved_loaded inner is = tt
+
+none_prog_loaded : (inner : CleanerControl) → HasNoGroup inner → HasLoadedProgress inner
+none_prog_loaded LoadHead none = tt
+none_prog_loaded (SyncStores files) none = tt
+none_prog_loaded AdvanceProgress none = tt
+none_prog_loaded cleaner.GiveBack none = tt
+none_prog_loaded inner none = moved_loaded inner none
 
 -- a cleaner's device call leaves its owned cells
 cleaners_work : (sizes : Sizes) (first : Values) (by : ℕ) (core : Core) (work : Work) (batch : Batch) (inner : CleanerControl) → Sound sizes first core → CallEnabled sizes core.values (core.passes by) work → (core.passes by).control ≡ Cleaning batch inner → Ownership sizes (worked sizes work (core.passes by))
 cleaners_work sizes first by core work batch inner sound may at =
     from_owned sizes (worked sizes work pass) (subst (HoldsLocks sizes (worked sizes work pass)) (sym to)
-    (cleaner_work_locks sizes core.values pass (worked sizes work pass) batch work work.ending inner refl due (λ none. (sound.grouped.progress.each by batch inner at (none_tail_loaded inner none)).none none) (subst (HoldsLocks sizes pass) at (sound.ownership by).locks)))
+    (cleaner_work_locks sizes core.values pass (worked sizes work pass) batch work work.ending inner refl due (λ none. (sound.grouped.progress.each by batch inner at (none_prog_loaded inner none)).none none) (subst (HoldsLocks sizes pass) at (sound.ownership by).locks)))
     (subst (λ s. InOwned sizes s pass.first pass.entries pass.owned) (sym to)
     (written_back sizes (after_cleaner_work batch work.ending inner) pass.first pass.entries pass.owned (of_cleaner_worked (λ s. has_call s ≡ false) refl (λ _ _. refl) batch work.ending inner)
     (cleaner_work_entries sizes core.values pass.owned batch work work.ending inner due (subst (λ s. InOwned sizes s pass.first pass.entries pass.owned) at (in_owned sizes pass (sound.ownership by))))))

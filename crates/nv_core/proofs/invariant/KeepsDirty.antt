@@ -602,7 +602,7 @@ of_cleaner_owes sizes values work batch Made (WriteBack i) page due = if_both (�
     none_taken (one ∷ rest) = refl
 of_cleaner_owes sizes values work batch Made (SyncStores (file ∷ [])) page due = refl
 of_cleaner_owes sizes values work batch Made (SyncStores (file ∷ (next ∷ rest))) page due = refl
-of_cleaner_owes sizes values work batch Made (MoveHeaderTail calls) page due = if_both (λ s. owed s page ≡ 0) (calls + 1 == length (tail_steps batch.reached)) (Cleaning batch (FreeEntry batch.tail)) (Cleaning batch (MoveHeaderTail (calls + 1))) (λ _. refl) (λ _. refl)
+of_cleaner_owes sizes values work batch Made (MoveHeaderTail calls) page due = if_both (λ s. owed s page ≡ 0) (calls + 1 == length (tail_steps batch.least)) (Cleaning batch (FreeEntry batch.tail)) (Cleaning batch (MoveHeaderTail (calls + 1))) (λ _. refl) (λ _. refl)
 of_cleaner_owes sizes values work batch (Failed came faults) (cleaner.ReadPiece i) page due = refl
 of_cleaner_owes sizes values work batch (Failed came faults) (WriteBack i) page due = refl
 of_cleaner_owes sizes values work batch (Failed came faults) (SyncStores (file ∷ rest)) page due = refl

@@ -5,7 +5,7 @@ use Rattle.nv_plain.specs.declared.call.FileCall.{FileCall}
 use Rattle.nv_core.specs.state.Words.{Sizes, Word, CLEANER, PAGE, SIZE, STORE, ENTRY, is_shut, is_lock, kind_of, entry_word, ready, cleaned, was_readied, CLEANUP, held, page_of, is_entry_of, slot_of_entry}
 use Rattle.nv_core.specs.state.Passes.{Control, GiveBack, GiveSize, GivePage, GiveStore, GiveVictim, Searching, ReadyEntry, Pass, IsUnseized, IsFilling, IsAmong, IsLastTaken, file_of, times, GiveCleanup, IsHeldEntry, Cleaning}
 use Rattle.nv_core.specs.steps.Ops.{Op, Stays, Comes, moved, move_of, page_at, ready_word, Load, Take, Give, Place, Stop, Draw, Seize, Pledge, Ready, Grow, Break, Turn, Hint, Split, PutBack, Join, word_of, value_after, Hold, Return, ByCleaner, cleaner_move}
-use Rattle.nv_core.specs.state.Cleaner.{CleanEntry, RefusedReturnEntry, FailedReturnEntry, CleanerOp, TakeCleaner, Clean, Subtract, Free, MoveTail}
+use Rattle.nv_core.specs.state.Cleaner.{CleanEntry, RefusedReturnEntry, FailedReturnEntry, CleanerOp, TakeCleaner, Clean, Subtract, MoveProgress, Free, MoveTail}
 use Rattle.nv_core.specs.state.Cleaner as cleaner
 use Rattle.nv_core.specs.steps.CleanerSteps.{cleaner_word, cleaner_value}
 use Rattle.nv_core.specs.steps.Order.{Values, Work}
@@ -162,7 +162,7 @@ cleaner_give_one sizes first by core cell control sound at may = absurd may
 
 cleaner_op_fits : (sizes : Sizes) (first : Values) (by : ℕ) (core : Core) (found : ℕ) (cleaner_op : CleanerOp) → Sound sizes first core → FoundEnabledByKind sizes by core (ByCleaner cleaner_op) found
     → IsFit (cleaner_word sizes cleaner_op) (core.words (cleaner_word sizes cleaner_op)) (cleaner_value cleaner_op found) (cleaner_move sizes cleaner_op found) (core.passes by).owned
-cleaner_op_fits sizes first by core found (TakeCleaner most) sound may = take_fit CLEANER (core.words CLEANER) found (core.passes by).owned refl may.is (sound.locks.bit CLEANER refl)
+cleaner_op_fits sizes first by core found (TakeCleaner who most) sound may = take_fit (CLEANER who) (core.words (CLEANER who)) found (core.passes by).owned refl may.is (sound.locks.bit (CLEANER who) refl)
 cleaner_op_fits sizes first by core found (cleaner.Load word) sound may = ap (is_shut word) (sym may.is)
 cleaner_op_fits sizes first by core found (cleaner.Take cell) sound may =
     let lock = cleaner_op_locks sizes (core.passes by) (cleaner.Take cell) (core.passes by).control may.may in take_fit cell (core.words cell) found (core.passes by).owned lock may.is (sound.locks.bit cell lock)
@@ -180,6 +180,7 @@ cleaner_op_fits sizes first by core found (Clean number) sound may =
     let once = (sound.ownership by).held number (cleans_held sizes first by core number sound may.may) in
     (refl, omega (arith, once), unshut_entry (slot_of_entry sizes number) (found + 1) (λ e. omega (arith, e, kind, is)) (λ e. omega (arith, e, kind, is)))
 cleaner_op_fits sizes first by core found (Subtract page) sound may = refl
+cleaner_op_fits sizes first by core found (MoveProgress who number) sound may = refl
 cleaner_op_fits sizes first by core found (Free number) sound may =
     let kind = (frees_hand sizes first core sound by found number may).kind_is in
     sym (unshut_entry (slot_of_entry sizes number) (entry_word_at sizes core number) (λ e. omega (arith, e, kind)) (λ e. omega (arith, e, kind)))
@@ -187,7 +188,7 @@ cleaner_op_fits sizes first by core found (MoveTail tail) sound may = refl
 cleaner_op_fits sizes first by core found cleaner.Stop sound may = refl
 
 cleaner_op_bits : (sizes : Sizes) (first : Values) (by : ℕ) (core : Core) (found : ℕ) (cleaner_op : CleanerOp) → Sound sizes first core → FoundEnabledByKind sizes by core (ByCleaner cleaner_op) found → is_lock (cleaner_word sizes cleaner_op) ≡ true → cleaner_value cleaner_op found ≤ 1
-cleaner_op_bits sizes first by core found (TakeCleaner most) sound may lock = omega arith
+cleaner_op_bits sizes first by core found (TakeCleaner who most) sound may lock = omega arith
 cleaner_op_bits sizes first by core found (cleaner.Load word) sound may lock = subst (λ n. n ≤ 1) may.is (sound.locks.bit word lock)
 cleaner_op_bits sizes first by core found (cleaner.Take cell) sound may lock = omega arith
 cleaner_op_bits sizes first by core found (cleaner.Give cell) sound may lock = omega arith

@@ -5,7 +5,7 @@ use Rattle.nv_plain.specs.Faults.{Rose}
 use Rattle.nv_plain.specs.declared.call.FileCall.{FileCall}
 use Rattle.nv_core.specs.state.Words.{Sizes, Word, STOP, ENTRY, PAGE, page_total, slot_of_entry}
 use Rattle.nv_core.specs.state.Values.{CallEnding, Made, Failed, Refused, called, faults_of, identity_of, buffers_in}
-use Rattle.nv_core.specs.state.Cleaner.{Batch, CleanerControl, WriteBack, CleanEntry, SyncStores, MoveHeaderTail, FreeEntry, SetStop, CleanerOp}
+use Rattle.nv_core.specs.state.Cleaner.{Batch, CleanerControl, WriteBack, CleanEntry, SyncStores, MoveHeaderTail, FreeEntry, SetStop, SetStopAfterMove, CleanerOp}
 use Rattle.nv_core.specs.state.Cleaner as cleaner
 use Rattle.nv_core.specs.steps.CleanerSteps.{after_cleaner_work}
 use Rattle.nv_header.specs.HeaderSteps.{tail_steps}
@@ -30,7 +30,7 @@ use Rattle.nv_core.proofs.state.TotalLaws.{total_same}
 use Rattle.nv_core.proofs.state.ValueLaws.{faults_steady, identity_steady, steady_stepped, steady_worked, identity_worked, buffers_worked, faults_rose, faults_worked, faults_robbed, identity_robbed}
 use Rattle.nv_core.proofs.steps.Inherits.{inherits}
 use Rattle.nv_core.proofs.log.KeepsProgress.{IsCall, step_call}
-use Rattle.nv_core.proofs.steps.CleanerOps.{IsTending, tending}
+use Rattle.nv_core.proofs.steps.CleanerOps.{IsTending, IsStopping, Amid_it, Behind_it, tending}
 use Rattle.nv_core.proofs.steps.CleanerLands.{IsLanding, tended_lands}
 use Rattle.nv_core.proofs.steps.CleanerControls.{of_cleaner_worked}
 use Rattle.nv_core.proofs.state.WorkWords.{worked_word}
@@ -79,6 +79,7 @@ tended_setting_stop = tended_lands (λ s. IsSettingStop s → ⊥) (λ z. z) lan
   where
     landed : (batch : Batch) (inner : CleanerControl) → IsLanding inner → IsSettingStop (Cleaning batch inner) → ⊥
     landed batch (SetStop n) lands is = lands
+    landed batch SetStopAfterMove lands is = lands
     landed batch inner lands is = is
 
 none_cleaner_stop : (sizes : Sizes) (values : Values) (pass : Pass) (found : ℕ) (op : Op) → EnabledByKind sizes values pass op → IsSettingStop (control_after sizes pass op found) → ⊥
@@ -221,7 +222,7 @@ stop_step sizes first by core Stop found sound made may = record {
 }
 stop_step sizes first by core (ByCleaner cleaner.Stop) found sound made may = record {
   bit = subst (λ n. n ≤ 1) (sym (word_here core.words STOP 1)) (omega arith);
-  stopped = λ is. sound.stop.setting_stop by (subst IsSettingStop (sym (t.control ∙ ap (Cleaning t.batch) t.made.1)) tt);
+  stopped = λ is. sound.stop.setting_stop by (subst IsSettingStop (sym t.control) (setting t.made));
   failing = fails_now sizes first by core (ByCleaner cleaner.Stop) found sound may;
   setting_stop = cleaner_stop_now sizes first by core (ByCleaner cleaner.Stop) found sound may;
   never_fell = sound.stop.never_fell;
@@ -231,6 +232,10 @@ stop_step sizes first by core (ByCleaner cleaner.Stop) found sound made may = re
   where
     t : IsTending (core.passes by) cleaner.Stop
     t = tending sizes (core.passes by) cleaner.Stop tt may.may
+
+    setting : IsStopping t.inner → IsSettingStop (Cleaning t.batch t.inner)
+    setting (Amid_it many is) = subst (λ s. IsSettingStop (Cleaning t.batch s)) (sym is) tt
+    setting (Behind_it is) = subst (λ s. IsSettingStop (Cleaning t.batch s)) (sym is) tt
 stop_step sizes first by core (ByCleaner cleaner_op) found sound made may = stop_else sizes first by core (ByCleaner cleaner_op) found sound may refl
 stop_step sizes first by core op found sound made may = stop_else sizes first by core op found sound may refl
 
@@ -273,7 +278,7 @@ worked_cleaner_stop sizes values pass work due is = go work.ending refl pass.con
     none batch Made (cleaner.ReadPiece i) which due is = is
     none batch Made (SyncStores (file ∷ [])) which due is = is
     none batch Made (SyncStores (file ∷ (other ∷ rest))) which due is = is
-    none batch Made (MoveHeaderTail calls) which due is = if_both (λ s. IsSettingStop s → ⊥) (calls + 1 == length (tail_steps batch.reached)) (Cleaning batch (FreeEntry batch.tail)) (Cleaning batch (MoveHeaderTail (calls + 1))) (λ _ z. z) (λ _ z. z) is
+    none batch Made (MoveHeaderTail calls) which due is = if_both (λ s. IsSettingStop s → ⊥) (calls + 1 == length (tail_steps batch.least)) (Cleaning batch (FreeEntry batch.tail)) (Cleaning batch (MoveHeaderTail (calls + 1))) (λ _ z. z) (λ _ z. z) is
     none batch Refused (WriteBack i) which due is = is
     none batch Refused (cleaner.ReadPiece i) which due is = is
     none batch Refused (SyncStores (file ∷ rest)) which due is = is

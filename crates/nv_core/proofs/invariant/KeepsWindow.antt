@@ -2,12 +2,12 @@
 use Rattle.std.proofs.Common.{◌≡◌, ◌≢◌, ◌⊎◌, ◌↔◌, ℕ, ◌+◌, ◌^◌, ◌<◌, ◌≤◌, ◌==◌, Bool, true, false, if◌then◌else◌, [], ◌++◌, length, inl, inr, refl, sym, ap, subst, ◌∙◌, arith, le_trans, ◌-◌}
 use Rattle.std.proofs.lemmas.Bool.{eqb-true, eqb-false, cases_eq}
 use Rattle.nv_plain.specs.declared.call.FileCall.{FileCall}
-use Rattle.nv_core.specs.state.Words.{Sizes, STOP, HEAD, TAIL, ENTRY, free, filling, broken, ready, held, is_entry_of, kind_of, slot_of_entry}
+use Rattle.nv_core.specs.state.Words.{Sizes, HEAD, TAIL, ENTRY, free, filling, broken, ready, held, is_entry_of, kind_of, slot_of_entry}
 use Rattle.nv_core.specs.state.Values.{CallEnding, Made, Failed, Refused}
 use Rattle.nv_core.specs.state.Cleaner.{TakeCleaner, Clean, Free, MoveTail}
 use Rattle.nv_core.specs.state.Cleaner as cleaner
 use Rattle.nv_core.specs.steps.CleanerSteps.{after_cleaner_work}
-use Rattle.nv_core.specs.invariant.CleanerNumbers.{IsCleaned, IsFreed}
+use Rattle.nv_core.specs.invariant.CleanerNumbers.{IsFreed}
 use Rattle.nv_core.specs.state.Passes.{Control, TakePage, LoadStop, ReadStore, SeizeEntry, CommitGroup, PledgePage, ReadyEntry, TakePlace, SetStopAfterRead, SetStopAfterCommit, BreakEntry, Pass, IsUnseized, IsFilling, IsAmong, is_write, page_count, first_page, end_page, without, ReadPiece, ReturnEntry, SetStopAfterPiece, Cleaning, GiveStore, plain_call}
 use Rattle.nv_core.specs.steps.Ops.{Op, page_at, ready_word, Load, Take, Give, Place, Stop, Draw, Seize, Pledge, Ready, Grow, Break, Split, PutBack, Join, value_after, Turn, Hint, Hold, Return, ByCleaner}
 use Rattle.nv_core.specs.steps.ControlSteps.{control_after, after_stop, leaving}
@@ -30,29 +30,25 @@ use Rattle.nv_core.proofs.invariant.KeepsLocks.{kind_is, readying_next, entry_is
 use Rattle.nv_core.proofs.invariant.WindowLaws.{Alike, alike_self, alike_all, window_same, window_drawn, OneEntry, window_entry, window_retired}
 use Rattle.nv_core.proofs.steps.AtCall.{IsAtCall, IsOfCall, Unswept, at_call_unswept, at_call, to_call, to_leaving}
 use Rattle.nv_core.proofs.steps.CleanerControls.{of_cleaner_worked}
-use Rattle.nv_core.proofs.invariant.CleanerWindow.{span_alike, due_span, due_unfreed, enters_alike, aside_alike, cleaner_hold_one, cleaner_return_one, cleans_one, frees_one, retires_one}
+use Rattle.nv_core.proofs.invariant.CleanerWindow.{swept_alike, due_unswept, due_unfreed, enters_alike, aside_alike, cleaner_hold_one, cleaner_return_one, cleans_one, frees_one, retires_one}
 use Rattle.nv_core.specs.invariant.Loaded.{LooksSound}
 
 -- two passes that have drawn nothing
-clear_alike : (stop : ℕ) (old new : Pass) → IsClear old.control → IsClear new.control → Unswept old.control → Unswept new.control → Alike stop old new
-clear_alike stop old new was is before now = record {
+clear_alike : (old new : Pass) → IsClear old.control → IsClear new.control → Unswept old.control → Unswept new.control → Alike old new
+clear_alike old new was is before now = record {
   unseized = λ n. (λ u. absurd (clear_unseized new.control new.first new.entries n is u), λ u. absurd (clear_unseized old.control old.first old.entries n was u));
   filling = λ n. (λ u. absurd (clear_filling new.control new.first new.entries n is u), λ u. absurd (clear_filling old.control old.first old.entries n was u));
-  freed = λ n. (λ f. absurd ((now n).0 f), λ f. absurd ((before n).0 f));
-  cleaned = λ n c. absurd ((now n).1 c);
-  still = λ _ n c. absurd ((before n).1 c);
+  freed = λ n. (λ f. absurd (now n f), λ f. absurd (before n f));
 }
 
 -- two that stand at control states of the same numbers
-at_alike : (stop : ℕ) (old new : Pass) (was is : Control) → old.control ≡ was → new.control ≡ is → IsAtCall was → IsAtCall is
+at_alike : (old new : Pass) (was is : Control) → old.control ≡ was → new.control ≡ is → IsAtCall was → IsAtCall is
     → ((n : ℕ) → IsUnseized is new.first new.entries n ↔ IsUnseized was old.first old.entries n)
-    → ((n : ℕ) → IsFilling is new.first new.entries n ↔ IsFilling was old.first old.entries n) → Alike stop old new
-at_alike stop old new was is at now before after unseized filling = record {
+    → ((n : ℕ) → IsFilling is new.first new.entries n ↔ IsFilling was old.first old.entries n) → Alike old new
+at_alike old new was is at now before after unseized filling = record {
   unseized = λ n. subst (λ s. IsUnseized new.control new.first new.entries n ↔ IsUnseized s old.first old.entries n) (sym at) (subst (λ s. IsUnseized s new.first new.entries n ↔ IsUnseized was old.first old.entries n) (sym now) (unseized n));
   filling = λ n. subst (λ s. IsFilling new.control new.first new.entries n ↔ IsFilling s old.first old.entries n) (sym at) (subst (λ s. IsFilling s new.first new.entries n ↔ IsFilling was old.first old.entries n) (sym now) (filling n));
-  freed = λ n. (λ f. absurd ((at_call_unswept is after n).0 (subst (λ s. IsFreed s n) now f)), λ f. absurd ((at_call_unswept was before n).0 (subst (λ s. IsFreed s n) at f)));
-  cleaned = λ n c. absurd ((at_call_unswept is after n).1 (subst (λ s. IsCleaned s n) now c));
-  still = λ _ n c. absurd ((at_call_unswept was before n).1 (subst (λ s. IsCleaned s n) at c));
+  freed = λ n. (λ f. absurd (at_call_unswept is after n (subst (λ s. IsFreed s n) now f)), λ f. absurd (at_call_unswept was before n (subst (λ s. IsFreed s n) at f)));
 }
 
 none : {P : Type 0} → (P → ⊥) → (⊥ ↔ P)
@@ -84,39 +80,31 @@ pledged_alike sizes pass page n some =
 
 -- ---- the steps that leave what is drawn
 
--- STOP that is 0 then was so before
-stop_was : (sizes : Sizes) (by : ℕ) (core : Core) (op : Op) (found : ℕ) → FoundEnabledByKind sizes by core op found → (after_step sizes by op found core).words STOP ≡ 0 → core.words STOP ≡ 0
-stop_was sizes by core Stop found may is = absurd (let e = word_here core.words STOP 1 in omega (arith, e, is))
-stop_was sizes by core (ByCleaner cleaner.Stop) found may is = absurd (let e = word_here core.words STOP 1 in omega (arith, e, is))
-stop_was sizes by core (Take cell) found may is = sym (untouched sizes by core (Take cell) found may STOP refl) ∙ is
-stop_was sizes by core (ByCleaner cleaner_op) found may is = sym (untouched sizes by core (ByCleaner cleaner_op) found may STOP refl) ∙ is
-stop_was sizes by core op found may is = sym (untouched sizes by core op found may STOP refl) ∙ is
-
 -- the words of the window stay, and so does what is drawn
 stays : (sizes : Sizes) (first : Values) (by : ℕ) (core : Core) (op : Op) (found : ℕ) → Sound sizes first core → FoundEnabledByKind sizes by core op found
     → touches op HEAD ≡ false → touches op TAIL ≡ false → ((slot : ℕ) → touches op (ENTRY slot) ≡ false)
-    → Alike ((after_step sizes by op found core).words STOP) (core.passes (changes by core.made op)) (changed_pass sizes by core op found) → LogWindow sizes (after_step sizes by op found core)
+    → Alike (core.passes (changes by core.made op)) (changed_pass sizes by core op found) → LogWindow sizes (after_step sizes by op found core)
 stays sizes first by core op found sound may head tail entry alike =
-    window_same sizes core (after_step sizes by op found core) (stop_was sizes by core op found may) (untouched sizes by core op found may HEAD head) (untouched sizes by core op found may TAIL tail)
-    (λ slot. untouched sizes by core op found may (ENTRY slot) (entry slot)) (alike_all ((after_step sizes by op found core).words STOP) core.passes (changes by core.made op) (changed_pass sizes by core op found) alike) sound.window
+    window_same sizes core (after_step sizes by op found core) (untouched sizes by core op found may HEAD head) (untouched sizes by core op found may TAIL tail)
+    (λ slot. untouched sizes by core op found may (ENTRY slot) (entry slot)) (alike_all core.passes (changes by core.made op) (changed_pass sizes by core op found) alike) sound.window
 
-plain : (sizes : Sizes) (by : ℕ) (core : Core) (op : Op) (found number stop : ℕ) → IsPlain op → IsOfCall op → EnabledByKind sizes core.values (core.passes by) op
-    → Alike stop (core.passes by) (stepped sizes number core.history op found (core.passes by))
-plain sizes by core op found number stop is of may =
+plain : (sizes : Sizes) (by : ℕ) (core : Core) (op : Op) (found number : ℕ) → IsPlain op → IsOfCall op → EnabledByKind sizes core.values (core.passes by) op
+    → Alike (core.passes by) (stepped sizes number core.history op found (core.passes by))
+plain sizes by core op found number is of may =
     let at = at_call sizes core.values (core.passes by) op of may in
-    clear_alike stop (core.passes by) (stepped sizes number core.history op found (core.passes by)) (clear_from sizes core.values (core.passes by) op is may) (clear_to sizes core.values (core.passes by) op found is may)
+    clear_alike (core.passes by) (stepped sizes number core.history op found (core.passes by)) (clear_from sizes core.values (core.passes by) op is may) (clear_to sizes core.values (core.passes by) op found is may)
     (at_call_unswept (core.passes by).control at) (at_call_unswept (control_after sizes (core.passes by) op found) (to_call sizes (core.passes by) op found of at))
 
-stopped : (sizes : Sizes) (pass : Pass) (number stop : ℕ) (history : _) (found : ℕ) (control : Control) → pass.control ≡ control → IsFailing control → Alike stop pass (stepped sizes number history Stop found pass)
-stopped sizes pass number stop history found (SetStopAfterRead page dirty) at is =
-    at_alike stop pass (stepped sizes number history Stop found pass) (SetStopAfterRead page dirty) (leaving pass.owned) at (ap (after_stop pass) at) tt (to_leaving pass.owned)
+stopped : (sizes : Sizes) (pass : Pass) (number : ℕ) (history : _) (found : ℕ) (control : Control) → pass.control ≡ control → IsFailing control → Alike pass (stepped sizes number history Stop found pass)
+stopped sizes pass number history found (SetStopAfterRead page dirty) at is =
+    at_alike pass (stepped sizes number history Stop found pass) (SetStopAfterRead page dirty) (leaving pass.owned) at (ap (after_stop pass) at) tt (to_leaving pass.owned)
     (λ n. (λ u. absurd (clear_unseized (leaving pass.owned) pass.first pass.entries n (clear_leaving pass.owned) u), λ z. absurd z))
     (λ n. (λ u. absurd (clear_filling (leaving pass.owned) pass.first pass.entries n (clear_leaving pass.owned) u), λ z. absurd z))
-stopped sizes pass number stop history found SetStopAfterCommit at is =
-    at_alike stop pass (stepped sizes number history Stop found pass) SetStopAfterCommit (BreakEntry pass.first) at (ap (after_stop pass) at) tt tt (λ n. self) (λ n. self)
-stopped sizes pass number stop history found (SetStopAfterPiece page next) at is =
-    at_alike stop pass (stepped sizes number history Stop found pass) (SetStopAfterPiece page next) (ReturnEntry page next true) at (ap (after_stop pass) at) tt tt (λ n. self) (λ n. self)
-stopped sizes pass number stop history found control at is = absurd is
+stopped sizes pass number history found SetStopAfterCommit at is =
+    at_alike pass (stepped sizes number history Stop found pass) SetStopAfterCommit (BreakEntry pass.first) at (ap (after_stop pass) at) tt tt (λ n. self) (λ n. self)
+stopped sizes pass number history found (SetStopAfterPiece page next) at is =
+    at_alike pass (stepped sizes number history Stop found pass) (SetStopAfterPiece page next) (ReturnEntry page next true) at (ap (after_stop pass) at) tt tt (λ n. self) (λ n. self)
+stopped sizes pass number history found control at is = absurd is
 
 -- ---- numbers are drawn
 
@@ -148,9 +136,9 @@ drawn sizes first by core found sound may = go (found == (core.passes by).head) 
         lost e = when_false (found == (core.passes by).head) (SeizeEntry found) (leaving (core.passes by).owned) e
 
         stays_lost : (found == (core.passes by).head) ≡ false → LogWindow sizes (after_step sizes by Draw found core)
-        stays_lost e = window_same sizes core (after_step sizes by Draw found core) (λ zero. zero)
+        stays_lost e = window_same sizes core (after_step sizes by Draw found core)
             (word_here core.words HEAD _ ∙ when_false (found == (core.passes by).head) (found + page_count sizes (core.passes by).call) found e ∙ sym may.is) refl (λ slot. refl)
-            (alike_all (core.words STOP) core.passes by (changed_pass sizes by core Draw found) (clear_alike (core.words STOP) (core.passes by) (changed_pass sizes by core Draw found) was
+            (alike_all core.passes by (changed_pass sizes by core Draw found) (clear_alike (core.passes by) (changed_pass sizes by core Draw found) was
             (subst IsClear (sym (lost e)) (clear_leaving (core.passes by).owned)) unswept now_unswept)) sound.window
     go true e =
         let is : core.words HEAD ≡ (core.passes by).head = may.is ∙ eqb-true found (core.passes by).head e in
@@ -171,7 +159,7 @@ drawn sizes first by core found sound may = go (found == (core.passes by).head) 
 
 -- ---- one entry changes
 
--- a step of a call: its pass has cleaned and freed nothing, before and after
+-- a step of a call: its pass has freed nothing, before and after
 of_call : (sizes : Sizes) (core : Core) (by : ℕ) (op : Op) (found : ℕ) → IsOfCall op → EnabledByKind sizes core.values (core.passes by) op → Unswept (core.passes by).control × Unswept (control_after sizes (core.passes by) op found)
 of_call sizes core by op found of may =
     let at = at_call sizes core.values (core.passes by) op of may in
@@ -202,13 +190,9 @@ seizes_one sizes first by core found next sound may = record {
       (λ _. let y = v.1 in let z = at.1.1 in (v.0, omega (arith, y, z))) (λ _. let y = v.1 in (v.0, omega (arith, y)));
   no_other_unseized = λ n ne u. ne (sound.window.unseized_by_one n by next u here);
   no_other_filling = λ n ne u. let one = sound.window.filling_is n next u in let zero = sound.window.unseized_is by next here in omega (arith, one, zero);
-  frees = λ s f. absurd ((unswept.1 s).0 f);
-  frees_still = λ s f ne. absurd ((unswept.0 s).0 f);
+  frees = λ s f. absurd (unswept.1 s f);
+  frees_still = λ s f ne. absurd (unswept.0 s f);
   no_other_freed = λ n ne f. sound.window.freed_by_none by n next here f;
-  cleans = λ s c. absurd ((unswept.1 s).1 c);
-  cleans_still = λ _ s c ne. absurd ((unswept.0 s).1 c);
-  cleans_here = λ e. absurd (omega (arith, e));
-  no_other_cleaned = λ n ne c. let k = sound.window.cleaned_is n next c in let z = ap kind_of (sound.window.unseized_is by next here) in omega (arith, k, z);
   is = inl (if_both (λ g. IsFilling g pass_first pass_entries next) (next + 1 == pass_first + pass_entries) (CommitGroup 0) (SeizeEntry (next + 1))
       (λ _. at.1) (λ _. let x = at.1.0 in (x, omega arith)));
 }
@@ -244,13 +228,9 @@ readies_one sizes first by core found next sound may = record {
   fills_still = λ s u ne. still s (subst (λ g. IsFilling g (core.passes by).first (core.passes by).entries s) may.may u) ne;
   no_other_unseized = λ n ne u. let zero = sound.window.unseized_is n next u in let one = sound.window.filling_is by next here in omega (arith, one, zero);
   no_other_filling = other_fills sizes first core by next sound here;
-  frees = λ s f. absurd ((unswept.1 s).0 f);
-  frees_still = λ s f ne. absurd ((unswept.0 s).0 f);
+  frees = λ s f. absurd (unswept.1 s f);
+  frees_still = λ s f ne. absurd (unswept.0 s f);
   no_other_freed = λ n ne f. let one = sound.window.filling_is by next here in let z = sound.window.freed_is n next f in omega (arith, one, z);
-  cleans = λ s c. absurd ((unswept.1 s).1 c);
-  cleans_still = λ _ s c ne. absurd ((unswept.0 s).1 c);
-  cleans_here = λ e. absurd (let kind = kind_is 2 (if next == (core.passes by).first then (core.passes by).entries else 0) (page_at sizes (core.passes by) next) (omega arith) in omega (arith, e, kind));
-  no_other_cleaned = λ n ne c. let one = ap kind_of (sound.window.filling_is by next here) in let k = sound.window.cleaned_is n next c in omega (arith, one, k);
   is = inr (inr (let kind = kind_is 2 (if next == (core.passes by).first then (core.passes by).entries else 0) (page_at sizes (core.passes by) next) (omega arith) in (λ e. omega (arith, e, kind), λ e. omega (arith, e, kind))));
 }
   where
@@ -302,13 +282,9 @@ breaks_one sizes first by core found next sound may = record {
   fills_still = λ s u ne. still s (subst (λ g. IsFilling g (core.passes by).first (core.passes by).entries s) may.may u) ne;
   no_other_unseized = λ n ne u. let zero = sound.window.unseized_is n next u in let one = sound.window.filling_is by next here in omega (arith, one, zero);
   no_other_filling = other_fills sizes first core by next sound here;
-  frees = λ s f. absurd ((unswept.1 s).0 f);
-  frees_still = λ s f ne. absurd ((unswept.0 s).0 f);
+  frees = λ s f. absurd (unswept.1 s f);
+  frees_still = λ s f ne. absurd (unswept.0 s f);
   no_other_freed = λ n ne f. let one = sound.window.filling_is by next here in let z = sound.window.freed_is n next f in omega (arith, one, z);
-  cleans = λ s c. absurd ((unswept.1 s).1 c);
-  cleans_still = λ _ s c ne. absurd ((unswept.0 s).1 c);
-  cleans_here = λ e. absurd (omega (arith, e));
-  no_other_cleaned = λ n ne c. let one = ap kind_of (sound.window.filling_is by next here) in let k = sound.window.cleaned_is n next c in omega (arith, one, k);
   is = inr (inr (λ e. omega arith, λ e. omega arith));
 }
   where
@@ -356,33 +332,29 @@ reads_one sizes core by next value pass window within was clear unswept old old_
   fills_still = λ s u ne. absurd (clear_filling (core.passes by).control (core.passes by).first (core.passes by).entries s was u);
   no_other_unseized = λ n ne u. let zero = ap kind_of (window.unseized_is n next u) in omega (arith, zero, old);
   no_other_filling = λ n ne u. let one = ap kind_of (window.filling_is n next u) in omega (arith, one, old);
-  frees = λ s f. absurd ((unswept.1 s).0 f);
-  frees_still = λ s f ne. absurd ((unswept.0 s).0 f);
+  frees = λ s f. absurd (unswept.1 s f);
+  frees_still = λ s f ne. absurd (unswept.0 s f);
   no_other_freed = λ n ne f. let z = ap kind_of (window.freed_is n next f) in omega (arith, z, old);
-  cleans = λ s c. absurd ((unswept.1 s).1 c);
-  cleans_still = λ _ s c ne. absurd ((unswept.0 s).1 c);
-  cleans_here = λ e. absurd (omega (arith, e, new_high));
-  no_other_cleaned = λ n ne c. let k = window.cleaned_is n next c in omega (arith, k, old_high);
   is = inr (inr (λ e. omega (arith, e, new), λ e. omega (arith, e, new)));
 }
 
 -- ---- all steps
 
 pub window_step : (sizes : Sizes) (first : Values) (by : ℕ) (core : Core) (op : Op) (found : ℕ) → Sound sizes first core → FoundEnabledByKind sizes by core op found → LogWindow sizes (after_step sizes by op found core)
-window_step sizes first by core (Load word) found sound may = stays sizes first by core (Load word) found sound may refl refl (λ slot. refl) (plain sizes by core (Load word) found by _ tt tt may.may)
-window_step sizes first by core (Take cell) found sound may = stays sizes first by core (Take cell) found sound may refl refl (λ slot. refl) (plain sizes by core (Take cell) found by _ tt tt may.may)
-window_step sizes first by core (Give cell) found sound may = stays sizes first by core (Give cell) found sound may refl refl (λ slot. refl) (plain sizes by core (Give cell) found by _ tt tt may.may)
-window_step sizes first by core (Place reply) found sound may = stays sizes first by core (Place reply) found sound may refl refl (λ slot. refl) (plain sizes by core (Place reply) found by _ tt tt may.may)
-window_step sizes first by core Stop found sound may = stays sizes first by core Stop found sound may refl refl (λ slot. refl) (stopped sizes (core.passes by) by 1 core.history found (core.passes by).control refl may.may)
+window_step sizes first by core (Load word) found sound may = stays sizes first by core (Load word) found sound may refl refl (λ slot. refl) (plain sizes by core (Load word) found by tt tt may.may)
+window_step sizes first by core (Take cell) found sound may = stays sizes first by core (Take cell) found sound may refl refl (λ slot. refl) (plain sizes by core (Take cell) found by tt tt may.may)
+window_step sizes first by core (Give cell) found sound may = stays sizes first by core (Give cell) found sound may refl refl (λ slot. refl) (plain sizes by core (Give cell) found by tt tt may.may)
+window_step sizes first by core (Place reply) found sound may = stays sizes first by core (Place reply) found sound may refl refl (λ slot. refl) (plain sizes by core (Place reply) found by tt tt may.may)
+window_step sizes first by core Stop found sound may = stays sizes first by core Stop found sound may refl refl (λ slot. refl) (stopped sizes (core.passes by) by core.history found (core.passes by).control refl may.may)
 window_step sizes first by core Draw found sound may = drawn sizes first by core found sound may
 window_step sizes first by core (Seize next) found sound may = window_entry sizes core by next filling (changed_pass sizes by core (Seize next) found) _ _ _ _ sound.window (seizes_one sizes first by core found next sound may)
 window_step sizes first by core (Pledge page) found sound may = stays sizes first by core (Pledge page) found sound may refl refl (λ slot. refl)
     (let at : HasDrawn sizes (core.passes by).call (core.passes by).entries × IsPage sizes (core.passes by).call page = subst (FactsAt sizes (core.passes by)) may.may (sound.control_facts by).at in
-    at_alike _ (core.passes by) (changed_pass sizes by core (Pledge page) found) (PledgePage page) _ may.may refl tt (to_call sizes (core.passes by) (Pledge page) found tt (at_call sizes core.values (core.passes by) (Pledge page) tt may.may)) (λ n. (pledged_alike sizes (core.passes by) page n at.0.some).0) (λ n. (pledged_alike sizes (core.passes by) page n at.0.some).1))
+    at_alike (core.passes by) (changed_pass sizes by core (Pledge page) found) (PledgePage page) _ may.may refl tt (to_call sizes (core.passes by) (Pledge page) found tt (at_call sizes core.values (core.passes by) (Pledge page) tt may.may)) (λ n. (pledged_alike sizes (core.passes by) page n at.0.some).0) (λ n. (pledged_alike sizes (core.passes by) page n at.0.some).1))
 window_step sizes first by core (Ready next) found sound may = window_entry sizes core by next _ (changed_pass sizes by core (Ready next) found) _ _ _ _ sound.window (readies_one sizes first by core found next sound may)
-window_step sizes first by core Grow found sound may = stays sizes first by core Grow found sound may refl refl (λ slot. refl) (plain sizes by core Grow found by _ tt tt may.may)
-window_step sizes first by core (Turn page) found sound may = stays sizes first by core (Turn page) found sound may refl refl (λ slot. refl) (plain sizes by core (Turn page) found by _ tt tt may.may)
-window_step sizes first by core (Hint buffer page) found sound may = stays sizes first by core (Hint buffer page) found sound may refl refl (λ slot. refl) (plain sizes by core (Hint buffer page) found by _ tt tt may.may)
+window_step sizes first by core Grow found sound may = stays sizes first by core Grow found sound may refl refl (λ slot. refl) (plain sizes by core Grow found by tt tt may.may)
+window_step sizes first by core (Turn page) found sound may = stays sizes first by core (Turn page) found sound may refl refl (λ slot. refl) (plain sizes by core (Turn page) found by tt tt may.may)
+window_step sizes first by core (Hint buffer page) found sound may = stays sizes first by core (Hint buffer page) found sound may refl refl (λ slot. refl) (plain sizes by core (Hint buffer page) found by tt tt may.may)
 window_step sizes first by core (Break next) found sound may = window_entry sizes core by next broken (changed_pass sizes by core (Break next) found) _ _ _ _ sound.window (breaks_one sizes first by core found next sound may)
 window_step sizes first by core (Hold next) found sound may =
     let looks : InWindow core next × (is_entry_of ready may.may.0 (entry_word_at sizes core next) ≡ true) = subst (LooksSound sizes core (core.passes by).pages) may.may.1 (sound.loaded.looks by) in
@@ -400,7 +372,7 @@ window_step sizes first by core (Return next) found sound may =
     (reads_one sizes core by next (found - 1) (changed_pass sizes by core (Return next) found) sound.window looks.0
     (clear_from sizes core.values (core.passes by) (Return next) tt may.may) (clear_to sizes core.values (core.passes by) (Return next) found tt may.may) (of_call sizes core by (Return next) found tt may.may)
     (omega (arith, old)) (omega (arith, old)) (omega (arith, new)) (omega (arith, new)))
-window_step sizes first by core (ByCleaner (TakeCleaner most)) found sound may = stays sizes first by core (ByCleaner (TakeCleaner most)) found sound may refl refl (λ slot. refl) (enters_alike sizes first core sound _ by found most may)
+window_step sizes first by core (ByCleaner (TakeCleaner who most)) found sound may = stays sizes first by core (ByCleaner (TakeCleaner who most)) found sound may refl refl (λ slot. refl) (enters_alike sizes first core sound by found who most may)
 window_step sizes first by core (ByCleaner (cleaner.Hold next)) found sound may = window_entry sizes core by next (found + 1) (changed_pass sizes by core (ByCleaner (cleaner.Hold next)) found) _ _ _ _ sound.window (cleaner_hold_one sizes first core sound by found next may)
 window_step sizes first by core (ByCleaner (cleaner.Return next)) found sound may = window_entry sizes core by next (found - 1) (changed_pass sizes by core (ByCleaner (cleaner.Return next)) found) _ _ _ _ sound.window (cleaner_return_one sizes first core sound by found next may)
 window_step sizes first by core (ByCleaner (Clean next)) found sound may = window_entry sizes core by next (found + 1) (changed_pass sizes by core (ByCleaner (Clean next)) found) _ _ _ _ sound.window (cleans_one sizes first core sound by found next may)
@@ -409,43 +381,43 @@ window_step sizes first by core (ByCleaner (MoveTail tail)) found sound may = wi
 window_step sizes first by core (ByCleaner cleaner_op) found sound may = stays sizes first by core (ByCleaner cleaner_op) found sound may refl refl (λ slot. refl) (aside_alike sizes first core sound by found cleaner_op tt may)
 window_step sizes first by core Split found sound may = stays sizes first by core Split found sound may refl refl (λ slot. refl)
     (let idle = (sound.numbers.unborn (core.made + 1) (omega arith)).idle in
-    clear_alike _ (core.passes (core.made + 1)) (changed_pass sizes by core Split found) (subst IsClear (sym idle) tt) tt (subst Unswept (sym idle) (λ n. (λ z. z, λ z. z))) (λ n. (λ z. z, λ z. z)))
-window_step sizes first by core (PutBack cell) found sound may = stays sizes first by core (PutBack cell) found sound may refl refl (λ slot. refl) record { unseized = λ n. self; filling = λ n. self; freed = λ n. self; cleaned = λ n c. c; still = λ _ n c. c }
-window_step sizes first by core (Join number) found sound may = stays sizes first by core (Join number) found sound may refl refl (λ slot. refl) (alike_self _ (core.passes by))
+    clear_alike (core.passes (core.made + 1)) (changed_pass sizes by core Split found) (subst IsClear (sym idle) tt) tt (subst Unswept (sym idle) (λ n z. z)) (λ n z. z))
+window_step sizes first by core (PutBack cell) found sound may = stays sizes first by core (PutBack cell) found sound may refl refl (λ slot. refl) record { unseized = λ n. self; filling = λ n. self; freed = λ n. self }
+window_step sizes first by core (Join number) found sound may = stays sizes first by core (Join number) found sound may refl refl (λ slot. refl) (alike_self (core.passes by))
 
 -- ---- a call that begins, and a device call
 
 pub window_begin : (sizes : Sizes) (first : Values) (by : ℕ) (core : Core) (call : FileCall) → Sound sizes first core → CallMayBegin sizes call (core.passes by) → LogWindow sizes (after_begin sizes by call core)
-window_begin sizes first by core call sound may = window_same sizes core (after_begin sizes by call core) (λ zero. zero) refl refl (λ slot. refl)
-    (alike_all (core.words STOP) core.passes by (begun sizes call (core.passes by)) (clear_alike (core.words STOP) (core.passes by) (begun sizes call (core.passes by)) (subst IsClear (sym may.idle) tt)
-    (if_both IsClear (page_count sizes (plain_call call) == 0) LoadStop (TakePage (first_page sizes (plain_call call))) (λ _. tt) (λ _. tt)) (subst Unswept (sym may.idle) (λ n. (λ z. z, λ z. z)))
-    (if_both Unswept (page_count sizes (plain_call call) == 0) LoadStop (TakePage (first_page sizes (plain_call call))) (λ _ n. (λ z. z, λ z. z)) (λ _ n. (λ z. z, λ z. z))))) sound.window
+window_begin sizes first by core call sound may = window_same sizes core (after_begin sizes by call core) refl refl (λ slot. refl)
+    (alike_all core.passes by (begun sizes call (core.passes by)) (clear_alike (core.passes by) (begun sizes call (core.passes by)) (subst IsClear (sym may.idle) tt)
+    (if_both IsClear (page_count sizes (plain_call call) == 0) LoadStop (TakePage (first_page sizes (plain_call call))) (λ _. tt) (λ _. tt)) (subst Unswept (sym may.idle) (λ n z. z))
+    (if_both Unswept (page_count sizes (plain_call call) == 0) LoadStop (TakePage (first_page sizes (plain_call call))) (λ _ n z. z) (λ _ n z. z)))) sound.window
 
--- a device call leaves what is drawn, cleaned and freed
-worked_alike : (sizes : Sizes) (values : Values) (pass : Pass) (work : Work) (stop : ℕ) (control : Control) → pass.control ≡ control → CallDue sizes values pass work control → Alike stop pass (worked sizes work pass)
-worked_alike sizes values pass work stop control at due = go control work.ending at due (ap (control_worked sizes pass work.ending) at)
+-- a device call leaves what is drawn and freed
+worked_alike : (sizes : Sizes) (values : Values) (pass : Pass) (work : Work) (control : Control) → pass.control ≡ control → CallDue sizes values pass work control → Alike pass (worked sizes work pass)
+worked_alike sizes values pass work control at due = go control work.ending at due (ap (control_worked sizes pass work.ending) at)
   where
-    go : (control : Control) (how : CallEnding) → pass.control ≡ control → CallDue sizes values pass work control → (worked sizes work pass).control ≡ control_worked sizes pass how control → Alike stop pass (worked sizes work pass)
-    go (CommitGroup calls) Made at due is = at_alike stop pass (worked sizes work pass) (CommitGroup calls) (control_worked sizes pass Made (CommitGroup calls)) at is tt
+    go : (control : Control) (how : CallEnding) → pass.control ≡ control → CallDue sizes values pass work control → (worked sizes work pass).control ≡ control_worked sizes pass how control → Alike pass (worked sizes work pass)
+    go (CommitGroup calls) Made at due is = at_alike pass (worked sizes work pass) (CommitGroup calls) (control_worked sizes pass Made (CommitGroup calls)) at is tt
         (if_both IsAtCall (calls + 1 == length (commit_steps sizes pass pass.call)) (PledgePage (first_page sizes pass.call)) (CommitGroup (calls + 1)) (λ _. tt) (λ _. tt))
         (λ n. if_both (λ g. IsUnseized g pass.first pass.entries n ↔ ⊥) (calls + 1 == length (commit_steps sizes pass pass.call)) (PledgePage (first_page sizes pass.call)) (CommitGroup (calls + 1)) (λ _. self) (λ _. self))
         (λ n. if_both (λ g. IsFilling g pass.first pass.entries n ↔ IsAmong pass.first pass.entries n) (calls + 1 == length (commit_steps sizes pass pass.call)) (PledgePage (first_page sizes pass.call)) (CommitGroup (calls + 1)) (λ _. self) (λ _. self))
-    go (CommitGroup calls) (Failed came faults) at due is = at_alike stop pass (worked sizes work pass) (CommitGroup calls) SetStopAfterCommit at is tt tt (λ n. self) (λ n. self)
-    go (CommitGroup calls) Refused at due is = at_alike stop pass (worked sizes work pass) (CommitGroup calls) (CommitGroup calls) at is tt tt (λ n. self) (λ n. self)
-    go (ReadStore page dirty) Made at due is = at_alike stop pass (worked sizes work pass) (ReadStore page dirty) (GiveStore page dirty) at is tt tt (λ n. self) (λ n. self)
-    go (ReadStore page dirty) (Failed came faults) at due is = at_alike stop pass (worked sizes work pass) (ReadStore page dirty) (SetStopAfterRead page dirty) at is tt tt (λ n. self) (λ n. self)
-    go (ReadStore page dirty) Refused at due is = at_alike stop pass (worked sizes work pass) (ReadStore page dirty) (ReadStore page dirty) at is tt tt (λ n. self) (λ n. self)
-    go (ReadPiece page number) Made at due is = at_alike stop pass (worked sizes work pass) (ReadPiece page number) (ReturnEntry page number false) at is tt tt (λ n. self) (λ n. self)
-    go (ReadPiece page number) (Failed came faults) at due is = at_alike stop pass (worked sizes work pass) (ReadPiece page number) (SetStopAfterPiece page number) at is tt tt (λ n. self) (λ n. self)
-    go (ReadPiece page number) Refused at due is = at_alike stop pass (worked sizes work pass) (ReadPiece page number) (ReadPiece page number) at is tt tt (λ n. self) (λ n. self)
-    go (Cleaning batch inner) Made at due is = span_alike stop pass (worked sizes work pass) batch inner (after_cleaner_work batch Made inner) at is (of_cleaner_worked IsClear tt (λ b s. tt) batch Made inner) (λ n. due_unfreed sizes values work batch inner n due)
-        (due_span stop sizes values work batch Made inner due)
-    go (Cleaning batch inner) (Failed came faults) at due is = span_alike stop pass (worked sizes work pass) batch inner (after_cleaner_work batch (Failed came faults) inner) at is (of_cleaner_worked IsClear tt (λ b s. tt) batch (Failed came faults) inner)
-        (λ n. due_unfreed sizes values work batch inner n due) (due_span stop sizes values work batch (Failed came faults) inner due)
-    go (Cleaning batch inner) Refused at due is = span_alike stop pass (worked sizes work pass) batch inner (after_cleaner_work batch Refused inner) at is (of_cleaner_worked IsClear tt (λ b s. tt) batch Refused inner) (λ n. due_unfreed sizes values work batch inner n due)
-        (due_span stop sizes values work batch Refused inner due)
+    go (CommitGroup calls) (Failed came faults) at due is = at_alike pass (worked sizes work pass) (CommitGroup calls) SetStopAfterCommit at is tt tt (λ n. self) (λ n. self)
+    go (CommitGroup calls) Refused at due is = at_alike pass (worked sizes work pass) (CommitGroup calls) (CommitGroup calls) at is tt tt (λ n. self) (λ n. self)
+    go (ReadStore page dirty) Made at due is = at_alike pass (worked sizes work pass) (ReadStore page dirty) (GiveStore page dirty) at is tt tt (λ n. self) (λ n. self)
+    go (ReadStore page dirty) (Failed came faults) at due is = at_alike pass (worked sizes work pass) (ReadStore page dirty) (SetStopAfterRead page dirty) at is tt tt (λ n. self) (λ n. self)
+    go (ReadStore page dirty) Refused at due is = at_alike pass (worked sizes work pass) (ReadStore page dirty) (ReadStore page dirty) at is tt tt (λ n. self) (λ n. self)
+    go (ReadPiece page number) Made at due is = at_alike pass (worked sizes work pass) (ReadPiece page number) (ReturnEntry page number false) at is tt tt (λ n. self) (λ n. self)
+    go (ReadPiece page number) (Failed came faults) at due is = at_alike pass (worked sizes work pass) (ReadPiece page number) (SetStopAfterPiece page number) at is tt tt (λ n. self) (λ n. self)
+    go (ReadPiece page number) Refused at due is = at_alike pass (worked sizes work pass) (ReadPiece page number) (ReadPiece page number) at is tt tt (λ n. self) (λ n. self)
+    go (Cleaning batch inner) Made at due is = swept_alike pass (worked sizes work pass) batch inner (after_cleaner_work batch Made inner) at is (of_cleaner_worked IsClear tt (λ b s. tt) batch Made inner) (λ n. due_unfreed sizes values work batch inner n due)
+        (due_unswept sizes values work batch Made inner due)
+    go (Cleaning batch inner) (Failed came faults) at due is = swept_alike pass (worked sizes work pass) batch inner (after_cleaner_work batch (Failed came faults) inner) at is (of_cleaner_worked IsClear tt (λ b s. tt) batch (Failed came faults) inner)
+        (λ n. due_unfreed sizes values work batch inner n due) (due_unswept sizes values work batch (Failed came faults) inner due)
+    go (Cleaning batch inner) Refused at due is = swept_alike pass (worked sizes work pass) batch inner (after_cleaner_work batch Refused inner) at is (of_cleaner_worked IsClear tt (λ b s. tt) batch Refused inner) (λ n. due_unfreed sizes values work batch inner n due)
+        (due_unswept sizes values work batch Refused inner due)
     go control how at due is = absurd due
 
 pub window_work : (sizes : Sizes) (first : Values) (by : ℕ) (core : Core) (work : Work) → Sound sizes first core → CallEnabled sizes core.values (core.passes by) work → LogWindow sizes (after_work sizes by work core)
-window_work sizes first by core work sound may = window_same sizes core (after_work sizes by work core) (λ zero. zero) refl refl (λ slot. refl)
-    (alike_all (core.words STOP) core.passes by (worked sizes work (core.passes by)) (worked_alike sizes core.values (core.passes by) work (core.words STOP) (core.passes by).control refl may.due)) sound.window
+window_work sizes first by core work sound may = window_same sizes core (after_work sizes by work core) refl refl (λ slot. refl)
+    (alike_all core.passes by (worked sizes work (core.passes by)) (worked_alike sizes core.values (core.passes by) work (core.passes by).control refl may.due)) sound.window

@@ -179,8 +179,8 @@ lock_page : (sizes : Sizes) (pass : Pass) (page found number : ℕ) (history : L
 lock_page sizes pass page found number history held may =
     if_both (HoldsLocks sizes now) (found == 0) (if page + 1 == end_page sizes pass.call then LoadLength else TakePage (page + 1)) (leaving pass.owned)
     (λ e. if_both (HoldsLocks sizes now) (page + 1 == end_page sizes pass.call) LoadLength (TakePage (page + 1))
-    (λ _. taken sizes pass now (TakePage page) LoadLength (PAGE page) (took sizes pass (PAGE page) found number history e) (owed LoadLength (more e) refl (λ f. refl) (λ p. refl) refl refl) before)
-    (λ _. taken sizes pass now (TakePage page) (TakePage (page + 1)) (PAGE page) (took sizes pass (PAGE page) found number history e) (owed (TakePage (page + 1)) (more e) refl (λ f. refl) (λ p. refl) refl refl) before))
+    (λ _. taken sizes pass now (TakePage page) LoadLength (PAGE page) (took sizes pass (PAGE page) found number history e) (owed LoadLength (more e) refl (λ f. refl) (λ p. refl) (λ c. refl) refl) before)
+    (λ _. taken sizes pass now (TakePage page) (TakePage (page + 1)) (PAGE page) (took sizes pass (PAGE page) found number history e) (owed (TakePage (page + 1)) (more e) refl (λ f. refl) (λ p. refl) (λ c. refl) refl) before))
     (missed sizes pass (PAGE page) found number history)
   where
     now : Pass
@@ -193,13 +193,13 @@ lock_page sizes pass page found number history held may =
     more e p = ap (λ l. count_in l p) (ap (pages_after pass (Take (PAGE page)) found) may ∙ when_true (found == 0) (pass.pages ++ page ∷ []) pass.pages e) ∙ count_more pass.pages page p
 
     owed : (control : Control) → ((p : ℕ) → page_held sizes (stepped sizes number history (Take (PAGE page)) found pass) control p ≡ one_if (p == page) + count_in pass.pages p)
-        → size_held (stepped sizes number history (Take (PAGE page)) found pass) control ≡ one_if pass.sized → ((f : ℕ) → store_times (stepped sizes number history (Take (PAGE page)) found pass) control f ≡ (if f == file_of pass.call then 0 else 0)) → ((p : ℕ) → cleanup_held (stepped sizes number history (Take (PAGE page)) found pass).pages control p ≡ 0) → cleaner_held control ≡ 0 → header_held control ≡ 0
+        → size_held (stepped sizes number history (Take (PAGE page)) found pass) control ≡ one_if pass.sized → ((f : ℕ) → store_times (stepped sizes number history (Take (PAGE page)) found pass) control f ≡ (if f == file_of pass.call then 0 else 0)) → ((p : ℕ) → cleanup_held (stepped sizes number history (Take (PAGE page)) found pass).pages control p ≡ 0) → ((c : ℕ) → cleaner_held control c ≡ 0) → header_held control ≡ 0
         → (other : Word) → lock_held sizes (stepped sizes number history (Take (PAGE page)) found pass) control other ≡ one_if (same other (PAGE page)) + lock_held sizes pass (TakePage page) other
     owed control pages size store none cleaner header (PAGE p) = pages p
     owed control pages size store none cleaner header (SIZE file) = ap (λ n. if file == file_of pass.call then n else 0) size ∙ no_more _
     owed control pages size store none cleaner header (STORE file) = store file ∙ no_more _
     owed control pages size store none cleaner header (CLEANUP p) = none p
-    owed control pages size store none cleaner header CLEANER = cleaner
+    owed control pages size store none cleaner header (CLEANER c) = cleaner c
     owed control pages size store none cleaner header HEADER = header
     owed control pages size store none cleaner header other = refl
 
@@ -317,8 +317,8 @@ lock_gives sizes pass (SIZE file) found number history GiveSize at pages held ma
     owed other = refl
 lock_gives sizes pass (PAGE page) found number history (GivePage next) at pages held may =
     if_both (HoldsLocks sizes now) (next + 1 == end_page sizes pass.call) Idle (GivePage (next + 1))
-    (λ last. given sizes pass now (GivePage next) Idle (PAGE page) refl some (owed Idle (λ p. less p ∙ ap (λ n. one_if (p == next) + n) (none p last)) refl (λ f. refl) (λ p. refl) refl refl) held)
-    (λ _. given sizes pass now (GivePage next) (GivePage (next + 1)) (PAGE page) refl some (owed (GivePage (next + 1)) less refl (λ f. refl) (λ p. refl) refl refl) held)
+    (λ last. given sizes pass now (GivePage next) Idle (PAGE page) refl some (owed Idle (λ p. less p ∙ ap (λ n. one_if (p == next) + n) (none p last)) refl (λ f. refl) (λ p. refl) (λ c. refl) refl) held)
+    (λ _. given sizes pass now (GivePage next) (GivePage (next + 1)) (PAGE page) refl some (owed (GivePage (next + 1)) less refl (λ f. refl) (λ p. refl) (λ c. refl) refl) held)
   where
     now : Pass
     now = stepped sizes number history (Give (PAGE page)) found pass
@@ -334,19 +334,19 @@ lock_gives sizes pass (PAGE page) found number history (GivePage next) at pages 
         (let a = held (PAGE next) (λ slot. differ (PAGE next) (ENTRY slot) refl) in let b = less next in let c : one_if (next == next) ≡ 1 = when_true (next == next) 1 0 (eq-eqb next next refl) in omega (arith, a, b, c))
 
     owed : (control : Control) → ((p : ℕ) → count_in (drop (nth_of sizes pass.call next) pass.pages) p ≡ one_if (p == next) + page_held sizes (stepped sizes number history (Give (PAGE page)) found pass) control p)
-        → size_held (stepped sizes number history (Give (PAGE page)) found pass) control ≡ 0 → ((f : ℕ) → (if f == file_of pass.call then 0 else 0) ≡ store_times (stepped sizes number history (Give (PAGE page)) found pass) control f) → ((p : ℕ) → cleanup_held pass.pages control p ≡ 0) → 0 ≡ cleaner_held control → 0 ≡ header_held control
+        → size_held (stepped sizes number history (Give (PAGE page)) found pass) control ≡ 0 → ((f : ℕ) → (if f == file_of pass.call then 0 else 0) ≡ store_times (stepped sizes number history (Give (PAGE page)) found pass) control f) → ((p : ℕ) → cleanup_held pass.pages control p ≡ 0) → ((c : ℕ) → 0 ≡ cleaner_held control c) → 0 ≡ header_held control
         → (other : Word) → lock_held sizes pass (GivePage next) other ≡ one_if (same other (PAGE page)) + lock_held sizes (stepped sizes number history (Give (PAGE page)) found pass) control other
     owed control pages size store clean cleaner header (PAGE p) = subst (λ q. count_in (drop (nth_of sizes pass.call next) pass.pages) p ≡ one_if (p == q) + page_held sizes (stepped sizes number history (Give (PAGE page)) found pass) control p) (sym may) (pages p)
     owed control pages size store clean cleaner header (SIZE file) = ap (λ n. if file == file_of pass.call then n else 0) (sym size) ∙ no_more _
     owed control pages size store clean cleaner header (STORE file) = store file ∙ no_more _
     owed control pages size store clean cleaner header (CLEANUP p) = sym (clean p) ∙ no_more _
-    owed control pages size store clean cleaner header CLEANER = cleaner ∙ no_more _
+    owed control pages size store clean cleaner header (CLEANER c) = cleaner c ∙ no_more _
     owed control pages size store clean cleaner header HEADER = header ∙ no_more _
     owed control pages size store clean cleaner header other = refl
 lock_gives sizes pass (STORE file) found number history (GiveStore page dirty) at pages held may =
     if_both (HoldsLocks sizes now) dirty (ReadLoadHead page) (VisitPage (page + 1))
-    (λ e. given sizes pass now (GiveStore page dirty) (ReadLoadHead page) (STORE file) refl some (owed (ReadLoadHead page) (λ p. refl) refl (λ f. refl) (λ p. ap (λ b. one_if (b && p == page)) e) refl refl) held)
-    (λ e. given sizes pass now (GiveStore page dirty) (VisitPage (page + 1)) (STORE file) refl some (owed (VisitPage (page + 1)) (λ p. refl) refl (λ f. refl) (λ p. ap (λ b. one_if (b && p == page)) e) refl refl) held)
+    (λ e. given sizes pass now (GiveStore page dirty) (ReadLoadHead page) (STORE file) refl some (owed (ReadLoadHead page) (λ p. refl) refl (λ f. refl) (λ p. ap (λ b. one_if (b && p == page)) e) (λ c. refl) refl) held)
+    (λ e. given sizes pass now (GiveStore page dirty) (VisitPage (page + 1)) (STORE file) refl some (owed (VisitPage (page + 1)) (λ p. refl) refl (λ f. refl) (λ p. ap (λ b. one_if (b && p == page)) e) (λ c. refl) refl) held)
   where
     now : Pass
     now = stepped sizes number history (Give (STORE file)) found pass
@@ -355,7 +355,7 @@ lock_gives sizes pass (STORE file) found number history (GiveStore page dirty) a
     some = (let a = held (STORE file) (λ slot. differ (STORE file) (ENTRY slot) refl) in let b : one_if (file == file_of pass.call) ≡ 1 = when_true (file == file_of pass.call) 1 0 (eq-eqb file (file_of pass.call) may) in omega (arith, a, b))
 
     owed : (next : Control) → ((p : ℕ) → count_in pass.pages p ≡ page_held sizes (stepped sizes number history (Give (STORE file)) found pass) next p)
-        → one_if pass.sized ≡ size_held (stepped sizes number history (Give (STORE file)) found pass) next → ((f : ℕ) → (if f == file_of pass.call then 0 else 0) ≡ store_times (stepped sizes number history (Give (STORE file)) found pass) next f) → ((p : ℕ) → one_if (dirty && p == page) ≡ cleanup_held pass.pages next p) → 0 ≡ cleaner_held next → 0 ≡ header_held next
+        → one_if pass.sized ≡ size_held (stepped sizes number history (Give (STORE file)) found pass) next → ((f : ℕ) → (if f == file_of pass.call then 0 else 0) ≡ store_times (stepped sizes number history (Give (STORE file)) found pass) next f) → ((p : ℕ) → one_if (dirty && p == page) ≡ cleanup_held pass.pages next p) → ((c : ℕ) → 0 ≡ cleaner_held next c) → 0 ≡ header_held next
         → (other : Word) → lock_held sizes pass (GiveStore page dirty) other ≡ one_if (same other (STORE file)) + lock_held sizes (stepped sizes number history (Give (STORE file)) found pass) next other
     owed next pages size store clean cleaner header (STORE other) = subst (λ n. (if other == file_of pass.call then 1 else 0) ≡ one_if (other == file) + n) (store other)
         (subst (λ f. (if other == file_of pass.call then 1 else 0) ≡ one_if (other == f) + (if other == file_of pass.call then 0 else 0)) (sym may) (choice (other == file_of pass.call)))
@@ -366,7 +366,7 @@ lock_gives sizes pass (STORE file) found number history (GiveStore page dirty) a
     owed next pages size store clean cleaner header (PAGE p) = pages p ∙ no_more _
     owed next pages size store clean cleaner header (SIZE other) = ap (λ n. if other == file_of pass.call then n else 0) size ∙ no_more _
     owed next pages size store clean cleaner header (CLEANUP p) = clean p ∙ no_more _
-    owed next pages size store clean cleaner header CLEANER = cleaner ∙ no_more _
+    owed next pages size store clean cleaner header (CLEANER c) = cleaner c ∙ no_more _
     owed next pages size store clean cleaner header HEADER = header ∙ no_more _
     owed next pages size store clean cleaner header other = refl
 lock_gives sizes pass (CLEANUP page) found number history (GiveCleanup next) at pages held may =

@@ -16,6 +16,7 @@ use Rattle.nv_core.proofs.state.Choices.{not_both}
 use Rattle.nv_core.proofs.invariant.OwnershipLaws.{nothing}
 use Rattle.nv_core.proofs.invariant.KeepsNumbers.{numbers_step, numbers_one}
 use Rattle.nv_core.proofs.invariant.KeepsControlFacts.{control_facts_step, control_facts_begin, control_facts_work, ownership_step, ownership_begin, ownership_work}
+use Rattle.nv_core.proofs.invariant.KeepsCleaners.{cleaners_step, cleaners_begin, cleaners_work, cleaners_opening}
 use Rattle.nv_core.proofs.invariant.KeepsLocks.{locks_step, locks_begin, locks_work}
 use Rattle.nv_core.proofs.invariant.KeepsWindow.{window_step, window_begin, window_work}
 use Rattle.nv_core.proofs.invariant.KeepsLoaded.{loaded_step, loaded_begin, loaded_work}
@@ -49,6 +50,7 @@ sound_step sizes first by core op found sound made may = record {
   numbers = numbers_step sizes by core op found sound.numbers made may.may;
   control_facts = control_facts_step sizes first by core op found sound may.may;
   ownership = ownership_step sizes first by core op found sound may;
+  cleaners = cleaners_step sizes first by core op found sound may;
   locks = locks_step sizes first by core op found sound may;
   window = window_step sizes first by core op found sound may;
   entries = words_step sizes first by core op found sound sound.entries may;
@@ -82,6 +84,7 @@ sound_begin sizes first by core call sound made may = record {
   numbers = numbers_one core by _ core.values sound.numbers made;
   control_facts = control_facts_begin sizes first by core call sound may;
   ownership = ownership_begin sizes first by core call sound may;
+  cleaners = cleaners_begin sizes by core call sound.cleaners;
   locks = locks_begin sizes first by core call sound;
   window = window_begin sizes first by core call sound may;
   entries = sound.entries;
@@ -100,7 +103,7 @@ sound_begin sizes first by core call sound made may = record {
     log = g.log;
     groups = groups_begin sizes by core g.log call g.groups;
     pieces = pieces_begin sizes g.log by core call g.pieces may;
-    progress = progress_begin sizes g.log by core call g.progress;
+    progress = progress_begin sizes first g.log by core call sound may g.progress;
     placed = g.placed;
     flight = flight_begin sizes g.log g.placed by core call g.flight may;
     unready = unready_begin sizes g.log g.placed by core call may g.unready;
@@ -114,6 +117,7 @@ sound_work ends sizes first by core work sound made may = record {
   numbers = numbers_one core by _ _ sound.numbers made;
   control_facts = control_facts_work sizes first by core work sound may;
   ownership = ownership_work sizes first by core work sound may;
+  cleaners = cleaners_work sizes by core work sound.cleaners;
   locks = locks_work sizes first by core work sound;
   window = window_work sizes first by core work sound may;
   entries = sound.entries;
@@ -132,7 +136,7 @@ sound_work ends sizes first by core work sound made may = record {
     log = log_worked (core.passes by) work.ending (core.passes by).control g.log;
     groups = groups_work sizes by core g.log work g.groups may;
     pieces = pieces_work sizes g.log by core work g.pieces may;
-    progress = progress_work sizes g.log by core work g.progress may;
+    progress = progress_work sizes first g.log by core work sound g.progress may;
     placed = g.placed;
     flight = flight_work sizes g.log g.placed by core work g.flight may;
     unready = unready_work sizes g.log g.placed by core work g.unready may;
@@ -173,7 +177,7 @@ open_cell mount (ENTRY slot) = refl
 open_cell mount cell = refl
 
 lock_word : (mount : Mount) (cell : Word) → is_lock cell ≡ true → opening_word mount cell ≤ 1
-lock_word mount CLEANER lock = omega arith
+lock_word mount (CLEANER cleaner) lock = omega arith
 lock_word mount HEADER lock = omega arith
 lock_word mount (SIZE file) lock = omega arith
 lock_word mount (STORE file) lock = omega arith
@@ -186,6 +190,7 @@ opening_is_sound mount is_mount = record {
   numbers = record { unborn = λ n less. record { idle = refl; owned = refl; mine = refl; faulted = refl; left = refl }; ended = λ n ended. absurd ended };
   control_facts = λ n. record { at = tt; pages = tt; allowed = λ called. absurd (not_both called refl) };
   ownership = λ n. record { locks = λ cell lock. sym (nothing mount.sizes (opening_pass mount) cell); filling = λ s fills. absurd fills; held = λ s holds. absurd holds; none = λ slot off away. refl };
+  cleaners = cleaners_opening mount.sizes (opening mount) is_mount.cleaners (λ n. refl);
   locks = record { bit = lock_word mount; keyed = λ cell. record { free = λ unshut n. refl; held = λ shut. absurd (not_both shut (open_cell mount cell)) } };
   window = record {
     order = omega arith;
@@ -197,9 +202,6 @@ opening_is_sound mount is_mount = record {
     filling_is = λ n s u. absurd u;
     freed_in = λ n s f. absurd f;
     freed_is = λ n s f. absurd f;
-    cleaned_in = λ n s c. absurd c;
-    cleaned_is = λ n s c. absurd c;
-    cleaned_by = λ s within. absurd (let a = within.0 in let b = within.1 in omega (arith, a, b));
     unseized_by_one = λ n m s u v. absurd u;
     freed_by_none = λ n m s u f. absurd u;
     each = λ s within. absurd (let a = within.0 in let b = within.1 in omega (arith, a, b));
@@ -238,7 +240,7 @@ opening_is_sound mount is_mount = record {
     log = none;
     groups = groups_opening mount.sizes none (λ n. false) (opening mount) refl (λ n. refl);
     pieces = pieces_opening mount.sizes none (λ n. false) (opening mount) refl (λ n. refl);
-    progress = progress_opening mount.sizes none (λ n. false) (opening mount) refl (λ n. refl);
+    progress = progress_opening mount.sizes none (λ n. false) (opening mount) refl (λ n. refl) (λ cleaner. refl);
     placed = λ n. false;
     flight = flight_opening mount.sizes none (λ n. false) (opening mount) refl (λ n. refl);
     unready = unready_opening mount.sizes none (λ n. false) (opening mount) refl (λ n. refl);

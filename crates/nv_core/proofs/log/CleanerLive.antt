@@ -1,5 +1,5 @@
 -- Live pieces while a cleaner is at work: a piece that is written to its store, an entry that is cleaned, one that is freed, and TAIL moved.
-use Rattle.std.proofs.Common.{◌≡◌, ◌≢◌, ℕ, suc, ◌+◌, ◌-◌, ◌<◌, ◌≤◌, ◌&&◌, ◌||◌, not, Bool, true, false, List, [], ◌∷◌, ◌++◌, length, inl, inr, refl, sym, ap, ap₂, subst, ◌∙◌, arith}
+use Rattle.std.proofs.Common.{◌≡◌, ◌≢◌, ℕ, zero, suc, ◌+◌, ◌-◌, ◌<◌, ◌≤◌, ◌&&◌, ◌||◌, not, Bool, true, false, List, [], ◌∷◌, ◌++◌, length, inl, inr, refl, sym, ap, ap₂, subst, ◌∙◌, arith}
 use Rattle.std.proofs.lemmas.Bool.{cases_lt, cases_eq, true≢false}
 use Rattle.nv_plain.specs.Files.{Files}
 use Rattle.nv_plain.specs.Calls.{files_after}
@@ -12,6 +12,7 @@ use Rattle.nv_core.specs.invariant.LogWindow.{InWindow}
 use Rattle.nv_core.specs.log.Groups.{Log}
 use Rattle.nv_core.specs.log.LivePieces.{rising, call_if, piece_call, is_ready, is_cleaned, is_live, live_pieces, uncleaned_pieces, to_place, store_bytes, store_files, LivePieces}
 use Rattle.nv_core.specs.content.PlainLaws.{PlainLaws}
+use Rattle.nv_core.proofs.crash.CommutingLaws.{IsApartFrom, comes_first}
 use Rattle.nv_core.proofs.crash.CoverLaws.{IsTouched, alike_after}
 use Rattle.nv_core.proofs.crash.DropLaws.{dropped, touched_rising, from_rising}
 use Rattle.nv_core.proofs.log.LiveLaws.{rising_same, rising_none, rising_split}
@@ -30,6 +31,26 @@ rising_at calls from count n low high none =
     ap (rising calls from) a ∙ rising_split calls from (n - from) (1 + (from + count - (n + 1)))
     ∙ ap (λ r. r ++ rising calls (from + (n - from)) (1 + (from + count - (n + 1)))) (rising_none calls from (n - from) (λ m l h. none m l (omega (arith, h, low))))
     ∙ ap₂ (λ f k. rising calls f k) b c ∙ ap (λ f. calls n ++ rising calls f (from + count - (n + 1))) d
+
+-- a row is what comes below a number, what it has, and what comes behind it
+pub rising_around : (calls : ℕ → List FileCall) (from count n : ℕ) → from ≤ n → n < from + count
+    → rising calls from count ≡ rising calls from (n - from) ++ (calls n ++ rising calls (n + 1) (from + count - (n + 1)))
+rising_around calls from count n low high =
+    let a : count ≡ (n - from) + (1 + (from + count - (n + 1))) = omega (arith, low, high) in
+    let b : from + (n - from) ≡ n = omega (arith, low) in
+    let c : 1 + (from + count - (n + 1)) ≡ suc (from + count - (n + 1)) = omega arith in
+    let d : suc n ≡ n + 1 = omega arith in
+    ap (rising calls from) a ∙ rising_split calls from (n - from) (1 + (from + count - (n + 1)))
+    ∙ ap (λ r. rising calls from (n - from) ++ r) (ap₂ (λ f k. rising calls f k) b c ∙ ap (λ f. calls n ++ rising calls f (from + count - (n + 1))) d)
+
+-- what is apart from what each number has is apart from the row
+apart_both : (call : FileCall) (one other : List FileCall) → IsApartFrom call one → IsApartFrom call other → IsApartFrom call (one ++ other)
+apart_both call [] other a b = b
+apart_both call (first ∷ one) other a b = (a.0, apart_both call one other a.1 b)
+
+apart_row : (call : FileCall) (calls : ℕ → List FileCall) (from count : ℕ) → ((m : ℕ) → from ≤ m → m < from + count → IsApartFrom call (calls m)) → IsApartFrom call (rising calls from count)
+apart_row call calls from zero apart = tt
+apart_row call calls from (suc count) apart = apart_both call (calls from) (rising calls (suc from) count) (apart from (omega arith) (omega arith)) (apart_row call calls (suc from) count (λ m low high. apart m (omega (arith, low)) (omega (arith, high))))
 
 -- where it has nothing either, the row is that behind it
 pub rising_behind : (calls : ℕ → List FileCall) (from count n : ℕ) → from ≤ n → n ≤ from + count → ((m : ℕ) → from ≤ m → m < n → calls m ≡ []) → rising calls from count ≡ rising calls n (from + count - n)
@@ -114,24 +135,30 @@ module _ (sizes : Sizes) (log : Log) (opened : Files) where
 
     -- ---- an entry is cleaned
 
-    -- The least uncleaned entry is cleaned, whose piece is written to its store.
-    pub cleans_live : now.words HEAD ≡ core.words HEAD → now.words TAIL ≡ core.words TAIL → made_calls opened now.history ≡ made_calls opened core.history → store_files sizes now.values ≡ store_files sizes core.values
+    -- An uncleaned entry is cleaned, whose piece is written to its store, and apart from the uncleaned ones below it.
+    pub cleans_live : (plain : PlainLaws) → now.words HEAD ≡ core.words HEAD → now.words TAIL ≡ core.words TAIL → made_calls opened now.history ≡ made_calls opened core.history → store_files sizes now.values ≡ store_files sizes core.values
         → ((n : ℕ) → InWindow core n → live_at now n ≡ live_at core n) → to_place now ≡ to_place core
         → (n : ℕ) → InWindow core n → uncleaned_at core n ≡ piece_call sizes (log.group n) n ∷ [] → uncleaned_at now n ≡ [] → ((m : ℕ) → InWindow core m → m ≢ n → uncleaned_at now m ≡ uncleaned_at core m)
-        → ((m : ℕ) → core.words TAIL ≤ m → m < n → uncleaned_at core m ≡ []) → files_after (piece_call sizes (log.group n) n) (store_files sizes core.values) ≡ store_files sizes core.values
+        → ((m : ℕ) → core.words TAIL ≤ m → m < n → IsApartFrom (piece_call sizes (log.group n) n) (uncleaned_at core m)) → files_after (piece_call sizes (log.group n) n) (store_files sizes core.values) ≡ store_files sizes core.values
         → LivePieces sizes log opened core → LivePieces sizes log opened now
-    cleans_live head tail history stores live place n is was gone others none written pieces = record {
+    cleans_live plain head tail history stores live place n is was gone others apart written pieces = record {
       files = same_left ∙ pieces.files ∙ sym (ap₂ after_calls (rows (live_at now) (live_at core) (λ m l h. live m (within m l h))) stores);
       uncleaned = same_left ∙ pieces.uncleaned
-          ∙ ap (λ c. after_calls c (store_files sizes core.values)) (rising_at (uncleaned_at core) (core.words TAIL) span n is.0 high none ∙ ap (λ c. c ++ later core) was)
-          ∙ ap (after_calls (later core)) written
+          ∙ ap (λ c. after_calls c (store_files sizes core.values)) (rising_around (uncleaned_at core) (core.words TAIL) span n is.0 high ∙ ap (λ c. below core ++ (c ++ later core)) was)
+          ∙ comes_first plain (below core) (piece_call sizes (log.group n) n) (later core) (store_files sizes core.values)
+          (apart_row (piece_call sizes (log.group n) n) (uncleaned_at core) (core.words TAIL) (n - core.words TAIL) (λ m l less. apart m l (let x = is.0 in omega (arith, less, x))))
+          ∙ ap (after_calls (below core ++ later core)) written
           ∙ sym (ap₂ after_calls (rows (uncleaned_at now) (uncleaned_at now) (λ m l h. refl)
-          ∙ rising_at (uncleaned_at now) (core.words TAIL) span n is.0 high (λ m l less. others m (within m l (omega (arith, less, high))) (λ e. omega (arith, e, less)) ∙ none m l less)
-          ∙ ap₂ (λ c r. c ++ r) gone (rising_same (uncleaned_at now) (uncleaned_at core) (n + 1) (core.words TAIL + span - (n + 1)) (λ m l h. others m (within m (let x = is.0 in omega (arith, x, l)) (omega (arith, h, high))) (λ e. omega (arith, e, l))))) stores);
+          ∙ rising_around (uncleaned_at now) (core.words TAIL) span n is.0 high
+          ∙ ap₂ (λ b r. b ++ r) (rising_same (uncleaned_at now) (uncleaned_at core) (core.words TAIL) (n - core.words TAIL) (λ m l less. let x = is.0 in others m (within m l (omega (arith, less, x, high))) (λ e. omega (arith, e, less, x))))
+          (ap₂ (λ c r. c ++ r) gone (rising_same (uncleaned_at now) (uncleaned_at core) (n + 1) (core.words TAIL + span - (n + 1)) (λ m l h. others m (within m (let x = is.0 in omega (arith, x, l)) (omega (arith, h, high))) (λ e. omega (arith, e, l)))))) stores);
     }
       where
         high : n < core.words TAIL + span
         high = let h = is.1 in omega (arith, h, order)
+
+        below : Core → List FileCall
+        below at = rising (uncleaned_at at) (core.words TAIL) (n - core.words TAIL)
 
         later : Core → List FileCall
         later at = rising (uncleaned_at at) (n + 1) (core.words TAIL + span - (n + 1))

@@ -1,12 +1,12 @@
 -- A cleaner's entries: what a cleaner's step makes of an entry was made ready before and after, and what it frees is freed by that step alone.
-use Rattle.std.proofs.Common.{◌≡◌, ◌⊎◌, ℕ, ◌+◌, ◌-◌, ◌<◌, ◌≤◌, ◌==◌, nat_lt, nat_le, not, ◌&&◌, true, List, [], ◌∷◌, length, inl, inr, refl, ap, arith}
+use Rattle.std.proofs.Common.{◌≡◌, ◌⊎◌, ℕ, ◌+◌, ◌-◌, ◌<◌, ◌≤◌, ◌==◌, nat_le, ◌&&◌, true, List, [], ◌∷◌, length, inl, inr, refl, ap, arith}
 use Rattle.std.proofs.lemmas.Bool.{cases_eq, eqb-true}
 use Rattle.nv_header.specs.HeaderSteps.{tail_steps}
 use Rattle.nv_core.specs.state.Words.{Sizes, Word, kind_of, was_readied, ready, held, cleaned}
 use Rattle.nv_core.specs.state.Values.{CallEnding, Made, Failed, Refused}
-use Rattle.nv_core.specs.state.Cleaner.{Batch, CleanerControl, TakeHeader, LoadTail, LoadHead, WriteBack, CleanEntry, SubtractDirty, RefusedReturnEntry, FailedReturnEntry, RefusedGiveCleanup, SyncStores, MoveHeaderTail, FreeEntry, AdvanceTail, GiveStores, GiveHeader, GiveCleaner, SetStop, Clean}
+use Rattle.nv_core.specs.state.Cleaner.{Batch, CleanerControl, WriteBack, CleanEntry, SyncStores, MoveHeaderTail, FreeEntry, AdvanceTail, Clean}
 use Rattle.nv_core.specs.state.Cleaner as cleaner
-use Rattle.nv_core.specs.steps.CleanerSteps.{after_cleaner_op, after_cleaner_work, withdrawing, syncing, discharging, finishing, surveying, surveyed, retreating, each_next, claimed, closed, next_group, batch_with_page, may_pass, rising_files, group_file, holds_store}
+use Rattle.nv_core.specs.steps.CleanerSteps.{after_cleaner_op, after_cleaner_work}
 use Rattle.nv_core.specs.invariant.CleanerNumbers.{IsFreed}
 use Rattle.nv_core.specs.state.Passes.{Control, Cleaning}
 use Rattle.nv_core.specs.steps.Ops.{ByCleaner}
@@ -16,6 +16,7 @@ use Rattle.nv_core.proofs.steps.ByKind.{FoundEnabledByKind}
 use Rattle.nv_core.specs.invariant.LogWindow.{entry_word_at}
 use Rattle.nv_core.specs.invariant.Sound.{Sound}
 use Rattle.nv_core.proofs.state.Choices.{if_both}
+use Rattle.nv_core.proofs.invariant.CleanerWindow.{even_unswept}
 use Rattle.nv_core.proofs.invariant.KeepsLocks.{ready_was, held_was}
 use Rattle.nv_core.proofs.log.Rekinded.{IsRekinded}
 use Rattle.nv_core.proofs.steps.CleanerOps.{cleaner_hold_hand, cleaner_return_hand, cleans_hand}
@@ -68,76 +69,20 @@ module _ (sizes : Sizes) (first : Values) (by : ℕ) (core : Core) (found next :
 abbrev pub FreesNone : Control → Type 0
 FreesNone control = (number : ℕ) → IsFreed control number → ⊥
 
-none_withdrawing : (owned : List Word) (batch : Batch) → FreesNone (withdrawing owned batch)
-none_withdrawing [] batch number is = is
-none_withdrawing (cell ∷ rest) batch number is = is
-
-none_syncing : (batch : Batch) (files : List ℕ) → FreesNone (syncing batch files)
-none_syncing batch [] number is = is
-none_syncing batch (file ∷ rest) number is = is
-
-none_discharging : (batch : Batch) (files : List ℕ) → FreesNone (discharging batch files)
-none_discharging batch [] number is = is
-none_discharging batch (file ∷ rest) number is = is
-
-none_finishing : (sizes : Sizes) (owned : List Word) (batch : Batch) → FreesNone (finishing sizes owned batch)
-none_finishing sizes owned batch = if_both FreesNone (batch.reached == batch.tail) (withdrawing owned (closed batch)) (syncing (closed batch) (rising_files sizes batch))
-    (λ _. none_withdrawing owned (closed batch)) (λ _. none_syncing (closed batch) (rising_files sizes batch))
-
-none_surveying : (sizes : Sizes) (owned : List Word) (batch : Batch) → FreesNone (surveying sizes owned batch)
-none_surveying sizes owned batch = if_both FreesNone (nat_lt batch.reached batch.head) (Cleaning batch (cleaner.LoadEntry 0)) (finishing sizes owned batch) (λ _ _ z. z) (λ _. none_finishing sizes owned batch)
-
-none_retreating : (sizes : Sizes) (owned : List Word) (batch : Batch) (i : ℕ) → FreesNone (retreating sizes owned batch i)
-none_retreating sizes owned batch i = if_both FreesNone (i == 0) (finishing sizes owned batch) (Cleaning batch (RefusedGiveCleanup (i - 1))) (λ _. none_finishing sizes owned batch) (λ _ _ z. z)
-
-none_surveyed : (batch : Batch) (i : ℕ) → FreesNone (surveyed batch i)
-none_surveyed batch i = if_both FreesNone (nat_lt (i + 1) batch.count) (Cleaning batch (cleaner.LoadEntry (i + 1))) (Cleaning batch (cleaner.TakeCleanup 0)) (λ _ _ z. z) (λ _ _ z. z)
-
-none_next : (batch : Batch) (i : ℕ) (inner : CleanerControl) (last : Control) → FreesNone (Cleaning batch inner) → FreesNone last → FreesNone (each_next batch i inner last)
-none_next batch i inner last more done = if_both FreesNone (i + 1 == length batch.pages) last (Cleaning batch inner) (λ _. done) (λ _. more)
-
-none_claimed : (sizes : Sizes) (batch : Batch) → FreesNone (claimed sizes batch)
-none_claimed sizes batch = if_both FreesNone (holds_store batch (group_file sizes batch)) (Cleaning batch (cleaner.HoldEntry 0)) (Cleaning batch cleaner.TakeStore) (λ _ _ z. z) (λ _ _ z. z)
-
 -- another step than the freeing of an entry leaves none freed
 abbrev IsOther : CleanerControl → Type 0
 IsOther (FreeEntry number) = ⊥
 IsOther inner = Unit {0}
 
 of_cleaner_none : (sizes : Sizes) (owned : List Word) (batch : Batch) (inner : CleanerControl) (found : ℕ) → IsOther inner → FreesNone (after_cleaner_op sizes owned batch inner found)
-of_cleaner_none sizes owned batch TakeHeader found other = if_both FreesNone (found == 0) (Cleaning batch cleaner.LoadStop) (withdrawing owned batch) (λ _ _ z. z) (λ _. none_withdrawing owned batch)
-of_cleaner_none sizes owned batch cleaner.LoadStop found other = if_both FreesNone (found == 0) (Cleaning batch LoadTail) (withdrawing owned batch) (λ _ _ z. z) (λ _. none_withdrawing owned batch)
-of_cleaner_none sizes owned batch LoadTail found other = λ _ z. z
-of_cleaner_none sizes owned batch LoadHead found other = none_surveying sizes owned (record batch { head = found })
-of_cleaner_none sizes owned batch (cleaner.LoadEntry i) found other = if_both FreesNone (i == 0 && not (may_pass batch found)) (finishing sizes owned batch) (surveyed (batch_with_page batch i found) i) (λ _. none_finishing sizes owned batch) (λ _. none_surveyed (batch_with_page batch i found) i)
-of_cleaner_none sizes owned batch (cleaner.TakeCleanup i) found other = if_both FreesNone (found == 0) (each_next batch i (cleaner.TakeCleanup (i + 1)) (claimed sizes batch)) (retreating sizes owned batch i)
-    (λ _. none_next batch i (cleaner.TakeCleanup (i + 1)) (claimed sizes batch) (λ _ z. z) (none_claimed sizes batch)) (λ _. none_retreating sizes owned batch i)
-of_cleaner_none sizes owned batch cleaner.TakeStore found other = if_both FreesNone (found == 0) (Cleaning (record batch { files = group_file sizes batch ∷ batch.files }) (cleaner.HoldEntry 0)) (retreating sizes owned batch (length batch.pages))
-    (λ _ _ z. z) (λ _. none_retreating sizes owned batch (length batch.pages))
-of_cleaner_none sizes owned batch (cleaner.HoldEntry i) found other = λ _ z. z
-of_cleaner_none sizes owned batch (CleanEntry i) found other = none_next batch i (CleanEntry (i + 1)) (Cleaning batch (SubtractDirty 0)) (λ _ z. z) (λ _ z. z)
-of_cleaner_none sizes owned batch (SubtractDirty i) found other = none_next batch i (SubtractDirty (i + 1)) (Cleaning batch (cleaner.GiveCleanup 0)) (λ _ z. z) (λ _ z. z)
-of_cleaner_none sizes owned batch (cleaner.GiveCleanup i) found other = none_next batch i (cleaner.GiveCleanup (i + 1)) (surveying sizes owned (next_group batch)) (λ _ z. z) (none_surveying sizes owned (next_group batch))
-of_cleaner_none sizes owned batch (RefusedReturnEntry i end) found other = if_both FreesNone (i + 1 == end) (retreating sizes owned batch (length batch.pages)) (Cleaning batch (RefusedReturnEntry (i + 1) end)) (λ _. none_retreating sizes owned batch (length batch.pages)) (λ _ _ z. z)
-of_cleaner_none sizes owned batch (FailedReturnEntry i end) found other = if_both FreesNone (i + 1 == end) (withdrawing owned batch) (Cleaning batch (FailedReturnEntry (i + 1) end)) (λ _. none_withdrawing owned batch) (λ _ _ z. z)
-of_cleaner_none sizes owned batch (RefusedGiveCleanup i) found other = none_retreating sizes owned batch i
 of_cleaner_none sizes owned batch (FreeEntry next) found other = absurd other
-of_cleaner_none sizes owned batch AdvanceTail found other = none_discharging batch (rising_files sizes batch)
-of_cleaner_none sizes owned batch (GiveStores []) found other = λ _ z. z
-of_cleaner_none sizes owned batch (GiveStores (file ∷ rest)) found other = none_discharging batch rest
-of_cleaner_none sizes owned batch GiveHeader found other = λ _ z. z
-of_cleaner_none sizes owned batch GiveCleaner found other = λ _ z. z
-of_cleaner_none sizes owned batch (SetStop held) found other = if_both FreesNone (held == 0) (withdrawing owned batch) (Cleaning batch (FailedReturnEntry 0 held)) (λ _. none_withdrawing owned batch) (λ _ _ z. z)
-of_cleaner_none sizes owned batch cleaner.GiveBack found other = none_withdrawing owned batch
-of_cleaner_none sizes owned batch (cleaner.ReadPiece i) found other = λ _ z. z
-of_cleaner_none sizes owned batch (WriteBack i) found other = λ _ z. z
-of_cleaner_none sizes owned batch (SyncStores files) found other = λ _ z. z
-of_cleaner_none sizes owned batch (MoveHeaderTail calls) found other = λ _ z. z
+of_cleaner_none sizes owned batch AdvanceTail found other = λ _ z. z
+of_cleaner_none sizes owned batch inner found other = even_unswept sizes owned batch inner found tt
 
 -- a step leaves freed what was, and the number that it frees
 pub freed_of_cleaner : (sizes : Sizes) (owned : List Word) (batch : Batch) (inner : CleanerControl) (found number : ℕ) → IsFreed (after_cleaner_op sizes owned batch inner found) number → IsFreed (Cleaning batch inner) number ⊎ (inner ≡ FreeEntry number)
-freed_of_cleaner sizes owned batch (FreeEntry next) found number is = if_both (λ s. IsFreed s number → IsFreed (Cleaning batch (FreeEntry next)) number ⊎ (FreeEntry next ≡ FreeEntry number)) (next + 1 == batch.reached) (Cleaning batch AdvanceTail) (Cleaning batch (FreeEntry (next + 1)))
-    (λ last is. one is.0 (let e = eqb-true (next + 1) batch.reached last in let h = is.1 in omega (arith, e, h))) (λ _ is. one is.0 is.1) is
+freed_of_cleaner sizes owned batch (FreeEntry next) found number is = if_both (λ s. IsFreed s number → IsFreed (Cleaning batch (FreeEntry next)) number ⊎ (FreeEntry next ≡ FreeEntry number)) (next + 1 == batch.least) (Cleaning batch AdvanceTail) (Cleaning batch (FreeEntry (next + 1)))
+    (λ last is. one is.0 (let e = eqb-true (next + 1) batch.least last in let h = is.1 in omega (arith, e, h))) (λ _ is. one is.0 is.1) is
   where
     one : batch.tail ≤ number → number < next + 1 → IsFreed (Cleaning batch (FreeEntry next)) number ⊎ (FreeEntry next ≡ FreeEntry number)
     one low less = elim (cases_eq next number) [
@@ -148,25 +93,27 @@ freed_of_cleaner sizes owned batch inner found number is = absurd (of_cleaner_no
 
 -- what was freed is so till TAIL moves
 pub still_of_cleaner : (sizes : Sizes) (owned : List Word) (batch : Batch) (inner : CleanerControl) (found number : ℕ) → IsFreed (Cleaning batch inner) number
-    → IsFreed (after_cleaner_op sizes owned batch inner found) number ⊎ ((inner ≡ AdvanceTail) × (number < batch.reached))
-still_of_cleaner sizes owned batch (FreeEntry next) found number is = inl (if_both (λ s. IsFreed s number) (next + 1 == batch.reached) (Cleaning batch AdvanceTail) (Cleaning batch (FreeEntry (next + 1)))
-    (λ last. (is.0, let e = eqb-true (next + 1) batch.reached last in let h = is.1 in omega (arith, e, h))) (λ _. (is.0, let h = is.1 in omega (arith, h))))
+    → IsFreed (after_cleaner_op sizes owned batch inner found) number ⊎ ((inner ≡ AdvanceTail) × (number < batch.least))
+still_of_cleaner sizes owned batch (FreeEntry next) found number is = inl (if_both (λ s. IsFreed s number) (next + 1 == batch.least) (Cleaning batch AdvanceTail) (Cleaning batch (FreeEntry (next + 1)))
+    (λ last. (is.0, let e = eqb-true (next + 1) batch.least last in let h = is.1 in omega (arith, e, h))) (λ _. (is.0, let h = is.1 in omega (arith, h))))
 still_of_cleaner sizes owned batch AdvanceTail found number is = inr (refl, is.1)
 still_of_cleaner sizes owned batch inner found number is = absurd is
 
-pub now_of_cleaner : (sizes : Sizes) (owned : List Word) (batch : Batch) (found number : ℕ) → batch.tail ≤ number → number < batch.reached → IsFreed (after_cleaner_op sizes owned batch (FreeEntry number) found) number
-now_of_cleaner sizes owned batch found number low high = if_both (λ s. IsFreed s number) (number + 1 == batch.reached) (Cleaning batch AdvanceTail) (Cleaning batch (FreeEntry (number + 1))) (λ _. (low, high)) (λ _. (low, omega arith))
+pub now_of_cleaner : (sizes : Sizes) (owned : List Word) (batch : Batch) (found number : ℕ) → batch.tail ≤ number → number < batch.least → IsFreed (after_cleaner_op sizes owned batch (FreeEntry number) found) number
+now_of_cleaner sizes owned batch found number low high = if_both (λ s. IsFreed s number) (number + 1 == batch.least) (Cleaning batch AdvanceTail) (Cleaning batch (FreeEntry (number + 1))) (λ _. (low, high)) (λ _. (low, omega arith))
 
 -- no device call frees one
 pub freed_worked : (batch : Batch) (how : CallEnding) (inner : CleanerControl) → FreesNone (Cleaning batch inner) → FreesNone (after_cleaner_work batch how inner)
 freed_worked batch Made (cleaner.ReadPiece i) none = λ _ z. z
-freed_worked batch Made (WriteBack i) none = none_next batch i (cleaner.HoldEntry (i + 1)) (Cleaning batch (CleanEntry 0)) (λ _ z. z) (λ _ z. z)
-freed_worked batch Made (SyncStores (file ∷ rest)) none = none_syncing batch rest
-freed_worked batch Made (MoveHeaderTail calls) none = if_both FreesNone (calls + 1 == length (tail_steps batch.reached)) (Cleaning batch (FreeEntry batch.tail)) (Cleaning batch (MoveHeaderTail (calls + 1)))
+freed_worked batch Made (WriteBack i) none = if_both FreesNone (i + 1 == length batch.pages) (Cleaning batch (CleanEntry 0)) (Cleaning batch (cleaner.HoldEntry (i + 1))) (λ _ _ z. z) (λ _ _ z. z)
+freed_worked batch Made (SyncStores (file ∷ [])) none = λ _ z. z
+freed_worked batch Made (SyncStores (file ∷ (other ∷ rest))) none = λ _ z. z
+freed_worked batch Made (MoveHeaderTail calls) none = if_both FreesNone (calls + 1 == length (tail_steps batch.least)) (Cleaning batch (FreeEntry batch.tail)) (Cleaning batch (MoveHeaderTail (calls + 1)))
     (λ _ number is. let l = is.0 in let h = is.1 in omega (arith, l, h)) (λ _ _ z. z)
 freed_worked batch Made inner none = none
 freed_worked batch (Failed came faults) (cleaner.ReadPiece i) none = λ _ z. z
 freed_worked batch (Failed came faults) (WriteBack i) none = λ _ z. z
+freed_worked batch (Failed came faults) (MoveHeaderTail calls) none = λ _ z. z
 freed_worked batch (Failed came faults) inner none = λ _ z. z
 freed_worked batch Refused (WriteBack i) none = λ _ z. z
 freed_worked batch Refused inner none = none

@@ -31,6 +31,7 @@ use Rattle.nv_core.specs.log.StaleWords.{LeadsGroup, StaleWords}
 use Rattle.nv_core.specs.invariant.Sound.{Sound}
 use Rattle.nv_core.proofs.state.Choices.{if_both, when_true}
 use Rattle.nv_core.proofs.log.WrittenLaws.{some_length}
+use Rattle.nv_core.proofs.log.TailLaws.{done_below}
 use Rattle.nv_core.proofs.log.KeepsWritten.{IsCounted, counted_group, nothing_made, counted_drawn, among_first}
 
 -- a cell tells one state at a time
@@ -188,7 +189,7 @@ module _ (loads : LoadsAreAnImage) (atomic : GroupsAreAtomic) (becomes : GroupsB
         let drawn = counted_drawn sizes (core.passes by) (core.passes by).control counted (sound.control_facts by).at in
         let order = retired.order in
         let some_entries = drawn.some in
-        elim (retired.done (core.passes by).first (own by counted).within (omega (arith, less, order))) [
+        elim (done_below sizes first tails log core sound retired (core.passes by).first (own by counted).within (omega (arith, less, order))) [
           | inl kind ↦ not_done (core.passes by).control refl counted some_entries (λ e. let z : kind_of free ≡ cleaned = ap kind_of (sym e) ∙ kind in omega (arith, z)) (λ e. let z : kind_of filling ≡ cleaned = ap kind_of (sym e) ∙ kind in omega (arith, z))
           | inr freed ↦
               let e = sound.window.freed_is freed.0 (core.passes by).first freed.1 in

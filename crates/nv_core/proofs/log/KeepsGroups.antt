@@ -15,7 +15,7 @@ use Rattle.nv_core.proofs.steps.ByKind.{FoundEnabledByKind}
 use Rattle.nv_core.specs.invariant.ControlFacts.{FactsAt, HasDrawn}
 use Rattle.nv_core.specs.state.Cleaner.{AdvanceTail, MoveTail}
 use Rattle.nv_core.specs.invariant.CleanerNumbers.{IsFreed}
-use Rattle.nv_core.specs.log.Progress.{IsBatchUnderWay, Progress}
+use Rattle.nv_core.specs.log.Progress.{Progress}
 use Rattle.nv_core.specs.invariant.LogWindow.{InWindow, HasUnseized, Fills}
 use Rattle.nv_core.specs.log.Groups.{Group, Log, group_of, with_group, log_stepped, log_worked, HasGroup, IsGrouped, IsOwn, Groups}
 use Rattle.nv_core.specs.invariant.Sound.{Sound}
@@ -221,9 +221,6 @@ module _ (sizes : Sizes) (first : Values) (by : ℕ) (core : Core) (log : Log) (
   head_now : (after_step sizes by (ByCleaner (MoveTail tail)) found core).words HEAD ≡ core.words HEAD
   head_now = untouched sizes by core (ByCleaner (MoveTail tail)) found may HEAD refl
 
-  way : IsBatchUnderWay sizes log core hand.batch AdvanceTail
-  way = progress.each by hand.batch AdvanceTail hand.control tt
-
   -- a group that has a number at or above the new tail lies there as a whole
   above : (n : ℕ) → InWindow core n → tail ≤ n → tail ≤ (log.group n).first
   above n within low = elim (cases_lt (log.group n).first tail) [
@@ -231,7 +228,7 @@ module _ (sizes : Sizes) (first : Values) (by : ℕ) (core : Core) (log : Log) (
     | inl less ↦ absurd (
         let g = groups.each n within in let a = g.among.1 in let h = within.1 in let l = hand.low in
         let s : log.group tail ≡ log.group n = g.same tail (omega (arith, less), omega (arith, a, low)) in
-        let leads : (log.group tail).first ≡ tail = subst (λ m. InWindow core m → (log.group m).first ≡ m) (sym hand.is) way.leads (l, omega (arith, low, h)) in
+        let leads : (log.group tail).first ≡ tail = subst (λ m. InWindow core m → (log.group m).first ≡ m) (sym hand.is) ((progress.retires by hand.batch AdvanceTail hand.control).leads tt) (l, omega (arith, low, h)) in
         let f = ap (λ g. g.first) s in omega (arith, f, leads, less))
   ]
 

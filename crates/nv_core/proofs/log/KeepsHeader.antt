@@ -281,15 +281,15 @@ header_work laws sizes first tails pass work values stays at_tails may = go pass
     at_store : (file : ℕ) → work.cell ≡ STORE file → HeaderStays first tails (values_worked pass work values)
     at_store file e = header_kept first tails values (values_worked pass work values) (header (STORE file) e (differ HEADER (STORE file) refl)) (λ slot. entry_else (STORE file) e slot (differ (ENTRY slot) (STORE file) refl)) stays
 
-    count_at : (batch : Batch) (calls : ℕ) → TailsAt tails (Cleaning batch (MoveHeaderTail calls)) → (tails.calls ≡ calls) × (tails.calls ≢ 0 → tails.next ≡ batch.reached)
-    count_at batch zero is = (is, λ some. absurd (some is))
+    count_at : (batch : Batch) (calls : ℕ) → TailsAt tails (Cleaning batch (MoveHeaderTail calls)) → (tails.calls ≡ calls) × (tails.calls ≢ 0 → tails.next ≡ batch.least)
+    count_at batch zero is = (is.1, λ some. absurd (some is.1))
     count_at batch (suc calls) is = (is.1, λ _. is.0)
 
     cleaners : (batch : Batch) (inner : CleanerControl) → TailsAt tails (Cleaning batch inner) → CleanerCallDue sizes values batch work inner → HeaderStays first (tails_worked work.ending (Cleaning batch inner) tails) (values_worked pass work values)
     cleaners batch (cleaner.ReadPiece i) is due = at_entry (slot_of_entry sizes (batch.reached + i)) due.cell (peeked (batch.reached + i) due)
     cleaners batch (WriteBack i) is due = at_store (group_file sizes batch) due.cell
     cleaners batch (SyncStores (file ∷ rest)) is due = at_store file due.0
-    cleaners batch (MoveHeaderTail calls) is due = let c = count_at batch calls is in header_moves laws first tails pass work values batch.reached calls stays due c.0 c.1
+    cleaners batch (MoveHeaderTail calls) is due = let c = count_at batch calls is in header_moves laws first tails pass work values batch.least calls stays due c.0 c.1
     cleaners batch inner is due = absurd due
 
     go : (control : Control) → TailsAt tails control → CallDue sizes values pass work control → HeaderStays first (tails_worked work.ending control tails) (values_worked pass work values)

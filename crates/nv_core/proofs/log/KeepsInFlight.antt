@@ -171,7 +171,7 @@ not_placing sizes values pass (Hold next) ne may = elsewhere _ _ may.1 refl
 not_placing sizes values pass (Return next) ne may = elsewhere _ _ may.2 refl
 not_placing sizes values pass (Turn page) ne may = turned_at (λ s. s ≡ TakePlace → ⊥) sizes values pass page (λ _. elsewhere _ _ refl refl) (λ _ _. elsewhere _ _ refl refl) may
 not_placing sizes values pass (Hint buffer page) ne may = elsewhere _ _ may.is refl
-not_placing sizes values pass (ByCleaner cleaner_op) ne may = tended (λ _ s. s ≡ TakePlace → ⊥) sizes pass cleaner_op pass.control may (λ _. elsewhere _ _ refl refl) (λ _ _ _. elsewhere _ _ refl refl)
+not_placing sizes values pass (ByCleaner cleaner_op) ne may = tended (λ _ s. s ≡ TakePlace → ⊥) sizes pass cleaner_op pass.control may (λ _ _ _. elsewhere _ _ refl refl) (λ _ _ _. elsewhere _ _ refl refl)
 not_placing sizes values pass op ne may = absurd may
 
 -- ---- passes in flight hold pages of their own

@@ -1,11 +1,10 @@
 -- Each event keeps what entries that were made ready say of their leaders.
 use Rattle.std.proofs.Common.{◌≡◌, ◌≢◌, ◌⊎◌, ℕ, ◌+◌, ◌-◌, ◌<◌, ◌≤◌, ◌==◌, Bool, true, false, if◌then◌else◌, inl, inr, refl, sym, ap, subst, ◌∙◌, arith, le_trans}
-use Rattle.std.proofs.lemmas.Bool.{cases_eq, cases_lt}
+use Rattle.std.proofs.lemmas.Bool.{cases_eq}
 use Rattle.nv_plain.specs.declared.call.FileCall.{FileCall}
 use Rattle.nv_core.specs.state.Words.{Sizes, Word, HEAD, TAIL, ENTRY, kind_of, was_readied, free, filling, ready, held, cleaned, broken, index, slot_of_entry}
-use Rattle.nv_core.specs.state.Cleaner.{FreeEntry, Clean, Free}
+use Rattle.nv_core.specs.state.Cleaner.{Clean, Free}
 use Rattle.nv_core.specs.state.Cleaner as cleaner
-use Rattle.nv_core.specs.invariant.CleanerNumbers.{IsCleaned}
 use Rattle.nv_core.specs.log.Progress.{Progress}
 use Rattle.nv_core.specs.invariant.Loaded.{LooksSound}
 use Rattle.nv_core.specs.state.Passes.{HoldEntry, ReturnEntry, IsUnseized, IsFilling, IsAmong}
@@ -23,7 +22,8 @@ use Rattle.nv_core.proofs.state.Changes.{by_word, word_here, word_else, differ}
 use Rattle.nv_core.proofs.state.Choices.{not_both, when_true, when_false}
 use Rattle.nv_core.proofs.steps.WordLaws.{untouched, touches}
 use Rattle.nv_core.proofs.invariant.KeepsLocks.{ready_is, entry_is}
-use Rattle.nv_core.proofs.steps.CleanerOps.{IsAtFree, cleaner_hold_hand, cleaner_return_hand, cleans_hand, frees_hand}
+use Rattle.nv_core.proofs.steps.CleanerOps.{cleaner_hold_hand, cleaner_return_hand, cleans_hand, frees_hand}
+use Rattle.nv_core.proofs.log.TailLaws.{group_freed}
 use Rattle.nv_core.proofs.log.CleanerReadied.{cleaner_hold_rekind, cleaner_return_rekind, cleans_rekind}
 use Rattle.nv_core.proofs.invariant.KeepsLoaded.{tail_up}
 use Rattle.nv_core.proofs.log.Rekinded.{holds_rekind, returns_rekind}
@@ -157,24 +157,7 @@ module _ (sizes : Sizes) (first : Values) (log : Log) (by : ℕ) (core : Core) (
 
   -- the numbers of the group of one that is freed, if it leads it, are cleaned
   group_cleaned : Progress sizes log core → (next : ℕ) → FoundEnabledByKind sizes by core (ByCleaner (Free next)) found → (n : ℕ) → InWindow core n → (log.group n).first ≡ next → kind_of (entry_word_at sizes core n) ≡ cleaned
-  group_cleaned progress next may n within leads = sound.window.cleaned_is by n (subst (λ s. IsCleaned s n) (sym hand.control) (omega (arith, low, leads), omega (arith, below)))
-    where
-      hand : IsAtFree sizes first core sound by next
-      hand = frees_hand sizes first core sound by found next may
-
-      low : (log.group n).first ≤ n
-      low = (groups.each n within).among.0
-
-      below : n < hand.batch.reached
-      below = elim (cases_lt n hand.batch.reached) [
-        | inl less ↦ less
-        | inr past ↦ absurd (
-            let h = hand.high in let w = hand.within.0 in let t = within.1 in let top = (groups.each n within).among.1 in
-            let inside : InWindow core hand.batch.reached = (omega (arith, h, w), omega (arith, past, t)) in
-            let same : log.group hand.batch.reached ≡ log.group n = (groups.each n within).same hand.batch.reached (omega (arith, leads, h), omega (arith, top, past)) in
-            let own : (log.group hand.batch.reached).first ≡ hand.batch.reached = (progress.each by hand.batch (FreeEntry next) hand.control tt).leads inside in
-            let e : hand.batch.reached ≡ next = sym own ∙ ap (λ g. g.first) same ∙ leads in omega (arith, e, h))
-      ]
+  group_cleaned progress next may n within leads = group_freed sizes first core sound log groups progress by found next may n within leads
 
   -- one that is freed is of a group that is cleaned as a whole, as far as it isn't freed
   free_leaders : Progress sizes log core → (next : ℕ) → FoundEnabledByKind sizes by core (ByCleaner (Free next)) found → Leaders sizes log (after_step sizes by (ByCleaner (Free next)) found core)

@@ -1,7 +1,7 @@
 -- A cleaner's step, and each device call, keeps the files that the live pieces make of the stores.
-use Rattle.std.proofs.Common.{◌≡◌, ◌≢◌, ℕ, ◌+◌, ◌-◌, ◌<◌, ◌==◌, nat_le, ◌&&◌, ◌||◌, not, Bool, true, false, List, [], ◌∷◌, ◌++◌, length, Option, inl, inr, refl, sym, ap, ap₂, subst, ◌∙◌, arith}
+use Rattle.std.proofs.Common.{◌≡◌, ◌≢◌, ℕ, ◌+◌, ◌-◌, ◌/◌, ◌<◌, ◌≤◌, ◌==◌, nat_le, ◌&&◌, ◌||◌, not, Bool, true, false, List, [], ◌∷◌, ◌++◌, length, Option, inl, inr, refl, sym, ap, ap₂, subst, ◌∙◌, arith}
 use Rattle.std.specs.Prelude.{Some, None, option_map}
-use Rattle.std.proofs.lemmas.Bool.{cases_eq, cases_lt}
+use Rattle.std.proofs.lemmas.Bool.{cases_eq, cases_lt, and_parts}
 use Rattle.std.proofs.lemmas.List.{append-nil}
 use Rattle.nv_plain.specs.Files.{Files}
 use Rattle.nv_plain.specs.Made.{after_calls, made_calls}
@@ -9,13 +9,13 @@ use Rattle.nv_entry.specs.Commits.{GroupsBecomeWhole}
 use Rattle.nv_pmem.specs.Laws.{LoadsAreAnImage}
 use Rattle.nv_store.specs.Store.{Store}
 use Rattle.nv_store.specs.Steps.{Write, Sync, after_store_step}
-use Rattle.nv_core.specs.state.Words.{Sizes, HEAD, TAIL, STORE, ENTRY, kind_of, free, ready, held, cleaned, index, was_readied, slot_of_entry}
+use Rattle.nv_core.specs.state.Words.{Sizes, HEAD, TAIL, STORE, ENTRY, PROG, cleaner_of_file, kind_of, free, ready, held, cleaned, index, was_readied, slot_of_entry}
 use Rattle.nv_core.specs.state.Values.{Value, Bare, APart, AStore, ABuffer, Job, PartStep, PageRead, PieceRead, PieceWrite, StoreSync, CallEnding, Made, Failed, Refused, called}
 use Rattle.nv_core.specs.state.Cleaner.{Batch, WriteBack, CleanEntry, SyncStores, MoveHeaderTail, FreeEntry, CleanerOp, Clean, Free, MoveTail}
 use Rattle.nv_core.specs.state.Cleaner as cleaner
 use Rattle.nv_core.specs.steps.CleanerSteps.{group_file}
-use Rattle.nv_core.specs.invariant.CleanerNumbers.{IsCleaned, IsFreed}
-use Rattle.nv_core.specs.state.Passes.{Control, ReadStore, CommitGroup, ReadPiece, Cleaning, Pass}
+use Rattle.nv_core.specs.invariant.CleanerNumbers.{IsFreed}
+use Rattle.nv_core.specs.state.Passes.{Control, ReadStore, CommitGroup, ReadPiece, Cleaning, Pass, file_of, at_of}
 use Rattle.nv_core.specs.steps.Ops.{Op, ByCleaner}
 use Rattle.nv_core.specs.steps.Order.{Values, Work, CallEnabled, CallMayLeave, CallDue, IsTornOf, IsPieceWrite}
 use Rattle.nv_core.specs.state.Core.{Core, after_step, after_work, worked, with_value, values_worked}
@@ -24,7 +24,7 @@ use Rattle.nv_core.specs.invariant.ControlFacts.{FactsAt}
 use Rattle.nv_core.specs.invariant.LogWindow.{InWindow, entry_word_at}
 use Rattle.nv_core.specs.log.Groups.{Log, log_worked, Groups}
 use Rattle.nv_core.specs.log.Pieces.{Pieces}
-use Rattle.nv_core.specs.log.Progress.{IsBatchUnderWay, Progress}
+use Rattle.nv_core.specs.log.Progress.{cleaner_of, IsBatchUnderWay, IsRetiring, Progress}
 use Rattle.nv_core.specs.log.Tails.{Tails}
 use Rattle.nv_core.specs.log.Retiring.{IsWrittenBack, Retired}
 use Rattle.nv_core.specs.log.Written.{Written}
@@ -37,7 +37,10 @@ use Rattle.nv_core.proofs.steps.WordLaws.{cleaner_op_touches, untouched}
 use Rattle.nv_core.proofs.invariant.KeepsLocks.{held_was}
 use Rattle.nv_core.proofs.invariant.WindowLaws.{apart_within}
 use Rattle.nv_core.proofs.steps.CleanerOps.{IsAtHand, IsAtFree, IsAtTail, IsTending, tending, cleaner_hold_hand, cleaner_return_hand, cleans_hand, frees_hand, retires_hand}
-use Rattle.nv_core.proofs.log.CleanerGoes.{leader_looked, of_group}
+use Rattle.nv_core.proofs.log.CleanerGoes.{leader_looked, of_group, place_served}
+use Rattle.nv_core.proofs.log.LiveLaws.{lie_apart, piece_lies}
+use Rattle.nv_core.proofs.crash.CommutingLaws.{IsApartFrom}
+use Rattle.nv_core.proofs.log.TailLaws.{group_freed}
 use Rattle.nv_core.proofs.log.ReadiedLaws.{said_before, says_still}
 use Rattle.nv_core.proofs.log.KeepsInFlight.{not_made, worked_placing, tail_rises}
 use Rattle.nv_core.proofs.log.KeepsGroups.{log_group}
@@ -105,8 +108,8 @@ module _ (sizes : Sizes) (first : Values) (tails : Tails) (log : Log) (opened : 
 
   -- ---- an entry is cleaned
 
-  cleans_one : (number : ℕ) → FoundEnabledByKind sizes by core (ByCleaner (Clean number)) found → LivePieces sizes log opened (after_step sizes by (ByCleaner (Clean number)) found core)
-  cleans_one number may = go t.made
+  cleans_one : (plain : PlainLaws) (page_some : 1 ≤ sizes.page) (number : ℕ) → FoundEnabledByKind sizes by core (ByCleaner (Clean number)) found → LivePieces sizes log opened (after_step sizes by (ByCleaner (Clean number)) found core)
+  cleans_one plain page_some number may = go t.made
     where
       now : Core
       now = after_step sizes by (ByCleaner (Clean number)) found core
@@ -137,11 +140,11 @@ module _ (sizes : Sizes) (first : Values) (tails : Tails) (log : Log) (opened : 
       ready_on = ready_still (Clean number) refl may
 
       go : (i : ℕ) × (t.inner ≡ CleanEntry i) × (number ≡ t.batch.reached + i) → LivePieces sizes log opened (after_step sizes by (ByCleaner (Clean number)) found core)
-      go at = cleans_live sizes log opened core (after_step sizes by (ByCleaner (Clean number)) found core) sound.window.order head tail (history (Clean number)) refl
+      go at = cleans_live sizes log opened core (after_step sizes by (ByCleaner (Clean number)) found core) sound.window.order plain head tail (history (Clean number)) refl
           (λ n is. ap (λ b. call_if b (piece_call sizes (log.group n) n)) (lives n is)) (places (Clean number) may)
           number hand.within (ap₂ (λ a b. call_if (a && not b) (piece_call sizes (log.group number) number)) live_was clean_was) (none_at (after_step sizes by (ByCleaner (Clean number)) found core) number clean_now)
           (λ m is ne. ap₂ (λ a b. call_if (a && not b) (piece_call sizes (log.group m) m)) (lives m is) (clean_else m is ne))
-          (λ m low less. none_at core m (ap (λ k. k == cleaned) (sound.window.cleaned_is by m (subst (λ s. IsCleaned s m) (sym here) (let e = way.tail in omega (arith, e, low), let e = at.2 in omega (arith, e, less))))))
+          apart_below
           (retired.written by number (subst (λ s. IsWrittenBack s number) (sym here) (let e = at.2 in omega (arith, e), let e = at.2 in let l = inside in omega (arith, e, l)))) live
         where
           here : (core.passes by).control ≡ Cleaning t.batch (CleanEntry at.0)
@@ -165,6 +168,42 @@ module _ (sizes : Sizes) (first : Values) (tails : Tails) (log : Log) (opened : 
 
           live_was : is_live sizes log core number ≡ true
           live_was = ap₂ (λ a b. a && (b || is_cleaned sizes core number)) (held_was (entry_word_at sizes core number) hand.kind_is) (ap (is_ready sizes core) leads ∙ leader.1)
+
+          served : cleaner_of sizes log number ≡ t.batch.cleaner
+          served = ap (cleaner_of sizes log) at.2 ∙ place_served sizes first core sound log groups pieces t.batch (CleanEntry at.0) way at.0 inside
+
+          -- the uncleaned numbers below it are of other cleaners' files
+          others_file : (m : ℕ) → core.words TAIL ≤ m → m < number → (is_live sizes log core m && not (is_cleaned sizes core m)) ≡ true → cleaner_of sizes log m ≢ t.batch.cleaner
+          others_file m low less is own = elim (cases_lt m (core.words (PROG t.batch.cleaner))) [
+            | inl below ↦ elim (progress.done m within_m (subst (λ c. m < core.words (PROG c)) (sym own) below)) [
+              | inl kind ↦ not_cleaned kind
+              | inr freed ↦ not_both (and_parts (is_ready sizes core m) (is_ready sizes core (log.group m).first || is_cleaned sizes core m) tests.0).0 (ap was_readied (sound.window.freed_is freed.0 m freed.1))
+            ]
+            | inr above ↦ not_cleaned (progress.cleaned_is by t.batch (CleanEntry at.0) here m (record { served = own; from = above; below = let e = at.2 in omega (arith, e, less) }))
+          ]
+            where
+              within_m : InWindow core m
+              within_m = let h = hand.within.1 in (low, omega (arith, less, h))
+
+              tests : (is_live sizes log core m ≡ true) × (not (is_cleaned sizes core m) ≡ true)
+              tests = and_parts (is_live sizes log core m) (not (is_cleaned sizes core m)) is
+
+              not_cleaned : kind_of (entry_word_at sizes core m) ≡ cleaned → ⊥
+              not_cleaned kind = not_both tests.1 (ap (λ k. not (k == cleaned)) kind)
+
+          apart_below : (m : ℕ) → core.words TAIL ≤ m → m < number → IsApartFrom (piece_call sizes (log.group number) number) (uncleaned_at sizes log opened core m)
+          apart_below m low less = go_on (is_live sizes log core m && not (is_cleaned sizes core m)) refl
+            where
+              go_on : (b : Bool) → (is_live sizes log core m && not (is_cleaned sizes core m)) ≡ b → IsApartFrom (piece_call sizes (log.group number) number) (call_if b (piece_call sizes (log.group m) m))
+              go_on false e = tt
+              go_on true e = (
+                lie_apart sizes (piece_call sizes (log.group number) number) (piece_call sizes (log.group m) m)
+                    (file_of (log.group number).call) (at_of (log.group number).call / sizes.page + (number - (log.group number).first)) (at_of (log.group number).call / sizes.page + (number - (log.group number).first) + 1)
+                    (file_of (log.group m).call) (at_of (log.group m).call / sizes.page + (m - (log.group m).first)) (at_of (log.group m).call / sizes.page + (m - (log.group m).first) + 1)
+                    (piece_lies sizes (log.group number).call (number - (log.group number).first) page_some) (piece_lies sizes (log.group m).call (m - (log.group m).first) page_some)
+                    (inl (λ same. others_file m low less e (ap (cleaner_of_file sizes) (sym same) ∙ served))),
+                tt,
+              )
 
           live_now : is_live sizes log (after_step sizes by (ByCleaner (Clean number)) found core) number ≡ true
           live_now = ap₂ (λ a b. a && (b || is_cleaned sizes (after_step sizes by (ByCleaner (Clean number)) found core) number)) (ready_on number hand.within ∙ held_was (entry_word_at sizes core number) hand.kind_is)
@@ -193,13 +232,13 @@ module _ (sizes : Sizes) (first : Values) (tails : Tails) (log : Log) (opened : 
       (places (Free number) may) number hand.within (ap (λ b. call_if b (piece_call sizes (log.group number) number)) live_was) clean_was
       (ap (λ b. call_if b (piece_call sizes (log.group number) number)) live_now) (λ m is ne. ap (λ b. call_if b (piece_call sizes (log.group m) m)) (lives m is ne))
       (λ m low less. ap (λ b. call_if (b && (is_ready sizes core (log.group m).first || is_cleaned sizes core m)) (piece_call sizes (log.group m) m))
-      (ap was_readied (sound.window.freed_is by m (subst (λ s. IsFreed s m) (sym hand.control) (let e = way.tail in omega (arith, e, low), less))))) live
+      (ap was_readied (sound.window.freed_is by m (subst (λ s. IsFreed s m) (sym hand.control) (let e = retires.tail tt in omega (arith, e, low), less))))) live
     where
       hand : IsAtFree sizes first core sound by number
       hand = frees_hand sizes first core sound by found number may
 
-      way : IsBatchUnderWay sizes log core hand.batch (FreeEntry number)
-      way = progress.each by hand.batch (FreeEntry number) hand.control tt
+      retires : IsRetiring sizes log core hand.batch (FreeEntry number)
+      retires = progress.retires by hand.batch (FreeEntry number) hand.control
 
       clean_was : is_cleaned sizes core number ≡ true
       clean_was = ap (λ k. k == cleaned) hand.kind_is
@@ -221,16 +260,7 @@ module _ (sizes : Sizes) (first : Values) (tails : Tails) (log : Log) (opened : 
 
       -- the followers of a leader that is freed are cleaned
       followed : (m : ℕ) → InWindow core m → m ≢ number → (log.group m).first ≡ number → is_cleaned sizes core m ≡ true
-      followed m is ne leads = elim (cases_lt m hand.batch.reached) [
-        | inl below ↦ ap (λ k. k == cleaned) (sound.window.cleaned_is by m (subst (λ s. IsCleaned s m) (sym hand.control) (let g = (groups.each m is).among.0 in omega (arith, g, leads), omega (arith, below))))
-        | inr above ↦ absurd (
-            let g = groups.each m is in
-            let h = hand.high in let l = hand.within.0 in let top = is.1 in
-            let inside : InWindow core hand.batch.reached = (omega (arith, h, l), omega (arith, above, top)) in
-            let a = g.among.1 in
-            let same : log.group hand.batch.reached ≡ log.group m = g.same hand.batch.reached (omega (arith, leads, h), omega (arith, above, a)) in
-            let e : (log.group m).first ≡ hand.batch.reached = ap (λ one. one.first) (sym same) ∙ way.leads inside in omega (arith, e, leads, h))
-      ]
+      followed m is ne leads = ap (λ k. k == cleaned) (group_freed sizes first core sound log groups progress by found number may m is leads)
 
       lives : (m : ℕ) → InWindow core m → m ≢ number → is_live sizes log (after_step sizes by (ByCleaner (Free number)) found core) m ≡ is_live sizes log core m
       lives m is ne = elim (cases_eq (log.group m).first number) [
@@ -255,19 +285,19 @@ module _ (sizes : Sizes) (first : Values) (tails : Tails) (log : Log) (opened : 
 
   -- ---- all of them
 
-  pub cleaner_step_live : PlainLaws → (cleaner_op : CleanerOp) → FoundEnabledByKind sizes by core (ByCleaner cleaner_op) found → LivePieces sizes log opened (after_step sizes by (ByCleaner cleaner_op) found core)
-  cleaner_step_live plain (cleaner.Hold number) may =
+  pub cleaner_step_live : PlainLaws → 1 ≤ sizes.page → (cleaner_op : CleanerOp) → FoundEnabledByKind sizes by core (ByCleaner cleaner_op) found → LivePieces sizes log opened (after_step sizes by (ByCleaner cleaner_op) found core)
+  cleaner_step_live plain page_some (cleaner.Hold number) may =
       let hand = cleaner_hold_hand sizes first core sound by found number may in let k : kind_of (entry_word_at sizes core number) ≡ ready = hand.kind_is in let is : entry_word_at sizes core number ≡ found = may.is in
       let n : kind_of (found + 1) ≡ held = omega (arith, k, is) in
       kind_live (cleaner.Hold number) number (found + 1) refl refl may refl (ap (λ k. k == cleaned) n ∙ sym (ap (λ k. k == cleaned) k))
-  cleaner_step_live plain (cleaner.Return number) may =
+  cleaner_step_live plain page_some (cleaner.Return number) may =
       let hand = cleaner_return_hand sizes first core sound by found number may in let k : kind_of (entry_word_at sizes core number) ≡ held = hand.kind_is in let is : entry_word_at sizes core number ≡ found = may.is in
       let n : kind_of (found - 1) ≡ ready = omega (arith, k, is) in
       kind_live (cleaner.Return number) number (found - 1) refl refl may refl (ap (λ k. k == cleaned) n ∙ sym (ap (λ k. k == cleaned) k))
-  cleaner_step_live plain (Clean number) may = cleans_one number may
-  cleaner_step_live plain (Free number) may = frees_one plain number may
-  cleaner_step_live plain (MoveTail tail) may = retires_one tail may
-  cleaner_step_live plain cleaner_op may = kept_both cleaner_op refl refl may (λ n is. ap (λ w. kind_of w == cleaned) (untouched sizes by core (ByCleaner cleaner_op) found may (ENTRY (slot_of_entry sizes n)) refl))
+  cleaner_step_live plain page_some (Clean number) may = cleans_one plain page_some number may
+  cleaner_step_live plain page_some (Free number) may = frees_one plain number may
+  cleaner_step_live plain page_some (MoveTail tail) may = retires_one tail may
+  cleaner_step_live plain page_some cleaner_op may = kept_both cleaner_op refl refl may (λ n is. ap (λ w. kind_of w == cleaned) (untouched sizes by core (ByCleaner cleaner_op) found may (ENTRY (slot_of_entry sizes n)) refl))
 
 -- ---- device calls
 

@@ -51,7 +51,7 @@ log_begin sizes first opened tails log placed by core call sound content may = r
   flight = flight_begin sizes log placed by core call content.flight may;
   unready = unready_begin sizes log placed by core call may content.unready;
   live = live_begin sizes log opened by core call sound.numbers may content.live;
-  progress = progress_begin sizes log by core call content.progress;
+  progress = progress_begin sizes first log by core call sound may content.progress;
   retired = retired_begin sizes tails log by core call may content.retired;
   leaders = leaders_begin sizes log by core call content.leaders;
   faults = faults_begin sizes log placed by core call may content.faults;
@@ -65,7 +65,7 @@ module _ (laws : LogLaws) (plain : PlainLaws) (sizes : Sizes) (page_is : IsPageS
   -- the live pieces, be the step a cleaner's or a call's
   live_step : (op : Op) (found : ℕ) → Sound sizes first core → LogContent sizes first opened tails log placed core → FoundEnabledByKind sizes by core op found
       → LivePieces sizes (log_stepped sizes (core.passes by) op found log) opened (after_step sizes by op found core)
-  live_step (ByCleaner cleaner_op) found sound content may = cleaner_step_live sizes first tails log opened by core found sound content.groups content.pieces content.progress content.retired content.live plain cleaner_op may
+  live_step (ByCleaner cleaner_op) found sound content may = cleaner_step_live sizes first tails log opened by core found sound content.groups content.pieces content.progress content.retired content.live plain page_some cleaner_op may
   live_step op found sound content may = call_live sizes first log placed opened by core op found plain page_some sound content.groups content.pieces content.flight content.live refl may
 
   content_step : (op : Op) (found : ℕ) → Sound sizes first core → LogContent sizes first opened tails log placed core → FoundEnabledByKind sizes by core op found
@@ -95,7 +95,7 @@ module _ (laws : LogLaws) (plain : PlainLaws) (sizes : Sizes) (page_is : IsPageS
     flight = flight_work sizes log placed by core work content.flight may;
     unready = unready_work sizes log placed by core work content.unready may;
     live = live_work laws.now laws.group_whole plain sizes first tails log opened by core work sound content.groups content.pieces content.progress content.retired content.written content.live may;
-    progress = progress_work sizes log by core work content.progress may;
+    progress = progress_work sizes first log by core work sound content.progress may;
     retired = retired_work laws plain sizes first tails log by core work page_some sound content.groups content.pieces content.progress content.written content.tell content.retired may;
     leaders = leaders_work sizes log by core work content.leaders;
     faults = faults_work sizes log placed by core work content.faults may;

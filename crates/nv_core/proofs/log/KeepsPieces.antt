@@ -298,7 +298,7 @@ module _ (sizes : Sizes) (first : Values) (log : Log) (by : ℕ) (core : Core) (
   free_hand = frees_hand sizes first core sound by found next may
 
   free_tail : free_hand.batch.tail ≡ core.words TAIL
-  free_tail = (sound.grouped.progress.each by free_hand.batch (FreeEntry next) free_hand.control tt).tail
+  free_tail = (sound.grouped.progress.retires by free_hand.batch (FreeEntry next) free_hand.control).tail tt
 
   abbrev freed_now : Core
   freed_now = after_step sizes by (ByCleaner (Free next)) found core

@@ -1,17 +1,16 @@
 -- Each event keeps what is written back, synced and retired.
-use Rattle.std.proofs.Common.{◌≡◌, ◌≢◌, ◌⊎◌, ℕ, suc, ◌+◌, ◌-◌, ◌<◌, ◌≤◌, ◌==◌, Bool, true, false, length, inl, inr, refl, sym, ap, subst, ◌∙◌, arith}
+use Rattle.std.proofs.Common.{◌≡◌, ◌⊎◌, ℕ, suc, ◌+◌, ◌-◌, ◌<◌, ◌≤◌, ◌==◌, Bool, true, false, length, inl, inr, refl, sym, ap, subst, ◌∙◌, arith}
 use Rattle.std.specs.Prelude.{Some, None}
 use Rattle.std.proofs.lemmas.Bool.{cases_eq, cases_lt}
 use Rattle.nv_plain.specs.declared.call.FileCall.{FileCall}
 use Rattle.nv_plain.specs.Calls.{files_after}
 use Rattle.nv_store.specs.Store.{Store, IsQuietStore}
-use Rattle.nv_core.specs.state.Words.{Sizes, Word, STOP, HEAD, TAIL, STORE, ENTRY, kind_of, free, filling, ready, held, cleaned, broken, index, is_entry_of, slot_of_entry}
-use Rattle.nv_core.specs.state.Cleaner.{Batch, CleanerControl, TakeHeader, WriteBack, CleanEntry, MoveHeaderTail, SetStop, CleanerOp, TakeCleaner, Clean, Free, MoveTail}
+use Rattle.nv_core.specs.state.Words.{Sizes, STOP, HEAD, TAIL, STORE, PROG}
+use Rattle.nv_core.specs.state.Cleaner.{Batch, CleanerControl, LoadStopAgain, LoadEachProgress, WriteBack, CleanEntry, AdvanceProgress, MoveHeaderTail, SetStopAfterMove, CleanerOp, TakeCleaner, MoveProgress, MoveTail}
 use Rattle.nv_core.specs.state.Cleaner as cleaner
 use Rattle.nv_core.specs.steps.CleanerSteps.{cleaner_word, cleaner_value, next_cleaner_op, new_batch}
-use Rattle.nv_core.specs.invariant.CleanerNumbers.{IsFreed}
-use Rattle.nv_core.specs.state.Passes.{Control, Idle, TakePage, LoadStop, Cleaning, Pass, IsAmong, IsFilling, page_count, first_page, plain_call}
-use Rattle.nv_core.specs.steps.Ops.{Op, ready_word, Stop, Draw, Seize, Ready, Break, Split, PutBack, Join, Hold, Return, ByCleaner, moved, cleaner_move}
+use Rattle.nv_core.specs.state.Passes.{Control, Idle, TakePage, LoadStop, Cleaning, Pass, page_count, first_page, plain_call}
+use Rattle.nv_core.specs.steps.Ops.{Op, Stop, Draw, Split, PutBack, Join, ByCleaner, moved, cleaner_move}
 use Rattle.nv_core.specs.steps.ControlSteps.{control_after, after_by_cleaner}
 use Rattle.nv_core.specs.steps.PassSteps.{begun}
 use Rattle.nv_core.specs.steps.Order.{Values}
@@ -19,37 +18,33 @@ use Rattle.nv_core.specs.steps.StepKinds.{CleanerEnabled}
 use Rattle.nv_core.specs.state.Core.{Core, changes, changed_pass, with_value, after_step, after_begin}
 use Rattle.nv_core.specs.steps.Events.{CallMayBegin}
 use Rattle.nv_core.proofs.steps.ByKind.{FoundEnabledByKind}
-use Rattle.nv_core.specs.invariant.ControlFacts.{FactsAt, HasDrawn}
-use Rattle.nv_core.specs.invariant.LogWindow.{InWindow, entry_word_at}
+use Rattle.nv_core.specs.invariant.ControlFacts.{FactsAt}
+use Rattle.nv_core.specs.invariant.LogWindow.{InWindow}
 use Rattle.nv_core.specs.content.StorePages.{store_of_value}
 use Rattle.nv_core.specs.log.Groups.{Group, Log, with_group, log_stepped, Groups}
-use Rattle.nv_core.specs.invariant.Loaded.{LooksSound}
 use Rattle.nv_core.specs.log.LivePieces.{piece_call, store_bytes, store_files}
 use Rattle.nv_core.specs.log.Tails.{Tails}
-use Rattle.nv_core.specs.log.Progress.{HasLoadedTail}
+use Rattle.nv_core.specs.log.Progress.{HasLoadedProgress, IsBatchUnderWay, IsLoadingOf}
 use Rattle.nv_core.specs.invariant.Rooms.{IsMoving}
-use Rattle.nv_core.specs.log.Retiring.{IsWrittenBack, IsSynced, TailsAt, IsDone, Retired}
+use Rattle.nv_core.specs.log.Retiring.{IsWrittenBack, IsSynced, TailsAt, Retired}
 use Rattle.nv_core.specs.invariant.Sound.{Sound}
-use Rattle.nv_core.proofs.state.Changes.{by_number, by_word, number_here, number_else, word_here, word_else}
+use Rattle.nv_core.proofs.state.Changes.{by_number, by_word, number_here, number_else, word_here}
 use Rattle.nv_core.proofs.state.Choices.{if_both, when_true}
 use Rattle.nv_core.proofs.steps.WordLaws.{untouched}
 use Rattle.nv_core.proofs.steps.AtCall.{IsAtCall, at_call, to_call}
-use Rattle.nv_core.proofs.steps.CleanerOps.{cleaner_hold_hand, cleaner_return_hand, cleans_hand, frees_hand, retires_hand}
-use Rattle.nv_core.proofs.log.CleanerGoes.{one_cleaner}
-use Rattle.nv_core.proofs.log.CleanerReadied.{FreesNone}
-use Rattle.nv_core.proofs.log.ReadiedLaws.{same_cleaner_op, freed_still, frees_now, seized, broke, freed_on, begun_none}
+use Rattle.nv_core.proofs.steps.CleanerOps.{IsTending, tending, one_header, retires_hand}
+use Rattle.nv_core.proofs.log.ReadiedLaws.{same_cleaner_op}
+use Rattle.nv_core.proofs.log.TailLaws.{next_high}
 use Rattle.nv_core.proofs.log.CleanerRetired.{KeepsOn, of_cleaner_on}
-use Rattle.nv_core.proofs.invariant.KeepsLocks.{entry_is}
 use Rattle.nv_core.proofs.log.KeepsStores.{step_store}
 use Rattle.nv_core.proofs.log.KeepsLive.{stores_same}
-use Rattle.nv_core.proofs.invariant.WindowLaws.{apart_within}
 use Rattle.nv_core.proofs.log.DrawLaws.{draw_below, drawn_group, lost_head, won_draw}
 
 -- a number that is written back is one of the group at hand
 module _ (sizes : Sizes) (first : Values) (core : Core) (sound : Sound sizes first core) where
-  looked_in : (m n : ℕ) (batch : Batch) (inner : CleanerControl) → (core.passes m).control ≡ Cleaning batch inner → HasLoadedTail inner → batch.reached ≤ n → n < batch.reached + length batch.pages → InWindow core n
-  looked_in m n batch inner at tail_loaded low high =
-      subst (InWindow core) (let e : batch.reached + (n - batch.reached) ≡ n = omega (arith, low) in e) ((sound.grouped.progress.each m batch inner at tail_loaded).looked (n - batch.reached) (omega (arith, low, high))).within
+  looked_in : (m n : ℕ) (batch : Batch) (inner : CleanerControl) → (core.passes m).control ≡ Cleaning batch inner → HasLoadedProgress inner → batch.reached ≤ n → n < batch.reached + length batch.pages → InWindow core n
+  looked_in m n batch inner at prog_loaded low high =
+      subst (InWindow core) (let e : batch.reached + (n - batch.reached) ≡ n = omega (arith, low) in e) ((sound.grouped.progress.each m batch inner at prog_loaded).looked (n - batch.reached) (omega (arith, low, high))).within
 
   pub back_in : (m n : ℕ) (control : Control) → (core.passes m).control ≡ control → IsWrittenBack control n → InWindow core n
   back_in m n (Cleaning batch (cleaner.HoldEntry i)) at is = looked_in m n batch (cleaner.HoldEntry i) at tt (let l = is.0 in omega (arith, l)) (let s : FactsAt sizes (core.passes m) (Cleaning batch (cleaner.HoldEntry i)) = subst (FactsAt sizes (core.passes m)) at (sound.control_facts m).at in let h = is.1 in omega (arith, s, h))
@@ -73,8 +68,8 @@ no_cleaner_op : (cleaner_op : CleanerOp) → None ≡ Some cleaner_op → ⊥
 no_cleaner_op cleaner_op e = absurd cc
 
 module _ (sizes : Sizes) (first : Values) (tails : Tails) (log : Log) (by : ℕ) (core : Core) (found : ℕ) (sound : Sound sizes first core) (groups : Groups sizes core log) (retired : Retired sizes tails log core) where
-  -- a cleaner that finds STOP at 0 finds the tails unmoved
-  stop_loaded : (batch : Batch) → (core.passes by).control ≡ Cleaning batch cleaner.LoadStop → core.words STOP ≡ 0 → tails.calls ≡ 0
+  -- a cleaner that finds STOP at 0 under HEADER finds the tails unmoved
+  stop_loaded : (batch : Batch) → (core.passes by).control ≡ Cleaning batch LoadStopAgain → core.words STOP ≡ 0 → tails.calls ≡ 0
   stop_loaded batch at none = elim (cases_eq tails.calls 0) [
     | inl e ↦ e
     | inr some ↦ absurd (elim (retired.begun some) [
@@ -84,19 +79,23 @@ module _ (sizes : Sizes) (first : Values) (tails : Tails) (log : Log) (by : ℕ)
   ]
     where
       not_moving : (m : ℕ) (control : Control) → (core.passes m).control ≡ control → IsMoving control → ⊥
-      not_moving m (Cleaning b (MoveHeaderTail (suc calls))) e is = subst IsMoving (sym e ∙ ap (λ k. (core.passes k).control) (one_cleaner sizes first core sound m by b batch (MoveHeaderTail (suc calls)) cleaner.LoadStop e at tt tt) ∙ at) tt
-      not_moving m (Cleaning b (SetStop count)) e is = subst IsMoving (sym e ∙ ap (λ k. (core.passes k).control) (one_cleaner sizes first core sound m by b batch (SetStop count) cleaner.LoadStop e at tt tt) ∙ at) tt
+      not_moving m (Cleaning b (MoveHeaderTail (suc calls))) e is = subst IsMoving (sym e ∙ ap (λ k. (core.passes k).control) (one_header sizes first core sound m by b batch (MoveHeaderTail (suc calls)) LoadStopAgain e at refl refl) ∙ at) tt
+      not_moving m (Cleaning b SetStopAfterMove) e is = subst IsMoving (sym e ∙ ap (λ k. (core.passes k).control) (one_header sizes first core sound m by b batch SetStopAfterMove LoadStopAgain e at refl refl) ∙ at) tt
       not_moving m control e is = absurd is
 
   cleaner_step_on : (cleaner_op : CleanerOp) (control : Control) → (core.passes by).control ≡ control → CleanerEnabled sizes (core.passes by) cleaner_op control → core.words (cleaner_word sizes cleaner_op) ≡ found
       → KeepsOn tails control (after_by_cleaner sizes (moved (cleaner_move sizes cleaner_op found) (core.passes by).owned) cleaner_op found control)
   cleaner_step_on cleaner_op (Cleaning batch inner) at may is = of_cleaner_on sizes tails (moved (cleaner_move sizes cleaner_op found) (core.passes by).owned) batch inner found
-      (λ tail_loaded. (sound.grouped.progress.each by batch inner at tail_loaded).files)
+      (λ prog_loaded. (sound.grouped.progress.each by batch inner at prog_loaded).files)
       (λ e none. stop_loaded batch (at ∙ ap (Cleaning batch) e)
       (let c : Some cleaner_op ≡ Some (cleaner.Load STOP) = sym may ∙ ap (next_cleaner_op sizes (core.passes by).owned batch) e in
       ap (λ d. core.words (cleaner_word sizes d)) (sym (same_cleaner_op cleaner_op (cleaner.Load STOP) c)) ∙ is ∙ none))
+      (λ who e.
+      let c : Some cleaner_op ≡ Some (cleaner.Load (PROG who)) = sym may ∙ ap (next_cleaner_op sizes (core.passes by).owned batch) e in
+      let prog : core.words (PROG who) ≡ found = ap (λ d. core.words (cleaner_word sizes d)) (sym (same_cleaner_op cleaner_op (cleaner.Load (PROG who)) c)) ∙ is in
+      let low = retired.below who ((sound.grouped.progress.retires by batch inner at).there who (subst (λ s. IsLoadingOf s who) (sym e) refl)) in omega (arith, prog, low))
       (subst (TailsAt tails) at (retired.at by))
-  cleaner_step_on (TakeCleaner most) Idle at may is = if_both (KeepsOn tails Idle) (found == 0) (Cleaning (new_batch most) TakeHeader) Idle (λ _. record { back = λ _ z. absurd z; synced = λ _ z. absurd z; at = tt }) (λ _. record { back = λ _ z. absurd z; synced = λ _ z. absurd z; at = tt })
+  cleaner_step_on (TakeCleaner who most) Idle at may is = if_both (KeepsOn tails Idle) (found == 0) (Cleaning (new_batch who most) cleaner.LoadStop) Idle (λ _. record { back = λ _ z. absurd z; synced = λ _ z. absurd z; at = tt }) (λ _. record { back = λ _ z. absurd z; synced = λ _ z. absurd z; at = tt })
   cleaner_step_on cleaner_op control at may is = absurd may
 
   pass_on : (op : Op) → FoundEnabledByKind sizes by core op found → KeepsOn tails (core.passes (changes by core.made op)).control (changed_pass sizes by core op found).control
@@ -120,7 +119,7 @@ module _ (sizes : Sizes) (first : Values) (tails : Tails) (log : Log) (by : ℕ)
 
   moving_cleaner_step : (cleaner_op : CleanerOp) (control : Control) → CleanerEnabled sizes (core.passes by) cleaner_op control → IsMoving control → cleaner_op ≡ cleaner.Stop
   moving_cleaner_step cleaner_op (Cleaning batch (MoveHeaderTail (suc calls))) may is = absurd (no_cleaner_op cleaner_op may)
-  moving_cleaner_step cleaner_op (Cleaning batch (SetStop count)) may is = same_cleaner_op cleaner_op cleaner.Stop (sym may)
+  moving_cleaner_step cleaner_op (Cleaning batch SetStopAfterMove) may is = same_cleaner_op cleaner_op cleaner.Stop (sym may)
   moving_cleaner_step cleaner_op control may is = absurd is
 
   moving_on : (op : Op) → FoundEnabledByKind sizes by core op found → IsMoving (core.passes (changes by core.made op)).control → MovesOn (changed_pass sizes by core op found).control (after_step sizes by op found core)
@@ -136,6 +135,19 @@ module _ (sizes : Sizes) (first : Values) (tails : Tails) (log : Log) (by : ℕ)
   tail_rises (ByCleaner (MoveTail tail)) may = let e : (after_step sizes by (ByCleaner (MoveTail tail)) found core).words TAIL ≡ tail = word_here core.words TAIL tail in let l = (retires_hand sizes first core sound by found tail may).low in omega (arith, e, l)
   tail_rises (ByCleaner cleaner_op) may = let e = untouched sizes by core (ByCleaner cleaner_op) found may TAIL refl in omega (arith, e)
   tail_rises op may = let e = untouched sizes by core op found may TAIL refl in omega (arith, e)
+
+  -- no PROG falls
+  prog_rises : (op : Op) → FoundEnabledByKind sizes by core op found → (cleaner : ℕ) → core.words (PROG cleaner) ≤ (after_step sizes by op found core).words (PROG cleaner)
+  prog_rises (ByCleaner (MoveProgress who number)) may cleaner =
+      by_word (λ word v. core.words word ≤ v) core.words (PROG who) number (subst (λ k. core.words (PROG k) ≤ number) (sym t.made.1) (let l = way.low in let r = t.made.2 in omega (arith, l, r))) (λ word ne. omega arith) (PROG cleaner)
+    where
+      t : IsTending (core.passes by) (MoveProgress who number)
+      t = tending sizes (core.passes by) (MoveProgress who number) tt may.may
+
+      way : IsBatchUnderWay sizes sound.grouped.log core t.batch AdvanceProgress
+      way = sound.grouped.progress.each by t.batch AdvanceProgress (t.control ∙ ap (Cleaning t.batch) t.made.0) tt
+  prog_rises (ByCleaner cleaner_op) may cleaner = let e = untouched sizes by core (ByCleaner cleaner_op) found may (PROG cleaner) refl in omega (arith, e)
+  prog_rises op may cleaner = let e = untouched sizes by core op found may (PROG cleaner) refl in omega (arith, e)
 
   -- HEAD stays, or rises from a leader's number
   abbrev Rises : Op → Type 0
@@ -165,52 +177,6 @@ module _ (sizes : Sizes) (first : Values) (tails : Tails) (log : Log) (by : ℕ)
   group_stays Draw may n less = draw_below sizes log by core found may n less
   group_stays op may n less = refl
 
-  -- ---- what is done
-
-  -- a cleaned entry stays so till it is freed
-  abbrev CleanOn : Op → (n : ℕ) → Type 0
-  CleanOn op n = kind_of (entry_word_at sizes core n) ≡ cleaned → (kind_of (entry_word_at sizes (after_step sizes by op found core) n) ≡ cleaned) ⊎ (op ≡ ByCleaner (Free n))
-
-  not_there : (slot value : ℕ) → kind_of (core.words (ENTRY slot)) ≢ cleaned → (word : Word) → kind_of (core.words word) ≡ cleaned → kind_of (with_value core.words (ENTRY slot) value word) ≡ cleaned
-  not_there slot value not_so = by_word (λ word v. kind_of (core.words word) ≡ cleaned → kind_of v ≡ cleaned) core.words (ENTRY slot) value (λ e. absurd (not_so e)) (λ word ne e. e)
-
-  filled : (next : ℕ) → FoundEnabledByKind sizes by core (Ready next) found → entry_word_at sizes core next ≡ filling
-  filled next may =
-      let at : HasDrawn sizes (core.passes by).call (core.passes by).entries × IsAmong (core.passes by).first (core.passes by).entries next = subst (FactsAt sizes (core.passes by)) may.may (sound.control_facts by).at in
-      sound.window.filling_is by next (subst (λ s. IsFilling s (core.passes by).first (core.passes by).entries next) (sym may.may) (elim (cases_eq next (core.passes by).first) [
-        | inl same ↦ inl same
-        | inr ne ↦ let l = at.1.0 in let h = at.1.1 in inr (omega (arith, l, ne), omega arith, h)
-      ]))
-
-  holds_kind : (next : ℕ) → FoundEnabledByKind sizes by core (Hold next) found → kind_of (entry_word_at sizes core next) ≡ ready
-  holds_kind next may = let looks : InWindow core next × (is_entry_of ready may.may.0 (entry_word_at sizes core next) ≡ true) = subst (LooksSound sizes core (core.passes by).pages) may.may.1 (sound.loaded.looks by) in (entry_is ready may.may.0 (entry_word_at sizes core next) looks.1).0
-
-  returns_kind : (next : ℕ) → FoundEnabledByKind sizes by core (Return next) found → kind_of (entry_word_at sizes core next) ≡ held
-  returns_kind next may = let looks : InWindow core next × (is_entry_of held may.may.0 (entry_word_at sizes core next) ≡ true) = subst (LooksSound sizes core (core.passes by).pages) may.may.2 (sound.loaded.looks by) in (entry_is held may.may.0 (entry_word_at sizes core next) looks.1).0
-
-  clean_on : (op : Op) → FoundEnabledByKind sizes by core op found → (n : ℕ) → InWindow core n → CleanOn op n
-  clean_on (Seize next) may n within kind = inl (not_there (slot_of_entry sizes next) filling (λ e. let k = ap kind_of (seized sizes first by core found sound next may) in omega (arith, e, k)) (ENTRY (slot_of_entry sizes n)) kind)
-  clean_on (Ready next) may n within kind = inl (not_there (slot_of_entry sizes next) (ready_word sizes (core.passes by) next) (λ e. let k = ap kind_of (filled next may) in omega (arith, e, k)) (ENTRY (slot_of_entry sizes n)) kind)
-  clean_on (Break next) may n within kind = inl (not_there (slot_of_entry sizes next) broken (λ e. let k = ap kind_of (broke sizes first by core found sound next may) in omega (arith, e, k)) (ENTRY (slot_of_entry sizes n)) kind)
-  clean_on (Hold next) may n within kind = inl (not_there (slot_of_entry sizes next) (found + 1) (λ e. let k = holds_kind next may in omega (arith, e, k)) (ENTRY (slot_of_entry sizes n)) kind)
-  clean_on (Return next) may n within kind = inl (not_there (slot_of_entry sizes next) (found - 1) (λ e. let k = returns_kind next may in omega (arith, e, k)) (ENTRY (slot_of_entry sizes n)) kind)
-  clean_on (ByCleaner (cleaner.Hold next)) may n within kind = inl (not_there (slot_of_entry sizes next) (found + 1) (λ e. let k = (cleaner_hold_hand sizes first core sound by found next may).kind_is in omega (arith, e, k)) (ENTRY (slot_of_entry sizes n)) kind)
-  clean_on (ByCleaner (cleaner.Return next)) may n within kind = inl (not_there (slot_of_entry sizes next) (found - 1) (λ e. let k = (cleaner_return_hand sizes first core sound by found next may).kind_is in omega (arith, e, k)) (ENTRY (slot_of_entry sizes n)) kind)
-  clean_on (ByCleaner (Clean next)) may n within kind = inl (not_there (slot_of_entry sizes next) (found + 1) (λ e. let k = (cleans_hand sizes first core sound by found next may).kind_is in omega (arith, e, k)) (ENTRY (slot_of_entry sizes n)) kind)
-  clean_on (ByCleaner (Free next)) may n within kind = elim (cases_eq n next) [
-    | inl same ↦ inr (ap (λ m. ByCleaner (Free m)) (sym same))
-    | inr ne ↦ inl (ap kind_of (word_else core.words (ENTRY (slot_of_entry sizes next)) free (ENTRY (slot_of_entry sizes n)) (λ e. apart_within sizes core sound.window n next within (frees_hand sizes first core sound by found next may).within ne (ap index e))) ∙ kind)
-  ]
-  clean_on (ByCleaner cleaner_op) may n within kind = inl (ap kind_of (untouched sizes by core (ByCleaner cleaner_op) found may (ENTRY (slot_of_entry sizes n)) refl) ∙ kind)
-  clean_on op may n within kind = inl (ap kind_of (untouched sizes by core op found may (ENTRY (slot_of_entry sizes n)) refl) ∙ kind)
-
-  done_on : (op : Op) → FoundEnabledByKind sizes by core op found → (n : ℕ) → InWindow core n → (after_step sizes by op found core).words TAIL ≤ n → IsDone sizes core n → IsDone sizes (after_step sizes by op found core) n
-  done_on op may n within low (inl kind) = elim (clean_on op may n within kind) [
-    | inl on ↦ inl on
-    | inr e ↦ inr (subst (λ d. (m : ℕ) × IsFreed ((after_step sizes by d found core).passes m).control n) (sym e) (frees_now sizes first by core found sound n (subst (λ d. FoundEnabledByKind sizes by core d found) e may)))
-  ]
-  done_on op may n within low (inr freed) = inr (freed_still sizes first by core found sound op may n low freed)
-
   -- ---- all of it
 
   pub retired_step : (op : Op) → FoundEnabledByKind sizes by core op found → Retired sizes tails (log_stepped sizes (core.passes by) op found log) (after_step sizes by op found core)
@@ -233,17 +199,13 @@ module _ (sizes : Sizes) (first : Values) (tails : Tails) (log : Log) (by : ℕ)
     ];
     same = retired.same;
     order = retired.order;
-    high = let a = retired.high in let b = rises.0 in omega (arith, a, b);
+    below = λ cleaner there. let b = retired.below cleaner there in let p = prog_rises op may cleaner in omega (arith, b, p);
     leads = λ tail which within. elim (cases_lt tail (core.words HEAD)) [
       | inl less ↦ ap (λ (g : Group). g.first) (group_stays op may tail less) ∙ retired.leads tail which (let l = within.0 in let t = tail_rises op may in omega (arith, l, t), less)
       | inr more ↦
-          let top : tail ≡ core.words HEAD = let o = retired.order in let h = retired.high in elim which [ inl e ↦ omega (arith, e, o, h, more) | inr e ↦ omega (arith, e, h, more) ] in
+          let top : tail ≡ core.words HEAD = let o = retired.order in let h = next_high sizes first tails log core sound retired in elim which [ inl e ↦ omega (arith, e, o, h, more) | inr e ↦ omega (arith, e, h, more) ] in
           subst (λ m. (log_now.group m).first ≡ m) (sym top) (rises.1 (let h = within.1 in omega (arith, h, top)))
     ];
-    done = λ n within less.
-        let h = retired.high in
-        let before : InWindow core n = (let l = within.0 in let t = tail_rises op may in omega (arith, l, t), omega (arith, less, h)) in
-        done_on op may n before within.0 (retired.done n before less);
   }
     where
       here : ℕ
@@ -283,11 +245,6 @@ retired_begin sizes tails log by core call may retired = record {
   ];
   same = retired.same;
   order = retired.order;
-  high = retired.high;
+  below = retired.below;
   leads = retired.leads;
-  done = λ n within less. begun_done n (retired.done n within less);
 }
-  where
-    begun_done : (n : ℕ) → IsDone sizes core n → IsDone sizes (after_begin sizes by call core) n
-    begun_done n (inl kind) = inl kind
-    begun_done n (inr freed) = inr (freed.0, freed_on sizes core by (begun sizes call (core.passes by)) (subst FreesNone (sym may.idle) (λ _ z. z)) (begun_none sizes call (core.passes by)) n freed.0 freed.1)

@@ -33,8 +33,7 @@ use Rattle.nv_core.specs.invariant.LogWindow.{HasUnseized, Fills, InWindow, WasR
 use Rattle.nv_core.specs.log.Groups.{Group, Log, group_of, with_group, log_stepped, log_worked, calls_after, HasGroup, IsGrouped, IsOwn, Groups}
 use Rattle.nv_core.specs.log.Written.{IsPart, AreParts, CommitsNone, IsWritten, commit_length, HasCalls, IsBlankEntry, Written}
 use Rattle.nv_core.specs.log.Tails.{Tails, still, tails_moved, tails_worked}
-use Rattle.nv_core.specs.log.Progress.{IsBatchUnderWay}
-use Rattle.nv_core.specs.log.Retiring.{TailsAt, IsDone, Retired}
+use Rattle.nv_core.specs.log.Retiring.{TailsAt, Retired}
 use Rattle.nv_core.specs.invariant.Sound.{Sound}
 use Rattle.nv_core.proofs.state.Changes.{by_number, by_word, number_here, number_else, word_here, word_else, differ}
 use Rattle.nv_core.proofs.state.Choices.{if_both, not_both, when_true, when_false, busy}
@@ -43,7 +42,7 @@ use Rattle.nv_core.proofs.invariant.LockLaws.{only_holder}
 use Rattle.nv_core.proofs.steps.WordLaws.{untouched, touches}
 use Rattle.nv_core.proofs.invariant.OwnershipSteps.{few_entries, apart_in}
 use Rattle.nv_core.proofs.steps.CleanerControls.{of_cleaner_worked}
-use Rattle.nv_core.proofs.steps.CleanerOps.{IsAtFree, frees_hand, retires_hand, sole_cleaner}
+use Rattle.nv_core.proofs.steps.CleanerOps.{IsAtFree, frees_hand, retires_hand}
 use Rattle.nv_core.proofs.log.CleanerReadied.{cleaned_was, cleaner_hold_rekind, cleaner_return_rekind, cleans_rekind}
 use Rattle.nv_core.proofs.log.ReadiedLaws.{freed_after, readied_before, begun_before, worked_before}
 use Rattle.nv_core.specs.log.LogLaws.{LogLaws}
@@ -53,6 +52,7 @@ use Rattle.nv_core.proofs.invariant.WindowLaws.{apart_within}
 use Rattle.nv_core.proofs.log.DrawLaws.{drawn_group, lost_head, won_draw}
 use Rattle.nv_core.proofs.log.KeepsGroups.{is_draw}
 use Rattle.nv_core.proofs.log.RowParts.{row_within}
+use Rattle.nv_core.proofs.log.TailLaws.{tail_above, tail_within}
 use Rattle.nv_core.proofs.log.WrittenLaws.{part_now, part_stepped, part_worked, part_called, value_called, value_not_called, steps_of, written_same, written_more, written_later, blank_later, told_on}
 use Rattle.nv_core.proofs.log.Rekinded.{IsRekinded, holds_rekind, returns_rekind}
 
@@ -189,11 +189,11 @@ freed_blank laws sizes first tails log by core found next sound groups retired w
     inside : InWindow core (log.group next).first
     inside = let l = among.0 in let h = hand.within.1 in (grouped.low, omega (arith, l, h))
 
-    least : tails.least ≡ hand.batch.reached
+    least : tails.least ≡ hand.batch.least
     least = (subst (TailsAt tails) hand.control (retired.at by)).0
 
     foot : hand.batch.tail ≡ core.words TAIL
-    foot = (sound.grouped.progress.each by hand.batch (FreeEntry next) hand.control tt).tail
+    foot = (sound.grouped.progress.retires by hand.batch (FreeEntry next) hand.control).tail tt
 
     readied : WasReadied sizes core (log.group next).first
     readied = elim (cases_lt (log.group next).first next) [
@@ -463,28 +463,6 @@ part_else_work pass work values cell is ne slot part told = subst (λ v. IsPart 
     ∙ ap (λ c. with_value values c (called work.job work.ending (values c)) (ENTRY slot)) is
     ∙ word_else values cell (called work.job work.ending (values cell)) (ENTRY slot) (ne slot))) told
 
--- a tail that is moved ends above the one before, and no higher than HEAD
-module _ (sizes : Sizes) (first : Values) (tails : Tails) (log : Log) (by : ℕ) (core : Core) (sound : Sound sizes first core) (retired : Retired sizes tails log core) (batch : Batch) (calls : ℕ) (at : (core.passes by).control ≡ Cleaning batch (MoveHeaderTail calls)) where
-  pub moving_way : IsBatchUnderWay sizes sound.grouped.log core batch (MoveHeaderTail calls)
-  moving_way = sound.grouped.progress.each by batch (MoveHeaderTail calls) at tt
-
-  -- the next number behind what is cleaned is neither cleaned nor freed
-  not_done : InWindow core batch.reached → IsDone sizes core batch.reached → ⊥
-  not_done within (inl kind) = let own = sound.grouped.progress.own by batch (MoveHeaderTail calls) at tt batch.reached within kind in let h = own.1 in omega (arith, h)
-  not_done within (inr freed) = elim (cases_eq freed.0 by) [
-    | inl same ↦ subst (λ s. IsFreed s batch.reached) (subst (λ m. (core.passes m).control ≡ Cleaning batch (MoveHeaderTail calls)) (sym same) at) freed.1
-    | inr ne ↦ (sole_cleaner sizes first core sound by batch (MoveHeaderTail calls) at tt freed.0 ne batch.reached).0 freed.1
-  ]
-
-  pub tail_above : tails.least ≤ batch.reached
-  tail_above = elim (cases_lt batch.reached tails.least) [
-    | inl less ↦ absurd (
-        let o = retired.order in let h = retired.high in let l = moving_way.low in let t = moving_way.tail in
-        let within : InWindow core batch.reached = (omega (arith, l, t), omega (arith, less, o, h)) in
-        not_done within (retired.done batch.reached within (omega (arith, less, o))))
-    | inr more ↦ more
-  ]
-
 later_tail : (sizes : Sizes) (tail next : ℕ) (log : Log) (core : Core) → tail ≤ next → next ≤ core.words HEAD → Written sizes tail log core → Written sizes next log core
 later_tail sizes tail next log core less high written = record {
   groups = λ n is leads. written_later sizes core.values tail next (log.group n).call n (log.calls n) less (written.groups n is leads);
@@ -531,7 +509,7 @@ written_work sizes first tails log by core work sound groups retired written may
     cleaners batch (WriteBack i) at due = at_store (group_file sizes batch) due.cell (here (Cleaning batch (WriteBack i)) at (cleaner_calls batch (WriteBack i) work.ending))
     cleaners batch (SyncStores (file ∷ rest)) at due = at_store file due.0 (here (Cleaning batch (SyncStores (file ∷ rest))) at (cleaner_calls batch (SyncStores (file ∷ rest)) work.ending))
     cleaners batch (MoveHeaderTail calls) at due =
-        moved_tail sizes log (after_work sizes by work core) work.ending batch.reached (calls + 1) tails (tail_above sizes first tails log by core sound retired batch calls at) (moving_way sizes first tails log by core sound retired batch calls at).high
+        moved_tail sizes log (after_work sizes by work core) work.ending batch.least (calls + 1) tails (tail_above sizes first tails log core sound retired by batch calls at) (tail_within sizes first tails log core sound retired by batch calls at)
         (kept_work sizes tails.least log by core work may (part_else_work (core.passes by) work core.values HEADER due.cell (λ slot. differ (ENTRY slot) HEADER refl)) (here (Cleaning batch (MoveHeaderTail calls)) at (cleaner_calls batch (MoveHeaderTail calls) work.ending)) written)
     cleaners batch inner at due = absurd due
 

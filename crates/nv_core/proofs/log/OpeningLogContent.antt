@@ -10,7 +10,7 @@ use Rattle.nv_pmem.specs.Laws.{QuietPartHasOneImage}
 use Rattle.nv_pmem.specs.Runs as runs
 use Rattle.nv_header.specs.Laws.{after_some_tail}
 use Rattle.nv_store.specs.Store.{Store}
-use Rattle.nv_core.specs.state.Words.{Sizes, HEAD, TAIL, HEADER, STORE, ENTRY}
+use Rattle.nv_core.specs.state.Words.{Sizes, HEAD, TAIL, HEADER, STORE, ENTRY, PROG}
 use Rattle.nv_core.specs.state.Values.{Value, Bare, APart, AStore, ABuffer}
 use Rattle.nv_core.specs.steps.Order.{Values}
 use Rattle.nv_core.specs.steps.Opening.{opening}
@@ -104,27 +104,35 @@ module _ (sizes : Sizes) (log : Log) (placed : ℕ → Bool) (core : Core) (empt
   no_cleaner : (by : ℕ) (batch : Batch) (inner : CleanerControl) → (core.passes by).control ≡ Cleaning batch inner → ⊥
   no_cleaner by batch inner e = subst IsIdle (sym (idle by) ∙ e) tt
 
-  pub progress_opening : Progress sizes log core
-  progress_opening = record {
-    each = λ by batch inner e. absurd (no_cleaner by batch inner e);
-    head = λ by batch inner e. absurd (no_cleaner by batch inner e);
-    fresh = λ by batch inner e. absurd (no_cleaner by batch inner e);
-    own = λ by batch inner e. absurd (no_cleaner by batch inner e);
-    set_stop = λ by batch inner e. absurd (no_cleaner by batch inner e);
-  }
+  -- no cleaner has cleaned anything
+  module _ (progs : (cleaner : ℕ) → core.words (PROG cleaner) ≡ core.words HEAD) where
+    pub progress_opening : Progress sizes log core
+    progress_opening = record {
+      low = λ cleaner there. let p = progs cleaner in omega (arith, p, empty);
+      high = λ cleaner there. let p = progs cleaner in omega (arith, p);
+      leads = λ cleaner there is. absurd (none_within (core.words (PROG cleaner)) is);
+      done = λ n is. absurd (none_within n is);
+      fresh = λ by batch inner e. absurd (no_cleaner by batch inner e);
+      each = λ by batch inner e. absurd (no_cleaner by batch inner e);
+      retires = λ by batch inner e. absurd (no_cleaner by batch inner e);
+      head = λ by batch inner e. absurd (no_cleaner by batch inner e);
+      cleaned_is = λ by batch inner e. absurd (no_cleaner by batch inner e);
+      own = λ by batch inner e. absurd (no_cleaner by batch inner e);
+      unheld = λ n is. absurd (none_within n is);
+      set_stop = λ by batch inner e. absurd (no_cleaner by batch inner e);
+    }
 
-  pub retired_opening : (tail : ℕ) → tail ≤ core.words HEAD → Retired sizes (still tail) log core
-  retired_opening tail low = record {
-    written = λ by n is. absurd (subst (λ s. IsWrittenBack s n) (idle by) is);
-    synced = λ by file store is. absurd (subst (λ s. IsSynced s file) (idle by) is);
-    at = λ by. subst (TailsAt (still tail)) (sym (idle by)) tt;
-    begun = λ some. absurd (some refl);
-    same = λ none. refl;
-    order = omega arith;
-    high = low;
-    leads = λ t which is. absurd (none_within t is);
-    done = λ n is. absurd (none_within n is);
-  }
+    pub retired_opening : (tail : ℕ) → tail ≤ core.words HEAD → Retired sizes (still tail) log core
+    retired_opening tail low = record {
+      written = λ by n is. absurd (subst (λ s. IsWrittenBack s n) (idle by) is);
+      synced = λ by file store is. absurd (subst (λ s. IsSynced s file) (idle by) is);
+      at = λ by. subst (TailsAt (still tail)) (sym (idle by)) tt;
+      begun = λ some. absurd (some refl);
+      same = λ none. refl;
+      order = omega arith;
+      below = λ cleaner there. let p = progs cleaner in omega (arith, p, low);
+      leads = λ t which is. absurd (none_within t is);
+    }
 
 -- ---- a mount's files and header
 
@@ -175,8 +183,8 @@ opening_has_the_log one_image mount files tail log placed opens has = record {
   flight = flight_opening mount.sizes log placed (opening mount) refl (λ n. refl);
   unready = unready_opening mount.sizes log placed (opening mount) refl (λ n. refl);
   live = subst (λ f. LivePieces mount.sizes log f (opening mount)) (files_are mount.sizes mount.values files has) (live_opening mount.sizes log placed (opening mount) refl (λ n. refl) refl);
-  progress = progress_opening mount.sizes log placed (opening mount) refl (λ n. refl);
-  retired = retired_opening mount.sizes log placed (opening mount) refl (λ n. refl) tail opens.low;
+  progress = progress_opening mount.sizes log placed (opening mount) refl (λ n. refl) (λ cleaner. refl);
+  retired = retired_opening mount.sizes log placed (opening mount) refl (λ n. refl) (λ cleaner. refl) tail opens.low;
   leaders = leaders_opening mount.sizes log placed (opening mount) refl (λ n. refl);
   faults = record { each = λ by fault is. absurd is };
   tell = has.tell;

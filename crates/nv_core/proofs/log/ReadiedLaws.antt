@@ -43,14 +43,14 @@ module _ (sizes : Sizes) (pass : Pass) (owned : List Word) (found number : ℕ) 
     | inl old ↦ inl old
     | inr at ↦ inr (same_cleaner_op cleaner_op (Free number) (sym may ∙ ap (next_cleaner_op sizes pass.owned batch) at))
   ]
-  cleaner_step_freed (TakeCleaner most) Idle may is = absurd (if_both FreesNone (found == 0) (Cleaning (new_batch most) TakeHeader) Idle (λ _ _ z. z) (λ _ _ z. z) number is)
+  cleaner_step_freed (TakeCleaner who most) Idle may is = absurd (if_both FreesNone (found == 0) (Cleaning (new_batch who most) cleaner.LoadStop) Idle (λ _ _ z. z) (λ _ _ z. z) number is)
   cleaner_step_freed cleaner_op control may is = absurd may
 
   -- and what was freed is so after it, till TAIL moves past it
   cleaner_step_still : (cleaner_op : CleanerOp) (control : Control) → CleanerEnabled sizes pass cleaner_op control → IsFreed control number → IsFreed (after_by_cleaner sizes owned cleaner_op found control) number ⊎ ((tail : ℕ) × (cleaner_op ≡ MoveTail tail) × (number < tail))
   cleaner_step_still cleaner_op (Cleaning batch inner) may is = elim (still_of_cleaner sizes owned batch inner found number is) [
     | inl on ↦ inl on
-    | inr at ↦ inr (batch.reached, same_cleaner_op cleaner_op (MoveTail batch.reached) (sym may ∙ ap (next_cleaner_op sizes pass.owned batch) at.0), at.1)
+    | inr at ↦ inr (batch.least, same_cleaner_op cleaner_op (MoveTail batch.least) (sym may ∙ ap (next_cleaner_op sizes pass.owned batch) at.0), at.1)
   ]
   cleaner_step_still cleaner_op control may is = absurd is
 
@@ -60,7 +60,7 @@ module _ (sizes : Sizes) (first : Values) (by : ℕ) (core : Core) (found : ℕ)
   freed_here Split may n is = absurd is
   freed_here (PutBack cell) may n is = inl is
   freed_here (Join number) may n is = inl is
-  freed_here op may n is = absurd ((at_call_unswept (control_after sizes (core.passes by) op found) (to_call sizes (core.passes by) op found tt (at_call sizes core.values (core.passes by) op tt may.may)) n).0 is)
+  freed_here op may n is = absurd ((at_call_unswept (control_after sizes (core.passes by) op found) (to_call sizes (core.passes by) op found tt (at_call sizes core.values (core.passes by) op tt may.may)) n) is)
 
   pub freed_after : (op : Op) → FoundEnabledByKind sizes by core op found → (n m : ℕ) → IsFreed ((after_step sizes by op found core).passes m).control n → ((m : ℕ) × IsFreed (core.passes m).control n) ⊎ (op ≡ ByCleaner (Free n))
   freed_after op may n = by_number (λ m (p : Pass). IsFreed p.control n → ((m : ℕ) × IsFreed (core.passes m).control n) ⊎ (op ≡ ByCleaner (Free n))) core.passes (changes by core.made op) (changed_pass sizes by core op found)
@@ -76,7 +76,7 @@ module _ (sizes : Sizes) (first : Values) (by : ℕ) (core : Core) (found : ℕ)
   still_here Split may n low is = absurd (subst (λ s. IsFreed s n) (sound.numbers.unborn (core.made + 1) (omega arith)).idle is)
   still_here (PutBack cell) may n low is = is
   still_here (Join number) may n low is = is
-  still_here op may n low is = absurd ((at_call_unswept (core.passes by).control (at_call sizes core.values (core.passes by) op tt may.may) n).0 is)
+  still_here op may n low is = absurd (at_call_unswept (core.passes by).control (at_call sizes core.values (core.passes by) op tt may.may) n is)
 
   pub freed_still : (op : Op) → FoundEnabledByKind sizes by core op found → (n : ℕ) → (after_step sizes by op found core).words TAIL ≤ n → (m : ℕ) × IsFreed (core.passes m).control n → (m : ℕ) × IsFreed ((after_step sizes by op found core).passes m).control n
   freed_still op may n low freed = elim (cases_eq freed.0 (changes by core.made op)) [

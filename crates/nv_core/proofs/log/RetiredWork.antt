@@ -8,21 +8,22 @@ use Rattle.std.proofs.lemmas.List.{length-set, get_or_past, get_or-replicate, le
 use Rattle.std.proofs.lemmas.List.FromFn.{length-map-range_with_len}
 use Rattle.nv_plain.specs.declared.call.FileCall.{FileCall}
 use Rattle.nv_plain.specs.declared.call.FileCall.TheVariants.{Write}
-use Rattle.nv_plain.specs.Files.{contents_of, overwritten}
+use Rattle.nv_plain.specs.Files.{Files, contents_of, with_contents, overwritten}
+use Rattle.nv_plain.specs.Pieces.{piece_of, piece_bytes}
 use Rattle.nv_plain.specs.Calls.{files_after}
 use Rattle.nv_pmem.specs.Steps.{LineStep}
 use Rattle.nv_store.specs.Store.{Store, IsQuietStore, quiet_store}
 use Rattle.nv_store.specs.Steps.{Write as StoreWrite, Sync, after_store_step}
 use Rattle.nv_header.specs.HeaderSteps.{tail_steps}
-use Rattle.nv_core.specs.state.Words.{Sizes, Word, STORE, index}
+use Rattle.nv_core.specs.state.Words.{Sizes, Word, STORE, ENTRY, index}
 use Rattle.nv_core.specs.state.Spares.{Spares}
 use Rattle.nv_core.specs.state.Values.{Value, Bare, APart, AStore, ABuffer, Job, PartStep, PieceWrite, StoreSync, CallEnding, Made, Failed, Refused, called}
-use Rattle.nv_core.specs.state.Cleaner.{Batch, CleanerControl, WriteBack, CleanEntry, SyncStores, MoveHeaderTail, FreeEntry}
+use Rattle.nv_core.specs.state.Cleaner.{Batch, CleanerControl, WriteBack, CleanEntry, SyncStores, AdvanceProgress, LoadTail, LoadEachProgress, MoveHeaderTail, FreeEntry, AdvanceTail, GiveHeader}
 use Rattle.nv_core.specs.state.Cleaner as cleaner
 use Rattle.nv_core.specs.steps.CleanerSteps.{after_cleaner_work, syncing, group_file, holds_store}
-use Rattle.nv_core.specs.invariant.CleanerOwnership.{count_in}
-use Rattle.nv_core.specs.invariant.CleanerNumbers.{IsCleaned}
-use Rattle.nv_core.specs.state.Passes.{Control, CommitGroup, PledgePage, ReadStore, ReadPiece, Cleaning, Pass, first_page, file_of, at_of}
+use Rattle.nv_core.specs.invariant.CleanerOwnership.{count_in, of_cleaner_header, of_cleaner_store}
+use Rattle.nv_core.specs.invariant.Ownership.{HoldsLocks}
+use Rattle.nv_core.specs.state.Passes.{Control, CommitGroup, PledgePage, ReadStore, ReadPiece, Cleaning, Pass, times, first_page, file_of, at_of}
 use Rattle.nv_core.specs.steps.Order.{Values, Work, CallEnabled, CallMayLeave, CallDue, CleanerCallDue, IsPieceWrite, IsTailCall, commit_steps}
 use Rattle.nv_core.specs.state.Core.{Core, with_value, after_work, worked, control_worked, values_worked}
 use Rattle.nv_core.specs.invariant.ControlFacts.{FactsAt}
@@ -34,11 +35,11 @@ use Rattle.nv_core.specs.log.LivePieces.{piece_call, piece_write, told_bytes, st
 use Rattle.nv_core.specs.crash.CommutingWrites.{Commute}
 use Rattle.nv_core.specs.log.Tails.{Tails, still, tails_moved, tails_worked}
 use Rattle.nv_core.specs.log.Written.{Written}
-use Rattle.nv_core.specs.log.Progress.{IsBatchUnderWay, Progress}
+use Rattle.nv_core.specs.log.Progress.{HasLoadedProgress, HasWholeGroup, IsBatchUnderWay, Progress}
 use Rattle.nv_core.specs.invariant.Rooms.{IsMoving}
-use Rattle.nv_core.specs.log.Retiring.{IsWrittenBack, IsSynced, TailsAt, IsDone, Retired}
+use Rattle.nv_core.specs.log.Retiring.{IsWrittenBack, IsSynced, TailsAt, Retired}
 use Rattle.nv_core.specs.invariant.Sound.{Sound}
-use Rattle.nv_core.proofs.state.Changes.{by_number, number_here, word_here, word_else}
+use Rattle.nv_core.proofs.state.Changes.{by_number, number_here, word_here, word_else, differ}
 use Rattle.nv_core.proofs.state.Choices.{if_both, when_true, when_false}
 use Rattle.nv_core.specs.content.PlainLaws.{PlainLaws}
 use Rattle.nv_core.specs.log.LogLaws.{LogLaws}
@@ -50,11 +51,12 @@ use Rattle.nv_core.proofs.log.StoreLaws.{DiffersIn, write_differs, stores_agree,
 use Rattle.nv_core.proofs.content.FileLaws.{contents_else, contents_here}
 use Rattle.nv_core.proofs.log.KeepsStores.{work_store, stores_work, keeps_stores}
 use Rattle.nv_core.proofs.log.KeepsGroups.{log_group}
-use Rattle.nv_core.proofs.log.CleanerGoes.{IsSweeping, one_cleaner, of_group}
-use Rattle.nv_core.proofs.log.ReadiedLaws.{freed_on, due_none, worked_none}
+use Rattle.nv_core.proofs.invariant.LockLaws.{only_holder}
+use Rattle.nv_core.proofs.steps.CleanerOps.{one_header}
+use Rattle.nv_core.proofs.log.CleanerGoes.{IsSweeping, sweeping_holds, group_file_is, of_group}
 use Rattle.nv_core.proofs.log.CleanerRetired.{KeepsOn}
 use Rattle.nv_core.proofs.log.WrittenBackPieces.{written_back_piece}
-use Rattle.nv_core.proofs.log.KeepsWritten.{tail_above, moving_way}
+use Rattle.nv_core.proofs.log.TailLaws.{tail_above}
 use Rattle.nv_core.proofs.log.KeepsRetired.{call_keeps}
 use Rattle.nv_core.proofs.log.KeepsLive.{stores_same}
 
@@ -92,6 +94,16 @@ synced_quiet (ABuffer buffer) store is = absurd cc
 synced_reads : (told : Option Store) → told_bytes (option_map (after_store_step Sync) told) ≡ told_bytes told
 synced_reads (Some store) = refl
 synced_reads None = refl
+
+-- and one that was quiet is so after any sync
+sync_quiet : (how : CallEnding) (value : Value) (store : Store) → ((before : Store) → store_of_value value ≡ Some before → IsQuietStore before) → store_of_value (called StoreSync how value) ≡ Some store → IsQuietStore store
+sync_quiet Made value store was is = synced_quiet value store is
+sync_quiet (Failed true faults) (AStore device) store was is = synced_told device.told store is
+sync_quiet (Failed false faults) (AStore device) store was is = was store is
+sync_quiet Refused (AStore device) store was is = was store is
+sync_quiet how Bare store was is = absurd cc
+sync_quiet how (APart device spares) store was is = absurd cc
+sync_quiet how (ABuffer buffer) store was is = absurd cc
 
 sync_reads : (how : CallEnding) (value : Value) → store_bytes (called StoreSync how value) ≡ store_bytes value
 sync_reads Made (AStore device) = synced_reads device.told
@@ -142,6 +154,31 @@ written_again plain sizes old new file at bytes low here others =
     (λ i l h. inl (refl, l, h)))
     ∙ sym (written_files sizes old new file at bytes low here others)
 
+-- a piece whose writing changes nothing is so still where its file stays
+with_same : (files : Files) (file : ℕ) (bytes : List ℕ) → file < length files.contents → bytes ≡ contents_of files file → with_contents files file bytes ≡ files
+with_same files file bytes there same = ap (λ c. record { contents = c })
+    (ext_get_or [] (with_contents files file bytes).contents files.contents (length-set files.contents file bytes) (λ k less. elim (cases_eq k file) [
+      | inl e ↦ subst (λ f. contents_of (with_contents files file bytes) f ≡ contents_of files f) (sym e) (contents_here files file bytes there ∙ same)
+      | inr ne ↦ contents_else files file k bytes ne
+    ]))
+
+written_elsewhere : (sizes : Sizes) (old new : Values) (call : FileCall) (i : ℕ) → file_of call < sizes.files → store_bytes (new (STORE (file_of call))) ≡ store_bytes (old (STORE (file_of call)))
+    → files_after (piece_write sizes call i) (store_files sizes old) ≡ store_files sizes old → files_after (piece_write sizes call i) (store_files sizes new) ≡ store_files sizes new
+written_elsewhere sizes old new (Write file at bytes) i low same none = go (piece_of at (length bytes) sizes.page i).at (piece_bytes bytes (piece_of at (length bytes) sizes.page i)) none
+  where
+    count : (values : Values) → length (store_files sizes values).contents ≡ sizes.files
+    count values = length-map-range_with_len (λ f. store_bytes (values (STORE f))) 0 sizes.files
+
+    alike : contents_of (store_files sizes new) file ≡ contents_of (store_files sizes old) file
+    alike = contents_is sizes new file low ∙ same ∙ sym (contents_is sizes old file low)
+
+    go : (at : ℕ) (bytes : List ℕ) → files_after (Write file at bytes) (store_files sizes old) ≡ store_files sizes old → files_after (Write file at bytes) (store_files sizes new) ≡ store_files sizes new
+    go at bytes none = with_same (store_files sizes new) file (overwritten (contents_of (store_files sizes new) file) at bytes) (let c = count new in omega (arith, c, low))
+        (ap (λ b. overwritten b at bytes) alike
+        ∙ sym (contents_here (store_files sizes old) file (overwritten (contents_of (store_files sizes old) file) at bytes) (let c = count old in omega (arith, c, low)))
+        ∙ ap (λ f. contents_of f file) none ∙ sym alike)
+written_elsewhere sizes old new call i low same none = refl
+
 -- two pieces of one write are apart
 own_apart : (sizes : Sizes) (call : FileCall) (low high : ℕ) → 1 ≤ sizes.page → low < high → Commute (piece_write sizes call high) (piece_write sizes call low)
 own_apart sizes call low high some less =
@@ -177,10 +214,10 @@ called_on sizes values tails pass work Refused (ReadPiece page number) due at = 
 called_on sizes values tails pass work how (Cleaning batch inner) due at = absurd at
 called_on sizes values tails pass work how control due at = absurd due
 
-peeked_on : (tails : Tails) (batch : Batch) (i : ℕ) (how : CallEnding) → tails.calls ≡ 0 → KeepsOn tails (Cleaning batch (cleaner.ReadPiece i)) (after_cleaner_work batch how (cleaner.ReadPiece i))
-peeked_on tails batch i Made at = record { back = λ _ z. z; synced = λ _ z. z; at = at }
-peeked_on tails batch i (Failed came faults) at = record { back = λ _ z. absurd z; synced = λ _ z. z; at = tt }
-peeked_on tails batch i Refused at = record { back = λ _ z. z; synced = λ _ z. z; at = at }
+peeked_on : (tails : Tails) (batch : Batch) (i : ℕ) (how : CallEnding) → KeepsOn tails (Cleaning batch (cleaner.ReadPiece i)) (after_cleaner_work batch how (cleaner.ReadPiece i))
+peeked_on tails batch i Made = record { back = λ _ z. z; synced = λ _ z. z; at = tt }
+peeked_on tails batch i (Failed came faults) = record { back = λ _ z. absurd z; synced = λ _ z. z; at = tt }
+peeked_on tails batch i Refused = record { back = λ _ z. z; synced = λ _ z. z; at = tt }
 
 module _ (laws : LogLaws) (plain : PlainLaws) (sizes : Sizes) (first : Values) (tails : Tails) (log : Log) (by : ℕ) (core : Core) (work : Work) (page_some : 1 ≤ sizes.page)
     (sound : Sound sizes first core) (groups : Groups sizes core log) (pieces : Pieces sizes log core) (progress : Progress sizes log core) (written : Written sizes tails.least log core) (tell : StoresTell sizes core.values)
@@ -193,14 +230,6 @@ module _ (laws : LogLaws) (plain : PlainLaws) (sizes : Sizes) (first : Values) (
 
   same_group : (n : ℕ) → log_now.group n ≡ log.group n
   same_group n = ap (λ (g : ℕ → Group). g n) (log_group (core.passes by) work.ending (core.passes by).control log)
-
-  done_now : (n : ℕ) → IsDone sizes core n → IsDone sizes now n
-  done_now n (inl kind) = inl kind
-  done_now n (inr freed) = inr (
-    freed.0,
-    freed_on sizes core by (worked sizes work (core.passes by)) (due_none sizes core.values (core.passes by) work (core.passes by).control may.due)
-        (worked_none sizes core.values (core.passes by) work work.ending (core.passes by).control may.due) n freed.0 freed.1,
-  )
 
   -- what is written back then, by which pass
   abbrev BackNow : Type 0
@@ -220,27 +249,23 @@ module _ (laws : LogLaws) (plain : PlainLaws) (sizes : Sizes) (first : Values) (
     ];
     same = retired.same;
     order = retired.order;
-    high = retired.high;
+    below = retired.below;
     leads = λ tail which within. ap (λ (g : Group). g.first) (same_group tail) ∙ retired.leads tail which within;
-    done = λ n within less. done_now n (retired.done n within less);
   }
 
-  -- no other pass is at a batch
-  module _ (batch : Batch) (inner : CleanerControl) (at : (core.passes by).control ≡ Cleaning batch inner) (is_sweeping : IsSweeping inner) (m : ℕ) (ne : m ≢ by) where
+  -- no other pass has found STOP at 0 under HEADER, while one that has it moves the tail
+  module _ (batch : Batch) (inner : CleanerControl) (at : (core.passes by).control ≡ Cleaning batch inner) (header : of_cleaner_header inner ≡ 1) (m : ℕ) (ne : m ≢ by) where
+    no_other : (b : Batch) (s : CleanerControl) → (core.passes m).control ≡ Cleaning b s → of_cleaner_header s ≡ 1 → ⊥
+    no_other b s e is = ne (one_header sizes first core sound m by b batch s inner e at is header)
+
     other_at : (next : Tails) (control : Control) → (core.passes m).control ≡ control → TailsAt next control
-    other_at next (Cleaning b cleaner.GiveBack) e = tt
-    other_at next (Cleaning b s) e = absurd (ne (one_cleaner sizes first core sound m by b batch s inner e at tt is_sweeping))
+    other_at next (Cleaning b LoadTail) e = absurd (no_other b LoadTail e refl)
+    other_at next (Cleaning b (LoadEachProgress who)) e = absurd (no_other b (LoadEachProgress who) e refl)
+    other_at next (Cleaning b (MoveHeaderTail calls)) e = absurd (no_other b (MoveHeaderTail calls) e refl)
+    other_at next (Cleaning b (FreeEntry number)) e = absurd (no_other b (FreeEntry number) e refl)
+    other_at next (Cleaning b AdvanceTail) e = absurd (no_other b AdvanceTail e refl)
+    other_at next (Cleaning b GiveHeader) e = absurd (no_other b GiveHeader e refl)
     other_at next control e = tt
-
-    other_back : (n : ℕ) (control : Control) → (core.passes m).control ≡ control → IsWrittenBack control n → ⊥
-    other_back n (Cleaning b cleaner.GiveBack) e is = is
-    other_back n (Cleaning b s) e is = ne (one_cleaner sizes first core sound m by b batch s inner e at tt is_sweeping)
-    other_back n control e is = is
-
-    other_synced : (file : ℕ) (control : Control) → (core.passes m).control ≡ control → IsSynced control file → ⊥
-    other_synced file (Cleaning b cleaner.GiveBack) e is = is
-    other_synced file (Cleaning b s) e is = ne (one_cleaner sizes first core sound m by b batch s inner e at tt is_sweeping)
-    other_synced file control e is = is
 
   -- ---- a call that leaves what stores tell
 
@@ -278,21 +303,15 @@ module _ (laws : LogLaws) (plain : PlainLaws) (sizes : Sizes) (first : Values) (
 
   -- ---- the header's tail is moved
 
-  module _ (batch : Batch) (calls : ℕ) (at : (core.passes by).control ≡ Cleaning batch (MoveHeaderTail calls)) (due : IsTailCall batch.reached calls work) where
+  module _ (batch : Batch) (calls : ℕ) (at : (core.passes by).control ≡ Cleaning batch (MoveHeaderTail calls)) (due : IsTailCall batch.least calls work) where
     keeps_it : keeps_stores work.job ≡ true
     keeps_it = ap keeps_stores due.job
 
-    way_at : IsBatchUnderWay sizes sound.grouped.log core batch (MoveHeaderTail calls)
-    way_at = moving_way sizes first tails log by core sound retired batch calls at
+    -- the tail that it is moved to is a leader's number
+    least_leads : InWindow core batch.least → (log.group batch.least).first ≡ batch.least
+    least_leads = (progress.retires by batch (MoveHeaderTail calls) at).leads tt
 
-    -- the tail that it is moved to is a leader's number, and all below it is cleaned
-    reached_leads : InWindow core batch.reached → (log.group batch.reached).first ≡ batch.reached
-    reached_leads = (progress.each by batch (MoveHeaderTail calls) at tt).leads
-
-    reached_done : (n : ℕ) → InWindow core n → n < batch.reached → IsDone sizes core n
-    reached_done n within less = inl (sound.window.cleaned_is by n (subst (λ s. IsCleaned s n) (sym at) (let t = way_at.tail in let l = within.0 in omega (arith, t, l), omega (arith, less))))
-
-    build_moved : (next : Tails) → next.next ≡ batch.reached → (next.least ≡ tails.least) ⊎ (next.least ≡ batch.reached) → (next.calls ≢ 0 → IsMoving (worked sizes work (core.passes by)).control) → (next.calls ≡ 0 → next.next ≡ next.least)
+    build_moved : (next : Tails) → next.next ≡ batch.least → (next.least ≡ tails.least) ⊎ (next.least ≡ batch.least) → (next.calls ≢ 0 → IsMoving (worked sizes work (core.passes by)).control) → (next.calls ≡ 0 → next.next ≡ next.least)
         → ((n : ℕ) → IsWrittenBack (worked sizes work (core.passes by)).control n → ⊥) → ((file : ℕ) → IsSynced (worked sizes work (core.passes by)).control file → IsSynced (core.passes by).control file) → TailsAt next (worked sizes work (core.passes by)).control
         → Retired sizes next log_now now
     build_moved next to least moves same back synced stands = record {
@@ -301,21 +320,20 @@ module _ (laws : LogLaws) (plain : PlainLaws) (sizes : Sizes) (first : Values) (
           (λ n is. absurd (back n is)) (λ m ne n is. back_as keeps_it m n is) m n is);
       synced = by_number (λ m (p : Pass). (file : ℕ) (store : Store) → IsSynced p.control file → store_of_value (now.values (STORE file)) ≡ Some store → IsQuietStore store) core.passes by (worked sizes work (core.passes by))
           (λ file store is told. synced_as keeps_it by file store (synced file is) told) (λ m ne file store is told. synced_as keeps_it m file store is told);
-      at = by_number (λ m (p : Pass). TailsAt next p.control) core.passes by (worked sizes work (core.passes by)) stands (λ m ne. other_at batch (MoveHeaderTail calls) at tt m ne next (core.passes m).control refl);
+      at = by_number (λ m (p : Pass). TailsAt next p.control) core.passes by (worked sizes work (core.passes by)) stands (λ m ne. other_at batch (MoveHeaderTail calls) at refl m ne next (core.passes m).control refl);
       begun = λ some. inr (by, subst (λ (p : Pass). IsMoving p.control) (sym (number_here core.passes by (worked sizes work (core.passes by)))) (moves some));
       same = same;
-      order = let a = tail_above sizes first tails log by core sound retired batch calls at in elim least [ inl e ↦ omega (arith, e, to, a) | inr e ↦ omega (arith, e, to) ];
-      high = let h = way_at.high in omega (arith, to, h);
+      order = let a = tail_above sizes first tails log core sound retired by batch calls at in elim least [ inl e ↦ omega (arith, e, to, a) | inr e ↦ omega (arith, e, to) ];
+      below = λ cleaner there. let l = (sound.grouped.progress.retires by batch (MoveHeaderTail calls) at).least cleaner there tt in omega (arith, to, l);
       leads = λ tail which within. ap (λ (g : Group). g.first) (same_group tail) ∙ leads_now tail (elim which [
         | inl e ↦ elim least [ inl old ↦ inl (e ∙ old) | inr new ↦ inr (e ∙ new) ]
         | inr e ↦ inr (e ∙ to)
       ]) within;
-      done = λ n within less. done_now n (reached_done n within (omega (arith, less, to)));
     }
       where
-        leads_now : (tail : ℕ) → (tail ≡ tails.least) ⊎ (tail ≡ batch.reached) → InWindow core tail → (log.group tail).first ≡ tail
+        leads_now : (tail : ℕ) → (tail ≡ tails.least) ⊎ (tail ≡ batch.least) → InWindow core tail → (log.group tail).first ≡ tail
         leads_now tail (inl e) within = retired.leads tail (inl e) within
-        leads_now tail (inr e) within = subst (λ t. (log.group t).first ≡ t) (sym e) (reached_leads (subst (InWindow core) e within))
+        leads_now tail (inr e) within = subst (λ t. (log.group t).first ≡ t) (sym e) (least_leads (subst (InWindow core) e within))
 
     moved_work : Retired sizes (tails_worked work.ending (Cleaning batch (MoveHeaderTail calls)) tails) log_now now
     moved_work = go work.ending refl
@@ -323,31 +341,28 @@ module _ (laws : LogLaws) (plain : PlainLaws) (sizes : Sizes) (first : Values) (
         here : (how : CallEnding) → work.ending ≡ how → (P : Control → Type 0) → P (after_cleaner_work batch how (MoveHeaderTail calls)) → P (worked sizes work (core.passes by)).control
         here how e P is = of_cleaner_here batch (MoveHeaderTail calls) how at e P is
 
-        synced_at : (file : ℕ) → holds_store batch file ≡ true → IsSynced (core.passes by).control file
-        synced_at file is = subst (λ s. IsSynced s file) (sym at) is
-
-        last : (e : work.ending ≡ Made) → (b : Bool) → (calls + 1 == length (tail_steps batch.reached)) ≡ b → Retired sizes (tails_moved Made batch.reached (calls + 1) tails) log_now now
+        last : (e : work.ending ≡ Made) → (b : Bool) → (calls + 1 == length (tail_steps batch.least)) ≡ b → Retired sizes (tails_moved Made batch.least (calls + 1) tails) log_now now
         last e true all =
-            let to : after_cleaner_work batch Made (MoveHeaderTail calls) ≡ Cleaning batch (FreeEntry batch.tail) = when_true (calls + 1 == length (tail_steps batch.reached)) (Cleaning batch (FreeEntry batch.tail)) (Cleaning batch (MoveHeaderTail (calls + 1))) all in
-            subst (λ t. Retired sizes t log_now now) (sym (when_true (calls + 1 == length (tail_steps batch.reached)) (still batch.reached) (record { least = tails.least; next = batch.reached; calls = calls + 1 }) all))
-            (build_moved (still batch.reached) refl (inr refl) (λ some. absurd (some refl)) (λ _. refl)
+            let to : after_cleaner_work batch Made (MoveHeaderTail calls) ≡ Cleaning batch (FreeEntry batch.tail) = when_true (calls + 1 == length (tail_steps batch.least)) (Cleaning batch (FreeEntry batch.tail)) (Cleaning batch (MoveHeaderTail (calls + 1))) all in
+            subst (λ t. Retired sizes t log_now now) (sym (when_true (calls + 1 == length (tail_steps batch.least)) (still batch.least) (record { least = tails.least; next = batch.least; calls = calls + 1 }) all))
+            (build_moved (still batch.least) refl (inr refl) (λ some. absurd (some refl)) (λ _. refl)
             (here Made e (λ s. (n : ℕ) → IsWrittenBack s n → ⊥) (subst (λ s. (n : ℕ) → IsWrittenBack s n → ⊥) (sym to) (λ _ z. z)))
             (here Made e (λ s. (file : ℕ) → IsSynced s file → IsSynced (core.passes by).control file) (subst (λ s. (file : ℕ) → IsSynced s file → IsSynced (core.passes by).control file) (sym to) (λ _ z. absurd z)))
-            (here Made e (TailsAt (still batch.reached)) (subst (TailsAt (still batch.reached)) (sym to) (refl, refl))))
+            (here Made e (TailsAt (still batch.least)) (subst (TailsAt (still batch.least)) (sym to) (refl, refl))))
         last e false more =
-            let to : after_cleaner_work batch Made (MoveHeaderTail calls) ≡ Cleaning batch (MoveHeaderTail (suc calls)) = when_false (calls + 1 == length (tail_steps batch.reached)) (Cleaning batch (FreeEntry batch.tail)) (Cleaning batch (MoveHeaderTail (calls + 1))) more ∙ ap (λ c. Cleaning batch (MoveHeaderTail c)) (add-one calls) in
-            let next : Tails = record { least = tails.least; next = batch.reached; calls = calls + 1 } in
-            subst (λ t. Retired sizes t log_now now) (sym (when_false (calls + 1 == length (tail_steps batch.reached)) (still batch.reached) next more))
+            let to : after_cleaner_work batch Made (MoveHeaderTail calls) ≡ Cleaning batch (MoveHeaderTail (suc calls)) = when_false (calls + 1 == length (tail_steps batch.least)) (Cleaning batch (FreeEntry batch.tail)) (Cleaning batch (MoveHeaderTail (calls + 1))) more ∙ ap (λ c. Cleaning batch (MoveHeaderTail c)) (add-one calls) in
+            let next : Tails = record { least = tails.least; next = batch.least; calls = calls + 1 } in
+            subst (λ t. Retired sizes t log_now now) (sym (when_false (calls + 1 == length (tail_steps batch.least)) (still batch.least) next more))
             (build_moved next refl (inl refl) (λ _. here Made e IsMoving (subst IsMoving (sym to) tt)) (λ none. absurd (let z : calls + 1 ≡ 0 = none in omega (arith, z)))
             (here Made e (λ s. (n : ℕ) → IsWrittenBack s n → ⊥) (subst (λ s. (n : ℕ) → IsWrittenBack s n → ⊥) (sym to) (λ _ z. z)))
-            (here Made e (λ s. (file : ℕ) → IsSynced s file → IsSynced (core.passes by).control file) (subst (λ s. (file : ℕ) → IsSynced s file → IsSynced (core.passes by).control file) (sym to) synced_at))
+            (here Made e (λ s. (file : ℕ) → IsSynced s file → IsSynced (core.passes by).control file) (subst (λ s. (file : ℕ) → IsSynced s file → IsSynced (core.passes by).control file) (sym to) (λ _ z. absurd z)))
             (here Made e (TailsAt next) (subst (TailsAt next) (sym to) (refl, add-one calls))))
 
-        go : (how : CallEnding) → work.ending ≡ how → Retired sizes (tails_moved how batch.reached (calls + 1) tails) log_now now
-        go Made e = last e (calls + 1 == length (tail_steps batch.reached)) refl
-        go (Failed true faults) e = build_moved (record { least = tails.least; next = batch.reached; calls = calls + 1 }) refl (inl refl) (λ _. here (Failed true faults) e IsMoving tt) (λ none. absurd (let z : calls + 1 ≡ 0 = none in omega (arith, z)))
+        go : (how : CallEnding) → work.ending ≡ how → Retired sizes (tails_moved how batch.least (calls + 1) tails) log_now now
+        go Made e = last e (calls + 1 == length (tail_steps batch.least)) refl
+        go (Failed true faults) e = build_moved (record { least = tails.least; next = batch.least; calls = calls + 1 }) refl (inl refl) (λ _. here (Failed true faults) e IsMoving tt) (λ none. absurd (let z : calls + 1 ≡ 0 = none in omega (arith, z)))
             (here (Failed true faults) e (λ s. (n : ℕ) → IsWrittenBack s n → ⊥) (λ _ z. z)) (here (Failed true faults) e (λ s. (file : ℕ) → IsSynced s file → IsSynced (core.passes by).control file) (λ _ z. absurd z))
-            (here (Failed true faults) e (TailsAt (record { least = tails.least; next = batch.reached; calls = calls + 1 })) tt)
+            (here (Failed true faults) e (TailsAt (record { least = tails.least; next = batch.least; calls = calls + 1 })) tt)
         go (Failed false faults) e = still_work keeps_it
             (record {
               back = here (Failed false faults) e (λ s. (n : ℕ) → IsWrittenBack s n → IsWrittenBack (core.passes by).control n) (λ _ z. absurd z);
@@ -374,6 +389,13 @@ module _ (laws : LogLaws) (plain : PlainLaws) (sizes : Sizes) (first : Values) (
   leaves_as : (cell : Word) (job : Job) (how : CallEnding) → work.cell ≡ cell → work.job ≡ job → work.ending ≡ how → CallMayLeave (core.values cell) job how
   leaves_as cell job how c j h = subst (λ w. CallMayLeave (core.values w) job how) c (subst (λ k. CallMayLeave (core.values work.cell) k how) j (subst (λ e. CallMayLeave (core.values work.cell) work.job e) h may.leaves))
 
+  -- a cleaner has STORE of the files of its batch
+  held_store : (m : ℕ) (b : Batch) (s : CleanerControl) → (core.passes m).control ≡ Cleaning b s → IsSweeping s → (file : ℕ) → of_cleaner_store b s file ≡ (if holds_store b file then 1 else 0) → holds_store b file ≡ true
+      → 1 ≤ times (STORE file) (core.passes m).owned
+  held_store m b s e sweeps file owes holds =
+      let held = sweeping_holds sizes (core.passes m) b s sweeps (subst (HoldsLocks sizes (core.passes m)) e (sound.ownership m).locks) (STORE file) (λ slot. differ (STORE file) (ENTRY slot) refl) in
+      let one : ◌≡◌ {A = ℕ} (if holds_store b file then 1 else 0) 1 = when_true (holds_store b file) 1 0 holds in omega (arith, held, owes, one)
+
   module _ (batch : Batch) (file : ℕ) (rest : List ℕ) (at : (core.passes by).control ≡ Cleaning batch (SyncStores (file ∷ rest))) (cell : work.cell ≡ STORE file) (job : work.job ≡ StoreSync) where
     sync_files : store_files sizes now.values ≡ store_files sizes core.values
     sync_files = stores_same sizes core.values now.values (λ other. elim (cases_eq other file) [
@@ -381,20 +403,26 @@ module _ (laws : LogLaws) (plain : PlainLaws) (sizes : Sizes) (first : Values) (
       | inr ne ↦ ap store_bytes (store_else file other cell ne)
     ])
 
-    unmoved : tails.calls ≡ 0
-    unmoved = subst (TailsAt tails) at (retired.at by)
-
     none_back : (rest : List ℕ) (n : ℕ) → IsWrittenBack (syncing batch rest) n → ⊥
     none_back [] n is = is
     none_back (next ∷ more) n is = is
 
     stands_at : (rest : List ℕ) → TailsAt tails (syncing batch rest)
-    stands_at [] = unmoved
-    stands_at (next ∷ more) = unmoved
+    stands_at [] = tt
+    stands_at (next ∷ more) = tt
 
     synced_rest : (rest : List ℕ) (other : ℕ) → IsSynced (syncing batch rest) other → (holds_store batch other ≡ true) × (count_in rest other ≡ 0)
     synced_rest [] other is = (is, refl)
     synced_rest (next ∷ more) other is = is
+
+    -- a store that another pass has synced is quiet still
+    quiet_still : (m other : ℕ) (store : Store) → IsSynced (core.passes m).control other → store_of_value (now.values (STORE other)) ≡ Some store → IsQuietStore store
+    quiet_still m other store is told = elim (cases_eq other file) [
+      | inl same ↦ sync_quiet work.ending (core.values (STORE file)) store
+          (λ before was. retired.synced m file before (subst (IsSynced (core.passes m).control) same is) was)
+          (ap store_of_value (sym (store_here file StoreSync cell job)) ∙ ap (λ f. store_of_value (now.values (STORE f))) (sym same) ∙ told)
+      | inr ne ↦ retired.synced m other store is (ap store_of_value (sym (store_else file other cell ne)) ∙ told)
+    ]
 
     off_file : (other : ℕ) → other ≢ file → count_in rest other ≡ 0 → count_in (file ∷ rest) other ≡ 0
     off_file other ne none = ap (λ (b : Bool). (if b then 1 else 0) + count_in rest other) (ne_eqb other file ne) ∙ omega (arith, none)
@@ -406,7 +434,7 @@ module _ (laws : LogLaws) (plain : PlainLaws) (sizes : Sizes) (first : Values) (
         (by_number (λ m (p : Pass). (n : ℕ) → IsWrittenBack p.control n → files_after (piece_call sizes (log.group n) n) (store_files sizes now.values) ≡ store_files sizes now.values) core.passes by (worked sizes work (core.passes by))
         (λ n is. absurd (back n is)) (λ m ne n is. subst (λ f. files_after (piece_call sizes (log.group n) n) f ≡ f) (sym sync_files) (retired.written m n is)))
         (by_number (λ m (p : Pass). (other : ℕ) (store : Store) → IsSynced p.control other → store_of_value (now.values (STORE other)) ≡ Some store → IsQuietStore store) core.passes by (worked sizes work (core.passes by))
-        synced (λ m ne other store is told. absurd (other_synced batch (SyncStores (file ∷ rest)) at tt m ne other (core.passes m).control refl is)))
+        synced (λ m ne other store is told. quiet_still m other store is told))
         (by_number (λ m (p : Pass). TailsAt tails p.control) core.passes by (worked sizes work (core.passes by)) stands (λ m ne. retired.at m))
         (λ moving. absurd (subst IsMoving at moving))
 
@@ -438,21 +466,67 @@ module _ (laws : LogLaws) (plain : PlainLaws) (sizes : Sizes) (first : Values) (
     below : i < length batch.pages
     below = subst (FactsAt sizes (core.passes by)) at (sound.control_facts by).at
 
-    unmoved_here : tails.calls ≡ 0
-    unmoved_here = subst (TailsAt tails) at (retired.at by)
+    file_there : group_file sizes batch < sizes.files
+    file_there = way_here.files (group_file sizes batch) (way_here.stored tt)
+
+    reads_else : (other : ℕ) → other ≢ group_file sizes batch → store_bytes (now.values (STORE other)) ≡ store_bytes (core.values (STORE other))
+    reads_else other ne = ap store_bytes (store_else (group_file sizes batch) other due.cell ne)
+
+    -- no other pass has the file's STORE
+    store_held_here : 1 ≤ times (STORE (group_file sizes batch)) (core.passes by).owned
+    store_held_here = held_store by batch (WriteBack i) at tt (group_file sizes batch) refl (way_here.stored tt)
+
+    else_file : (m : ℕ) → m ≢ by → (file : ℕ) → 1 ≤ times (STORE file) (core.passes m).owned → file ≢ group_file sizes batch
+    else_file m ne file some e =
+        let z = (only_holder (sound.locks.keyed (STORE (group_file sizes batch))) by store_held_here).2 m ne in
+        let o : 1 ≤ times (STORE (group_file sizes batch)) (core.passes m).owned = subst (λ f. 1 ≤ times (STORE f) (core.passes m).owned) e some in omega (arith, z, o)
+
+    -- what another pass has written back is of another file
+    elsewhere : (m : ℕ) → m ≢ by → (n : ℕ) (b : Batch) (s : CleanerControl) → (core.passes m).control ≡ Cleaning b s → HasLoadedProgress s → HasWholeGroup s → 1 ≤ times (STORE (group_file sizes b)) (core.passes m).owned
+        → b.reached ≤ n → n < b.reached + length b.pages → IsWrittenBack (Cleaning b s) n → files_after (piece_call sizes (log.group n) n) (store_files sizes now.values) ≡ store_files sizes now.values
+    elsewhere m ne n b s e loaded has_whole holds low high is =
+        let way = progress.each m b s e loaded in
+        let some : 0 < length b.pages = omega (arith, low, high) in
+        let of = of_group sizes first core sound log groups pieces b s way some (way.whole has_whole) n low high in
+        let file_is : group_file sizes b ≡ file_of (log.group n).call = group_file_is sizes first core sound log groups pieces b s way some ∙ ap (λ g. file_of g.call) (sym of.1) in
+        let apart : file_of (log.group n).call ≢ group_file sizes batch = λ same. else_file m ne (group_file sizes b) holds (file_is ∙ same) in
+        written_elsewhere sizes core.values now.values (log.group n).call (n - (log.group n).first) ((groups.each n of.0).allowed.known) (reads_else (file_of (log.group n).call) apart)
+        (retired.written m n (subst (λ c. IsWrittenBack c n) (sym e) is))
+
+    other_written : (m : ℕ) → m ≢ by → (n : ℕ) (control : Control) → (core.passes m).control ≡ control → IsWrittenBack control n → files_after (piece_call sizes (log.group n) n) (store_files sizes now.values) ≡ store_files sizes now.values
+    other_written m ne n (Cleaning b (cleaner.HoldEntry j)) e is =
+        let stands : j < length b.pages = subst (FactsAt sizes (core.passes m)) e (sound.control_facts m).at in
+        elsewhere m ne n b (cleaner.HoldEntry j) e tt tt (held_store m b (cleaner.HoldEntry j) e tt (group_file sizes b) refl ((progress.each m b (cleaner.HoldEntry j) e tt).stored tt))
+        (let l = is.0 in omega (arith, l)) (let h = is.1 in omega (arith, h, stands)) is
+    other_written m ne n (Cleaning b (cleaner.ReadPiece j)) e is =
+        let stands : j < length b.pages = subst (FactsAt sizes (core.passes m)) e (sound.control_facts m).at in
+        elsewhere m ne n b (cleaner.ReadPiece j) e tt tt (held_store m b (cleaner.ReadPiece j) e tt (group_file sizes b) refl ((progress.each m b (cleaner.ReadPiece j) e tt).stored tt))
+        (let l = is.0 in omega (arith, l)) (let h = is.1 in omega (arith, h, stands)) is
+    other_written m ne n (Cleaning b (WriteBack j)) e is =
+        let stands : j < length b.pages = subst (FactsAt sizes (core.passes m)) e (sound.control_facts m).at in
+        elsewhere m ne n b (WriteBack j) e tt tt (held_store m b (WriteBack j) e tt (group_file sizes b) refl ((progress.each m b (WriteBack j) e tt).stored tt))
+        (let l = is.0 in omega (arith, l)) (let h = is.1 in omega (arith, h, stands)) is
+    other_written m ne n (Cleaning b (CleanEntry j)) e is =
+        elsewhere m ne n b (CleanEntry j) e tt tt (held_store m b (CleanEntry j) e tt (group_file sizes b) refl ((progress.each m b (CleanEntry j) e tt).stored tt)) (let l = is.0 in omega (arith, l)) is.1 is
+    other_written m ne n control e is = absurd is
+
+    other_same : (m : ℕ) → m ≢ by → (file : ℕ) (store : Store) → IsSynced (core.passes m).control file → 1 ≤ times (STORE file) (core.passes m).owned → store_of_value (now.values (STORE file)) ≡ Some store → IsQuietStore store
+    other_same m ne file store is some told = retired.synced m file store is (ap store_of_value (sym (store_else (group_file sizes batch) file due.cell (else_file m ne file some))) ∙ told)
+
+    other_quiet : (m : ℕ) → m ≢ by → (file : ℕ) (store : Store) (control : Control) → (core.passes m).control ≡ control → IsSynced control file → store_of_value (now.values (STORE file)) ≡ Some store → IsQuietStore store
+    other_quiet m ne file store (Cleaning b (SyncStores files)) e is told = other_same m ne file store (subst (λ c. IsSynced c file) (sym e) is) (held_store m b (SyncStores files) e tt file refl is.0) told
+    other_quiet m ne file store (Cleaning b AdvanceProgress) e is told = other_same m ne file store (subst (λ c. IsSynced c file) (sym e) is) (held_store m b AdvanceProgress e tt file refl is) told
+    other_quiet m ne file store control e is told = absurd is
 
     build_written_back : ((n : ℕ) → IsWrittenBack (worked sizes work (core.passes by)).control n → files_after (piece_call sizes (log.group n) n) (store_files sizes now.values) ≡ store_files sizes now.values)
         → ((file : ℕ) → IsSynced (worked sizes work (core.passes by)).control file → ⊥) → TailsAt tails (worked sizes work (core.passes by)).control → Retired sizes tails log_now now
     build_written_back back synced stands = build_same
         (by_number (λ m (p : Pass). (n : ℕ) → IsWrittenBack p.control n → files_after (piece_call sizes (log.group n) n) (store_files sizes now.values) ≡ store_files sizes now.values) core.passes by (worked sizes work (core.passes by))
-        back (λ m ne n is. absurd (other_back batch (WriteBack i) at tt m ne n (core.passes m).control refl is)))
+        back (λ m ne n is. other_written m ne n (core.passes m).control refl is))
         (by_number (λ m (p : Pass). (file : ℕ) (store : Store) → IsSynced p.control file → store_of_value (now.values (STORE file)) ≡ Some store → IsQuietStore store) core.passes by (worked sizes work (core.passes by))
-        (λ file store is told. absurd (synced file is)) (λ m ne file store is told. absurd (other_synced batch (WriteBack i) at tt m ne file (core.passes m).control refl is)))
+        (λ file store is told. absurd (synced file is)) (λ m ne file store is told. other_quiet m ne file store (core.passes m).control refl is told))
         (by_number (λ m (p : Pass). TailsAt tails p.control) core.passes by (worked sizes work (core.passes by)) stands (λ m ne. retired.at m))
         (λ moving. absurd (subst IsMoving at moving))
-
-    file_there : group_file sizes batch < sizes.files
-    file_there = way_here.files (group_file sizes batch) (way_here.stored tt)
 
     -- the piece that is written, and the others of its group
     piece_is : piece_call sizes (log.group (batch.reached + i)) (batch.reached + i) ≡ Write (group_file sizes batch) due.at due.bytes
@@ -470,9 +544,6 @@ module _ (laws : LogLaws) (plain : PlainLaws) (sizes : Sizes) (first : Values) (
         ap store_bytes (store_here (group_file sizes batch) (PieceWrite due.at due.bytes due.left) due.cell due.job)
         ∙ ap (λ h. store_bytes (called (PieceWrite due.at due.bytes due.left) h (core.values (STORE (group_file sizes batch))))) e
         ∙ write_back_reads due.at due.bytes due.left (core.values (STORE (group_file sizes batch))) told.0 (leaves_as (STORE (group_file sizes batch)) (PieceWrite due.at due.bytes due.left) Made due.cell due.job e) told.1
-
-    reads_else : (other : ℕ) → other ≢ group_file sizes batch → store_bytes (now.values (STORE other)) ≡ store_bytes (core.values (STORE other))
-    reads_else other ne = ap store_bytes (store_else (group_file sizes batch) other due.cell ne)
 
     back_made : work.ending ≡ Made → (n : ℕ) → batch.reached ≤ n → n < batch.reached + (i + 1) → files_after (piece_call sizes (log.group n) n) (store_files sizes now.values) ≡ store_files sizes now.values
     back_made e n low high = elim (cases_eq n (batch.reached + i)) [
@@ -509,13 +580,13 @@ module _ (laws : LogLaws) (plain : PlainLaws) (sizes : Sizes) (first : Values) (
             (of_cleaner_here batch (WriteBack i) Made at e (λ s. (file : ℕ) → IsSynced s file → ⊥)
             (if_both (λ s. (file : ℕ) → IsSynced s file → ⊥) (i + 1 == length batch.pages) (Cleaning batch (CleanEntry 0)) (Cleaning batch (cleaner.HoldEntry (i + 1))) (λ _ _ z. z) (λ _ _ z. z)))
             (of_cleaner_here batch (WriteBack i) Made at e (TailsAt tails)
-            (if_both (TailsAt tails) (i + 1 == length batch.pages) (Cleaning batch (CleanEntry 0)) (Cleaning batch (cleaner.HoldEntry (i + 1))) (λ _. unmoved_here) (λ _. unmoved_here)))
+            (if_both (TailsAt tails) (i + 1 == length batch.pages) (Cleaning batch (CleanEntry 0)) (Cleaning batch (cleaner.HoldEntry (i + 1))) (λ _. tt) (λ _. tt)))
         go (Failed came faults) e = build_written_back
             (of_cleaner_here batch (WriteBack i) (Failed came faults) at e (λ s. (n : ℕ) → IsWrittenBack s n → files_after (piece_call sizes (log.group n) n) (store_files sizes now.values) ≡ store_files sizes now.values) (λ _ z. absurd z))
             (of_cleaner_here batch (WriteBack i) (Failed came faults) at e (λ s. (file : ℕ) → IsSynced s file → ⊥) (λ _ z. z)) (of_cleaner_here batch (WriteBack i) (Failed came faults) at e (TailsAt tails) tt)
         go Refused e = build_written_back
             (of_cleaner_here batch (WriteBack i) Refused at e (λ s. (n : ℕ) → IsWrittenBack s n → files_after (piece_call sizes (log.group n) n) (store_files sizes now.values) ≡ store_files sizes now.values) (λ _ z. absurd z))
-            (of_cleaner_here batch (WriteBack i) Refused at e (λ s. (file : ℕ) → IsSynced s file → ⊥) (λ _ z. z)) (of_cleaner_here batch (WriteBack i) Refused at e (TailsAt tails) unmoved_here)
+            (of_cleaner_here batch (WriteBack i) Refused at e (λ s. (file : ℕ) → IsSynced s file → ⊥) (λ _ z. z)) (of_cleaner_here batch (WriteBack i) Refused at e (TailsAt tails) tt)
 
   -- ---- all device calls
 
@@ -531,7 +602,7 @@ module _ (laws : LogLaws) (plain : PlainLaws) (sizes : Sizes) (first : Values) (
       cleaners : (batch : Batch) (inner : CleanerControl) → (core.passes by).control ≡ Cleaning batch inner → CleanerCallDue sizes core.values batch work inner → Retired sizes (tails_worked work.ending (Cleaning batch inner) tails) log_now now
       cleaners batch (cleaner.ReadPiece i) at due = still_work (ap keeps_stores due.job)
           (subst (λ s. KeepsOn tails s (worked sizes work (core.passes by)).control) (sym at)
-          (of_cleaner_here batch (cleaner.ReadPiece i) work.ending at refl (KeepsOn tails (Cleaning batch (cleaner.ReadPiece i))) (peeked_on tails batch i work.ending (subst (TailsAt tails) at (retired.at by)))))
+          (of_cleaner_here batch (cleaner.ReadPiece i) work.ending at refl (KeepsOn tails (Cleaning batch (cleaner.ReadPiece i))) (peeked_on tails batch i work.ending)))
           (λ moving. absurd (subst IsMoving at moving))
       cleaners batch (WriteBack i) at due = written_back_work batch i at due
       cleaners batch (SyncStores (file ∷ rest)) at due = synced_work batch file rest at due.0 due.1

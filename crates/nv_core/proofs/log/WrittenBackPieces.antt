@@ -29,6 +29,7 @@ use Rattle.nv_core.specs.invariant.Sound.{Sound}
 use Rattle.nv_core.proofs.state.Choices.{not_both, when_true}
 use Rattle.nv_core.proofs.log.ImageLaws.{call_whole}
 use Rattle.nv_core.proofs.log.WrittenLaws.{some_length}
+use Rattle.nv_core.proofs.log.TailLaws.{done_below}
 use Rattle.nv_core.proofs.log.CleanerGoes.{leader_looked, group_file_is, of_group}
 use Rattle.nv_core.proofs.crash.CrashRegions.{region_of, region_is, told_is}
 
@@ -103,7 +104,7 @@ module _ (sizes : Sizes) (first : Values) (tails : Tails) (log : Log) (core : Co
   pub written_back_high : tails.next ≤ batch.reached
   written_back_high = elim (cases_lt batch.reached tails.next) [
     | inr more ↦ more
-    | inl less ↦ absurd (elim (retired.done batch.reached leader.0 less) [
+    | inl less ↦ absurd (elim (done_below sizes first tails log core sound retired batch.reached leader.0 less) [
       | inl kind ↦ (
           let zero_ : batch.reached + 0 ≡ batch.reached = omega arith in
           let h : held ≡ cleaned = sym (subst (λ m. kind_of (entry_word_at sizes core m) ≡ held) zero_ (written_back_held 0 (omega arith))) ∙ kind in omega (arith, h))

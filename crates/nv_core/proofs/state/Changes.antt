@@ -1,7 +1,7 @@
 -- Changes of a function in one place, of words and of numbers.
 use Rattle.std.proofs.Common.{◌≡◌, ◌≢◌, ℕ, Bool, true, false, ◌==◌, if◌then◌else◌, refl, sym, ap, ap₂, subst, ◌∙◌}
 use Rattle.std.proofs.lemmas.Bool.{and_parts, eqb-true, eq-eqb, true≢false, and_from}
-use Rattle.nv_core.specs.state.Words.{Word, STOP, ORDER, HEAD, TAIL, HAND, CLEANER, HEADER, SIZE, LENGTH, STORE, ENTRY, HINT, PAGE, CLEANUP, DIRTY, family, index, same}
+use Rattle.nv_core.specs.state.Words.{Word, STOP, ORDER, HEAD, TAIL, HAND, CLEANER, HEADER, SIZE, LENGTH, STORE, ENTRY, HINT, PAGE, CLEANUP, DIRTY, PROG, family, index, same}
 use Rattle.nv_core.specs.state.Core.{with_value, with_number}
 
 -- the word of a family and an index
@@ -12,7 +12,7 @@ named kind index =
     (if kind == 2 then HEAD else
     (if kind == 3 then TAIL else
     (if kind == 4 then HAND else
-    (if kind == 5 then CLEANER else
+    (if kind == 5 then CLEANER index else
     (if kind == 6 then HEADER else
     (if kind == 7 then SIZE index else
     (if kind == 8 then LENGTH index else
@@ -20,7 +20,8 @@ named kind index =
     (if kind == 10 then ENTRY index else
     (if kind == 11 then HINT index else
     (if kind == 12 then PAGE index else
-    (if kind == 13 then CLEANUP index else DIRTY index)))))))))))))
+    (if kind == 13 then CLEANUP index else
+    (if kind == 14 then DIRTY index else PROG index))))))))))))))
 
 named_is : (word : Word) → named (family word) (index word) ≡ word
 named_is STOP = refl
@@ -28,7 +29,7 @@ named_is ORDER = refl
 named_is HEAD = refl
 named_is TAIL = refl
 named_is HAND = refl
-named_is CLEANER = refl
+named_is (CLEANER who) = refl
 named_is HEADER = refl
 named_is (SIZE file) = refl
 named_is (LENGTH file) = refl
@@ -38,6 +39,7 @@ named_is (HINT buffer) = refl
 named_is (PAGE page) = refl
 named_is (CLEANUP page) = refl
 named_is (DIRTY page) = refl
+named_is (PROG who) = refl
 
 pub same_true : (one other : Word) → same one other ≡ true → one ≡ other
 same_true one other e =

@@ -4,11 +4,11 @@ use Rattle.std.proofs.lemmas.Bool.{eqb-false}
 use Rattle.std.proofs.lemmas.Nat.{mod_below, div_below}
 use Rattle.nv_plain.specs.Pieces.{pages_touched}
 use Rattle.nv_plain.specs.declared.call.FileCall.{FileCall}
-use Rattle.nv_core.specs.state.Words.{Sizes, Word, STOP, ORDER, HEAD, TAIL, SIZE, LENGTH, STORE, ENTRY, HINT, PAGE, CLEANUP, DIRTY, IsWord, same, page_total, is_lock, page_of, was_readied, slot_of_entry}
-use Rattle.nv_core.specs.state.Cleaner.{Batch, CleanerControl, CleanEntry, SubtractDirty, RefusedReturnEntry, FailedReturnEntry, FreeEntry, GiveStores, CleanerOp, TakeCleaner}
+use Rattle.nv_core.specs.state.Words.{Sizes, Word, STOP, ORDER, HEAD, TAIL, SIZE, LENGTH, STORE, ENTRY, HINT, PAGE, CLEANUP, DIRTY, CLEANER, IsWord, same, page_total, is_lock, page_of, was_readied, slot_of_entry}
+use Rattle.nv_core.specs.state.Cleaner.{Batch, CleanerControl, CleanEntry, SubtractDirty, RefusedReturnEntry, FailedReturnEntry, AdvanceProgress, LoadProgress, LoadEachProgress, FreeEntry, GiveStores, CleanerOp, TakeCleaner}
 use Rattle.nv_core.specs.state.Cleaner as cleaner
 use Rattle.nv_core.specs.steps.CleanerSteps.{cleaner_word, next_cleaner_op, last_taken, group_page}
-use Rattle.nv_core.specs.state.Passes.{Control, TakePage, LoadStop, TakeCleanup, LoadEntry, HoldEntry, ReturnEntry, LoadHint, TakeVictim, VictimGiven, Searching, SeizeEntry, PledgePage, ReadyEntry, BreakEntry, Cleaning, Pass, IsAllowed, file_of, at_of, len_of, page_count, first_page, times, plain_call}
+use Rattle.nv_core.specs.state.Passes.{Control, Idle, TakePage, LoadStop, TakeCleanup, LoadEntry, HoldEntry, ReturnEntry, LoadHint, TakeVictim, VictimGiven, Searching, SeizeEntry, PledgePage, ReadyEntry, BreakEntry, Cleaning, Pass, IsAllowed, file_of, at_of, len_of, page_count, first_page, times, plain_call}
 use Rattle.nv_core.specs.steps.Ops.{Op, Load, Take, Give, Place, Stop, Draw, Seize, Pledge, Ready, Grow, Break, Turn, Hint, Hold, Return, ByCleaner, Split, PutBack, Join, Move, Stays, Comes, Goes, moved, move_of, cleaner_move, word_of}
 use Rattle.nv_core.specs.steps.ControlSteps.{first_control}
 use Rattle.nv_core.specs.steps.PassSteps.{begun}
@@ -23,7 +23,7 @@ use Rattle.nv_core.specs.invariant.Ownership.{one_if}
 use Rattle.nv_core.specs.invariant.LogWindow.{entry_word_at}
 use Rattle.nv_core.specs.invariant.EntryWords.{IsEntryWord, SaysFree, SaysFilling, SaysBroken, SaysReadied}
 use Rattle.nv_core.specs.invariant.Searches.{KnowsAt}
-use Rattle.nv_core.specs.log.Progress.{HasLoadedTail, IsBatchUnderWay}
+use Rattle.nv_core.specs.log.Progress.{HasLoadedProgress, IsBatchUnderWay}
 use Rattle.nv_core.specs.invariant.Sound.{Sound}
 use Rattle.nv_core.specs.invariant.InvariantLaws.{OpeningIsSound, EventsKeepSound}
 use Rattle.nv_core.specs.steps.Frames.{IsOnWord, StepsAreOnWords}
@@ -153,29 +153,31 @@ page_file files (suc pages) page less = div_below page (suc pages) files (omega 
 
 module _ (sizes : Sizes) (first : Values) (core : Core) (sound : Sound sizes first core) (by : ℕ) where
   module _ (batch : Batch) where
-    way : (inner : CleanerControl) → (core.passes by).control ≡ Cleaning batch inner → HasLoadedTail inner → IsBatchUnderWay sizes sound.grouped.log core batch inner
-    way inner at tail_loaded = sound.grouped.progress.each by batch inner at tail_loaded
+    way : (inner : CleanerControl) → (core.passes by).control ≡ Cleaning batch inner → HasLoadedProgress inner → IsBatchUnderWay sizes sound.grouped.log core batch inner
+    way inner at loaded = sound.grouped.progress.each by batch inner at loaded
 
     cleaner_stands : (inner : CleanerControl) → (core.passes by).control ≡ Cleaning batch inner → FactsAt sizes (core.passes by) (Cleaning batch inner)
     cleaner_stands inner at = subst (FactsAt sizes (core.passes by)) at (sound.control_facts by).at
 
     -- of the group at hand: an entry's slot, and its page
-    place_slot : (inner : CleanerControl) (i : ℕ) → (core.passes by).control ≡ Cleaning batch inner → HasLoadedTail inner → i < length batch.pages → slot_of_entry sizes (batch.reached + i) < sizes.entries
-    place_slot inner i at tail_loaded less = slot_within sizes core (batch.reached + i) sound.window ((way inner at tail_loaded).looked i less).within
+    place_slot : (inner : CleanerControl) (i : ℕ) → (core.passes by).control ≡ Cleaning batch inner → HasLoadedProgress inner → i < length batch.pages → slot_of_entry sizes (batch.reached + i) < sizes.entries
+    place_slot inner i at loaded less = slot_within sizes core (batch.reached + i) sound.window ((way inner at loaded).looked i less).within
 
-    place_page : (inner : CleanerControl) (i : ℕ) → (core.passes by).control ≡ Cleaning batch inner → HasLoadedTail inner → i < length batch.pages → group_page batch i < page_total sizes
-    place_page inner i at tail_loaded less =
-        let looked = (way inner at tail_loaded).looked i less in
+    place_page : (inner : CleanerControl) (i : ℕ) → (core.passes by).control ≡ Cleaning batch inner → HasLoadedProgress inner → i < length batch.pages → group_page batch i < page_total sizes
+    place_page inner i at loaded less =
+        let looked = (way inner at loaded).looked i less in
         subst (λ p. p < page_total sizes) looked.page (said_page sizes (entry_word_at sizes core (batch.reached + i)) (sound.entries.each (slot_of_entry sizes (batch.reached + i))) looked.readied)
 
-    -- a number behind TAIL and below HEAD, as it was loaded or is
-    below_head : (inner : CleanerControl) (number : ℕ) → (core.passes by).control ≡ Cleaning batch inner → HasLoadedTail inner → batch.tail ≤ number → number < core.words HEAD → slot_of_entry sizes number < sizes.entries
-    below_head inner number at tail_loaded low high = slot_within sizes core number sound.window (let tail = (way inner at tail_loaded).tail in omega (arith, tail, low), high)
+    -- a number behind its PROG and below HEAD, as it was loaded or is
+    below_head : (inner : CleanerControl) (number : ℕ) → (core.passes by).control ≡ Cleaning batch inner → HasLoadedProgress inner → batch.reached ≤ number → number < core.words HEAD → slot_of_entry sizes number < sizes.entries
+    below_head inner number at loaded low high =
+        let way_low = (way inner at loaded).low in let prog = sound.grouped.progress.low batch.cleaner (sound.cleaners.there by batch inner at) in
+        slot_within sizes core number sound.window (omega (arith, way_low, prog, low), high)
 
     next_word : (inner : CleanerControl) → (core.passes by).control ≡ Cleaning batch inner → NextIsOnWord sizes (next_cleaner_op sizes (core.passes by).owned batch inner)
     next_word (cleaner.LoadEntry zero) at =
-        let stands = (cleaner_stands (cleaner.LoadEntry zero) at).1 in let most = sound.grouped.progress.head by batch (cleaner.LoadEntry zero) at in let low = (way (cleaner.LoadEntry zero) at tt).low in
-        below_head (cleaner.LoadEntry zero) (batch.reached + 0) at tt (omega (arith, low)) (omega (arith, stands, most))
+        let stands = (cleaner_stands (cleaner.LoadEntry zero) at).1 in let most = sound.grouped.progress.head by batch (cleaner.LoadEntry zero) at in
+        below_head (cleaner.LoadEntry zero) (batch.reached + 0) at tt (omega arith) (omega (arith, stands, most))
     next_word (cleaner.LoadEntry (suc i)) at =
         let stands = (cleaner_stands (cleaner.LoadEntry (suc i)) at).0 in
         mod_below (batch.reached + suc i) sizes.entries (let s = place_slot (cleaner.LoadEntry (suc i)) 0 at tt (omega (arith, stands)) in omega (arith, s))
@@ -186,9 +188,13 @@ module _ (sizes : Sizes) (first : Values) (core : Core) (sound : Sound sizes fir
     next_word (SubtractDirty i) at = place_page (SubtractDirty i) i at tt (cleaner_stands (SubtractDirty i) at)
     next_word (RefusedReturnEntry i end) at = place_slot (RefusedReturnEntry i end) i at tt (let stands = cleaner_stands (RefusedReturnEntry i end) at in let a = stands.0 in let b = stands.1 in omega (arith, a, b))
     next_word (FailedReturnEntry i end) at = place_slot (FailedReturnEntry i end) i at tt (let stands = cleaner_stands (FailedReturnEntry i end) at in let a = stands.0 in let b = stands.1 in omega (arith, a, b))
+    next_word LoadProgress at = sound.cleaners.there by batch LoadProgress at
+    next_word AdvanceProgress at = sound.cleaners.there by batch AdvanceProgress at
+    next_word (LoadEachProgress who) at = (sound.grouped.progress.retires by batch (LoadEachProgress who) at).there who refl
     next_word (FreeEntry number) at =
-        let stands = cleaner_stands (FreeEntry number) at in let less = stands.1 in let most = (way (FreeEntry number) at tt).high in
-        below_head (FreeEntry number) number at tt stands.0 (omega (arith, less, most))
+        let stands = cleaner_stands (FreeEntry number) at in let low = stands.0 in let less = stands.1 in let retires = sound.grouped.progress.retires by batch (FreeEntry number) at in
+        let tail = retires.tail tt in let least = retires.least 0 sound.cleaners.some tt in let most = sound.grouped.progress.high 0 sound.cleaners.some in
+        slot_within sizes core number sound.window (omega (arith, tail, low), omega (arith, less, least, most))
     next_word (GiveStores []) at = tt
     next_word (GiveStores (file ∷ rest)) at = tt
     next_word cleaner.GiveBack at = last_word sizes (core.passes by).owned
@@ -202,7 +208,9 @@ module _ (sizes : Sizes) (first : Values) (core : Core) (sound : Sound sizes fir
   module _ (words : HoldsWords (core.passes by).owned) where
     cleaner_step_word : (cleaner_op : CleanerOp) (control : Control) → (core.passes by).control ≡ control → CleanerEnabled sizes (core.passes by) cleaner_op control → IsWord sizes (cleaner_word sizes cleaner_op)
     cleaner_step_word (cleaner.Give cell) control at may = words cell (cleaner_give_one sizes first by core cell control sound at may)
-    cleaner_step_word (TakeCleaner most) control at may = tt
+    cleaner_step_word (TakeCleaner who most) Idle at may = may
+    cleaner_step_word (TakeCleaner who most) (Cleaning batch inner) at may = subst (NextIsOnWord sizes) may (next_word batch inner at)
+    cleaner_step_word (TakeCleaner who most) control at may = absurd may
     cleaner_step_word cleaner_op (Cleaning batch inner) at may = subst (NextIsOnWord sizes) may (next_word batch inner at)
     cleaner_step_word cleaner_op control at may = absurd may
 
@@ -240,7 +248,7 @@ moved_words sizes (Comes one) owned words comes cell has = go (same cell one) re
 moved_words sizes (Goes one) owned words comes cell has = words cell (let less = less_times cell one owned in omega (arith, less, has))
 
 cleaner_op_comes : (sizes : Sizes) (cleaner_op : CleanerOp) (found : ℕ) → IsWord sizes (cleaner_word sizes cleaner_op) → ComesOnWord sizes (cleaner_move sizes cleaner_op found)
-cleaner_op_comes sizes (TakeCleaner most) found on = if_both (ComesOnWord sizes) (found == 0) (Comes _) Stays (λ _. tt) (λ _. tt)
+cleaner_op_comes sizes (TakeCleaner who most) found on = if_both (ComesOnWord sizes) (found == 0) (Comes (CLEANER who)) Stays (λ _. on) (λ _. tt)
 cleaner_op_comes sizes (cleaner.Take cell) found on = if_both (ComesOnWord sizes) (found == 0) (Comes cell) Stays (λ _. on) (λ _. tt)
 cleaner_op_comes sizes (cleaner.Hold number) found on = on
 cleaner_op_comes sizes cleaner_op found on = tt

@@ -7,7 +7,7 @@ use Rattle.nv_core.specs.steps.Ops.{Op, Load, Take, Give, Place, Stop, Draw, Sei
 use Rattle.nv_core.specs.steps.ControlSteps.{control_after, after_load, after_head, after_tail, after_look, after_take, after_page, refused, hinted, after_give, after_stop, after_hold, after_return, scanning, leaving, giving, ending, ordered, copying, exceeds}
 use Rattle.nv_core.specs.steps.Order.{Values, IsFailing}
 use Rattle.nv_core.specs.steps.StepKinds.{MayLoad, MayTake, MayPlace, EnabledByKind}
-use Rattle.nv_core.specs.invariant.CleanerNumbers.{IsCleaned, IsFreed}
+use Rattle.nv_core.specs.invariant.CleanerNumbers.{IsFreed}
 use Rattle.nv_core.proofs.state.Choices.{if_both, leaving_both, IsGivingBack, gives_back}
 use Rattle.nv_core.proofs.steps.SearchLaws.{looked_at, turned_at, hinting_at, hinted_at, tried_at}
 
@@ -24,13 +24,13 @@ IsOfCall (PutBack cell) = ⊥
 IsOfCall (Join number) = ⊥
 IsOfCall op = Unit {0}
 
--- it has then cleaned and freed nothing
+-- it has then freed nothing
 abbrev pub Unswept : Control → Type 0
-Unswept control = (number : ℕ) → (IsFreed control number → ⊥) × (IsCleaned control number → ⊥)
+Unswept control = (number : ℕ) → IsFreed control number → ⊥
 
 pub at_call_unswept : (control : Control) → IsAtCall control → Unswept control
 at_call_unswept (Cleaning batch inner) at number = absurd at
-at_call_unswept control at number = (λ z. z, λ z. z)
+at_call_unswept control at number = λ z. z
 
 -- ---- before
 

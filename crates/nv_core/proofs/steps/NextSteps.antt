@@ -108,11 +108,11 @@ module _ (sizes : Sizes) (values : Values) (pass : Pass) where
   comes (Cleaning batch inner) at = cleaner_op_comes batch inner (next_cleaner_op sizes pass.owned batch inner) at refl
   comes control at = tt
 
-  enters : (op : Op) → IsBatchEntry op pass.control → EnabledByKind sizes values pass op
-  enters (ByCleaner (TakeCleaner most)) is = go pass.control is
+  enters : (op : Op) → IsBatchEntry sizes op pass.control → EnabledByKind sizes values pass op
+  enters (ByCleaner (TakeCleaner who most)) is = go pass.control is
     where
-      go : (control : Control) → IsBatchEntry (ByCleaner (TakeCleaner most)) control → CleanerEnabled sizes pass (TakeCleaner most) control
-      go Idle is = tt
+      go : (control : Control) → IsBatchEntry sizes (ByCleaner (TakeCleaner who most)) control → CleanerEnabled sizes pass (TakeCleaner who most) control
+      go Idle is = is
       go control is = absurd is
   enters op is = absurd is
 
@@ -236,7 +236,7 @@ module _ (sizes : Sizes) (values : Values) (pass : Pass) where
 
   by_cleaner : (cleaner_op : CleanerOp) (control : Control) → pass.control ≡ control → CleanerEnabled sizes pass cleaner_op control → Enabled sizes values pass (ByCleaner cleaner_op)
   by_cleaner cleaner_op (Cleaning batch inner) at may = inl (at_control (Cleaning batch inner) at ∙ ap (option_map (λ c. ByCleaner c)) may)
-  by_cleaner (TakeCleaner most) Idle at may = inr (subst (IsBatchEntry (ByCleaner (TakeCleaner most))) (sym at) tt)
+  by_cleaner (TakeCleaner who most) Idle at may = inr (subst (IsBatchEntry sizes (ByCleaner (TakeCleaner who most))) (sym at) may)
   by_cleaner cleaner_op control at may = absurd may
 
 pub steps_are_next : StepsAreNext
@@ -260,9 +260,9 @@ steps_are_next sizes values pass op may = absurd may
 
 -- ---- so there is one at most
 
-not_idle : (op : Op) (control : Control) → IsBatchEntry op control → control ≡ Idle
-not_idle (ByCleaner (TakeCleaner most)) Idle is = refl
-not_idle op control is = absurd is
+not_idle : (sizes : Sizes) (op : Op) (control : Control) → IsBatchEntry sizes op control → control ≡ Idle
+not_idle sizes (ByCleaner (TakeCleaner who most)) Idle is = refl
+not_idle sizes op control is = absurd is
 
 same_some : (one other : Op) → Some one ≡ Some other → one ≡ other
 same_some one other e = cc
@@ -271,7 +271,7 @@ pub no_two_steps : NoTwoSteps
 no_two_steps sizes values pass one other busy may can = same_some one other (sym (next one may) ∙ next other can)
   where
     next : (op : Op) → Enabled sizes values pass op → next_step sizes values pass ≡ Some op
-    next op step = elim step [ inl is ↦ is | inr is ↦ absurd (busy (not_idle op pass.control is)) ]
+    next op step = elim step [ inl is ↦ is | inr is ↦ absurd (busy (not_idle sizes op pass.control is)) ]
 
 pub no_step_beside_a_device_call : NoStepBesideADeviceCall
 no_step_beside_a_device_call sizes values pass work op due may = go pass.control due.due may
@@ -279,7 +279,7 @@ no_step_beside_a_device_call sizes values pass work op due may = go pass.control
     none : (one : Op) → None ≡ Some one → ⊥
     none one e = cc
 
-    go : (control : Control) → CallDue sizes values pass work control → (step_at sizes values pass control ≡ Some op) ⊎ IsBatchEntry op control → ⊥
+    go : (control : Control) → CallDue sizes values pass work control → (step_at sizes values pass control ≡ Some op) ⊎ IsBatchEntry sizes op control → ⊥
     go (CommitGroup calls) at (inl next) = none op next
     go (ReadStore page dirty) at (inl next) = none op next
     go (ReadPiece page number) at (inl next) = none op next
@@ -287,7 +287,7 @@ no_step_beside_a_device_call sizes values pass work op due may = go pass.control
     go (Cleaning batch (WriteBack i)) at (inl next) = none op next
     go (Cleaning batch (SyncStores files)) at (inl next) = none op next
     go (Cleaning batch (MoveHeaderTail calls)) at (inl next) = none op next
-    go control at (inr is) = absurd (idle control at (not_idle op control is))
+    go control at (inr is) = absurd (idle control at (not_idle sizes op control is))
       where
         idle : (control : Control) → CallDue sizes values pass work control → control ≡ Idle → ⊥
         idle control at e = subst (CallDue sizes values pass work) e at

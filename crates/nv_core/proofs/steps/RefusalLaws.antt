@@ -1,18 +1,18 @@
 -- Refusals, lengths, searches and batches go by exactly these numbers.
-use Rattle.std.proofs.Common.{◌≡◌, ◌≢◌, ◌⊎◌, ℕ, suc, ◌+◌, ◌*◌, ◌%◌, ◌^◌, ◌<◌, ◌≤◌, ◌==◌, nat_lt, nat_le, not, ◌&&◌, ◌||◌, Bool, true, false, if◌then◌else◌, List, [], ◌∷◌, Some, None, inl, inr, refl, sym, ap, subst, ◌∙◌, arith}
+use Rattle.std.proofs.Common.{◌≡◌, ◌≢◌, ◌⊎◌, ℕ, suc, ◌+◌, ◌*◌, ◌/◌, ◌%◌, ◌^◌, ◌<◌, ◌≤◌, ◌==◌, nat_lt, nat_le, not, ◌&&◌, ◌||◌, Bool, true, false, if◌then◌else◌, List, [], ◌∷◌, Some, None, inl, inr, refl, sym, ap, subst, ◌∙◌, arith}
 use Rattle.std.proofs.lemmas.Bool.{ltb-true, ltb-false, lt-ltb, le-ltb, leb-true, leb-false, le-leb, lt-leb, eqb-true, eqb-false, eq-eqb, ne_eqb, cases_Bool, and_parts, and_from, and_left, and_right, or_cases, true≢false}
-use Rattle.nv_core.specs.state.Words.{Sizes, Word, STOP, ORDER, HEAD, TAIL, LENGTH, SIZE, STORE, ENTRY, HINT, PAGE, CLEANUP, DIRTY, kind_of, ready, is_entry_of, is_lock}
+use Rattle.nv_core.specs.state.Words.{Sizes, Word, STOP, ORDER, HEAD, TAIL, LENGTH, SIZE, STORE, ENTRY, HINT, PAGE, CLEANUP, DIRTY, kind_of, page_of, was_readied, ready, is_entry_of, is_lock, cleaner_of_file}
 use Rattle.nv_core.specs.state.Values.{lacks_buffer}
 use Rattle.nv_core.specs.state.Passes.{Control, TakePage, LoadLength, TakeSize, LoadStop, LoadOrder, VisitPage, TakeCleanup, TakeStore, ReadStore, GiveVictim, NotFound, Searching, ReadLoadHead, ReadLoadTail, LoadEntry, HoldEntry, GiveCleanup, WriteLoadHead, WriteLoadTail, DrawNumbers, SeizeEntry, TakePlace, GrowLength, GiveBack, Pass, at_of, len_of, is_write, is_read, page_count, first_page, end_page, IsLastTaken}
 use Rattle.nv_core.specs.state.Cleaner.{Batch}
 use Rattle.nv_core.specs.state.Cleaner as cleaner
-use Rattle.nv_core.specs.steps.CleanerSteps.{count_of, may_pass, finishing, surveyed, batch_with_page, last_taken}
+use Rattle.nv_core.specs.steps.CleanerSteps.{count_of, is_of_another, may_pass, finishing, surveying, surveyed, passed_over, batch_with_page, last_taken}
 use Rattle.nv_core.specs.steps.Ops.{Op, Load, Take, Give, Draw, Turn, ByCleaner}
 use Rattle.nv_core.specs.steps.ControlSteps.{out_of_call, phase, leaving, ending, exceeds, ordered, scanning, tries_of, control_after, after_load, after_look, after_page, copying, refused}
 use Rattle.nv_core.specs.steps.Order.{Values}
 use Rattle.nv_core.specs.steps.StepKinds.{MayLoad, MayTake, MayGive, CleanerEnabled, IsMiss, JustNow, AfterTries, MayTurn, MayLookUp}
 use Rattle.nv_core.proofs.steps.NextSteps.{next_steps_may_come}
-use Rattle.nv_core.specs.steps.Refusals.{IsSearching, IsRefusal, IsExact, RefusalsAreExact, LoadsAreKept, BeginsWith, LastTakenFirst, ReachesPast, LengthsAreExact, SearchesEnd, MayPass, BatchesAreExact}
+use Rattle.nv_core.specs.steps.Refusals.{IsSearching, IsRefusal, IsExact, RefusalsAreExact, LoadsAreKept, BeginsWith, LastTakenFirst, ReachesPast, LengthsAreExact, SearchesEnd, IsOfAnother, MayPass, BatchesAreExact}
 use Rattle.nv_core.proofs.state.Choices.{if_both, when_true, when_false}
 
 -- ---- refusals
@@ -183,26 +183,44 @@ or_from false other (inl is) = absurd (true≢false (sym is))
 or_from false other (inr is) = is
 
 passing : (batch : Batch) (found : ℕ) → MayPass batch found → may_pass batch found ≡ true
-passing batch found may = and_from (kind_of found == ready) (batch.reached == batch.tail || nat_le (batch.reached + count_of found) (batch.tail + batch.most)) (eq-eqb (kind_of found) ready may.0)
-    (or_from (batch.reached == batch.tail) (nat_le (batch.reached + count_of found) (batch.tail + batch.most)) (elim may.1 [
-      | inl first ↦ inl (eq-eqb batch.reached batch.tail first)
-      | inr fits ↦ inr (le-leb (batch.reached + count_of found) (batch.tail + batch.most) fits)
+passing batch found may = and_from (kind_of found == ready) (batch.passed == 0 || nat_le (batch.passed + count_of found) batch.most) (eq-eqb (kind_of found) ready may.0)
+    (or_from (batch.passed == 0) (nat_le (batch.passed + count_of found) batch.most) (elim may.1 [
+      | inl first ↦ inl (eq-eqb batch.passed 0 first)
+      | inr fits ↦ inr (le-leb (batch.passed + count_of found) batch.most fits)
     ]))
 
 passes : (batch : Batch) (found : ℕ) → may_pass batch found ≡ true → MayPass batch found
-passes batch found so = let both = and_parts (kind_of found == ready) (batch.reached == batch.tail || nat_le (batch.reached + count_of found) (batch.tail + batch.most)) so in (
+passes batch found so = let both = and_parts (kind_of found == ready) (batch.passed == 0 || nat_le (batch.passed + count_of found) batch.most) so in (
   eqb-true (kind_of found) ready both.0,
-  elim (or_cases (batch.reached == batch.tail) (nat_le (batch.reached + count_of found) (batch.tail + batch.most)) both.1) [
-    | inl first ↦ inl (eqb-true batch.reached batch.tail first)
-    | inr fits ↦ inr (leb-true (batch.reached + count_of found) (batch.tail + batch.most) fits)
+  elim (or_cases (batch.passed == 0) (nat_le (batch.passed + count_of found) batch.most) both.1) [
+    | inl first ↦ inl (eqb-true batch.passed 0 first)
+    | inr fits ↦ inr (leb-true (batch.passed + count_of found) batch.most fits)
   ],
 )
 
+pub anothers : (sizes : Sizes) (batch : Batch) (found : ℕ) → IsOfAnother sizes batch found → is_of_another sizes batch found ≡ true
+anothers sizes batch found is = and_from (was_readied found) (not (cleaner_of_file sizes (page_of found / sizes.pages) == batch.cleaner)) is.0
+    (ap not (ne_eqb (cleaner_of_file sizes (page_of found / sizes.pages)) batch.cleaner is.1))
+
+pub is_anothers : (sizes : Sizes) (batch : Batch) (found : ℕ) → is_of_another sizes batch found ≡ true → IsOfAnother sizes batch found
+is_anothers sizes batch found so =
+    let both = and_parts (was_readied found) (not (cleaner_of_file sizes (page_of found / sizes.pages) == batch.cleaner)) so in
+    (both.0, λ e. true≢false (sym both.1 ∙ ap not (eq-eqb (cleaner_of_file sizes (page_of found / sizes.pages)) batch.cleaner e)))
+
 pub batches_are_exact : BatchesAreExact
 batches_are_exact sizes owned batch found = record {
-  passes = λ may. ap (λ b. if not b then finishing sizes owned batch else surveyed (batch_with_page batch 0 found) 0) (passing batch found may);
-  ends = λ none. ap (λ b. if not b then finishing sizes owned batch else surveyed (batch_with_page batch 0 found) 0) (fails none);
+  over = λ is. when_true (is_of_another sizes batch found) (surveying sizes (passed_over batch (count_of found))) own (anothers sizes batch found is);
+  passes = λ none may. when_false (is_of_another sizes batch found) (surveying sizes (passed_over batch (count_of found))) own (served none)
+      ∙ when_true (may_pass batch found) (surveyed (batch_with_page batch 0 found) 0) (finishing sizes batch) (passing batch found may);
+  ends = λ none not_so. when_false (is_of_another sizes batch found) (surveying sizes (passed_over batch (count_of found))) own (served none)
+      ∙ when_false (may_pass batch found) (surveyed (batch_with_page batch 0 found) 0) (finishing sizes batch) (fails not_so);
 }
   where
+    own : Control
+    own = if may_pass batch found then surveyed (batch_with_page batch 0 found) 0 else finishing sizes batch
+
+    served : (IsOfAnother sizes batch found → ⊥) → is_of_another sizes batch found ≡ false
+    served none = elim (cases_Bool (is_of_another sizes batch found)) [ inl so ↦ absurd (none (is_anothers sizes batch found so)) | inr not_so ↦ not_so ]
+
     fails : (MayPass batch found → ⊥) → may_pass batch found ≡ false
     fails none = elim (cases_Bool (may_pass batch found)) [ inl so ↦ absurd (none (passes batch found so)) | inr not_so ↦ not_so ]

@@ -1,6 +1,6 @@
 -- Tabled: a list of events is a run where the table of next steps has each of its steps, and the words were found so. So a walk is shown by
 -- computing two lists, and what is not computed is shown beside it.
-use Rattle.std.proofs.Common.{◌≡◌, ℕ, zero, suc, ◌+◌, ◌==◌, nat_lt, nat_le, not, ◌&&◌, ◌||◌, Bool, true, false, List, [], ◌∷◌, length, Option, Some, inl, inr, ◌⊎◌, refl, sym, ap, subst, ◌∙◌}
+use Rattle.std.proofs.Common.{◌≡◌, ℕ, zero, suc, ◌+◌, ◌==◌, nat_lt, nat_le, not, ◌&&◌, ◌||◌, ◌<◌, if◌then◌else◌, Bool, true, false, List, [], ◌∷◌, length, Option, Some, inl, inr, ◌⊎◌, refl, sym, ap, subst, ◌∙◌}
 use Rattle.std.specs.Prelude.{slice_index_or}
 use Rattle.std.proofs.lemmas.Bool.{ltb-true, leb-true, eqb-true, and_parts, not-true, eq-eqb, true≢false}
 use Rattle.nv_plain.specs.declared.call.FileCall.{FileCall}
@@ -46,9 +46,9 @@ abbrev pub may_act : Core → (by : ℕ) → Bool
 may_act core by = nat_le by core.made && (not (is_joined core.ended by) && is_none (core.passes by).left)
 
 -- an idle pass may begin a batch
-abbrev pub entered : Op → Control → Option Op → Option Op
-entered (ByCleaner (TakeCleaner most)) Idle next = Some (ByCleaner (TakeCleaner most))
-entered op control next = next
+abbrev pub entered : Sizes → Op → Control → Option Op → Option Op
+entered sizes (ByCleaner (TakeCleaner who most)) Idle next = if nat_lt who sizes.cleaners then Some (ByCleaner (TakeCleaner who most)) else next
+entered sizes op control next = next
 
 abbrev pub spares_in : Value → Spares
 spares_in (APart device spares) = spares
@@ -76,7 +76,7 @@ row_of sizes by core (TakesStep Split found) = Other
 row_of sizes by core (TakesStep (PutBack cell) found) = Other
 row_of sizes by core (TakesStep (Join number) found) = Other
 row_of sizes by core (TakesStep op found) =
-    Steps (entered op (core.passes by).control (next_step sizes core.values (core.passes by))) (core.words (word_of sizes (core.passes by) op)) (may_act core by)
+    Steps (entered sizes op (core.passes by).control (next_step sizes core.values (core.passes by))) (core.words (word_of sizes (core.passes by) op)) (may_act core by)
 row_of sizes by core (CallsDevice work) = work_row sizes by core work work.job work.ending (core.passes by).control
 
 abbrev pub said_of : (by : ℕ) → Core → Act → Row
@@ -162,15 +162,19 @@ step_found next op found was may e = cc
 step_may : (next : Option Op) (op : Op) (found was : ℕ) (may : Bool) → Steps next found may ≡ Steps (Some op) was true → may ≡ true
 step_may next op found was may e = cc
 
-next_or_entry : (op : Op) (control : Control) (next : Option Op) → entered op control next ≡ Some op → (next ≡ Some op) ⊎ IsBatchEntry op control
-next_or_entry (ByCleaner (TakeCleaner most)) Idle next e = inr tt
-next_or_entry op control next e = inl e
+next_or_entry : (sizes : Sizes) (op : Op) (control : Control) (next : Option Op) → entered sizes op control next ≡ Some op → (next ≡ Some op) ⊎ IsBatchEntry sizes op control
+next_or_entry sizes (ByCleaner (TakeCleaner who most)) Idle next e = there (nat_lt who sizes.cleaners) refl e
+  where
+    there : (b : Bool) → nat_lt who sizes.cleaners ≡ b → (if b then Some (ByCleaner (TakeCleaner who most)) else next) ≡ Some (ByCleaner (TakeCleaner who most)) → (next ≡ Some (ByCleaner (TakeCleaner who most))) ⊎ (who < sizes.cleaners)
+    there true is e = inr (ltb-true who sizes.cleaners is)
+    there false is e = inl e
+next_or_entry sizes op control next e = inl e
 
 -- a part of two lines that each can take 15 stores, now and after the step, may be left so
 leaves_so : (step : LineStep) (value : Value) (spares : Spares) → spares_in value ≡ walk_spares 2 → spares ≡ walk_spares 2 → has_line 2 step ≡ true → CallMayLeave value (PartStep step spares) Made
-leaves_so step (APart device before) spares now then there =
-    subst (λ s. RoomAfter step (room_of_spares s) (room_of_spares spares)) (sym now) (subst (λ s. RoomAfter step (room_of_spares (walk_spares 2)) (room_of_spares s)) (sym then) (stays step there))
-leaves_so step value spares now then there = tt
+leaves_so step (APart device before) spares now later there =
+    subst (λ s. RoomAfter step (room_of_spares s) (room_of_spares spares)) (sym now) (subst (λ s. RoomAfter step (room_of_spares (walk_spares 2)) (room_of_spares s)) (sym later) (stays step there))
+leaves_so step value spares now later there = tt
 
 found_again : (steps : List RowStep) (i : ℕ) (none : RowStep) → slice_index_or steps i (slice_index_or steps i none) ≡ slice_index_or steps i none
 found_again [] i none = refl
@@ -191,7 +195,7 @@ module _ (sizes : Sizes) (by : ℕ) (core : Core) where
       let job_is : PartStep row.step spares ≡ PartStep step spares = cc in
       let step_is : row.step ≡ step = cc in
       let now : spares_in (core.values cell) ≡ walk_spares 2 = cc in
-      let then : spares ≡ walk_spares 2 = cc in
+      let later : spares ≡ walk_spares 2 = cc in
       let all : (may_act core by && (nat_lt calls (length steps) && (has_line 2 row.step && times cell (core.passes by).owned == 1))) ≡ true = cc in
       let parts = and_parts (may_act core by) (nat_lt calls (length steps) && (has_line 2 row.step && times cell (core.passes by).owned == 1)) all in
       let more = and_parts (nat_lt calls (length steps)) (has_line 2 row.step && times cell (core.passes by).owned == 1) parts.1 in
@@ -201,7 +205,7 @@ module _ (sizes : Sizes) (by : ℕ) (core : Core) where
       come sizes by core (CallsDevice work) parts.0 (λ none. none) record {
         due = subst (CallDue sizes core.values (core.passes by) work) (sym at) due;
         ends = tt;
-        leaves = leaves_so step (core.values cell) spares now then (ap (has_line 2) (sym step_is) ∙ last.0);
+        leaves = leaves_so step (core.values cell) spares now later (ap (has_line 2) (sym step_is) ∙ last.0);
         here = eqb-true (times cell (core.passes by).owned) 1 last.1;
       }
 
@@ -218,12 +222,12 @@ module _ (sizes : Sizes) (by : ℕ) (core : Core) where
   stays_out op found none = none
 
   steps_on : (op : Op) (found : ℕ)
-      → Steps (entered op (core.passes by).control (next_step sizes core.values (core.passes by))) (core.words (word_of sizes (core.passes by) op)) (may_act core by) ≡ Steps (Some op) found true
+      → Steps (entered sizes op (core.passes by).control (next_step sizes core.values (core.passes by))) (core.words (word_of sizes (core.passes by) op)) (may_act core by) ≡ Steps (Some op) found true
       → EventEnabled sizes (acts by (TakesStep op found)) core
   steps_on op found e =
-      let pass = core.passes by in let next = entered op pass.control (next_step sizes core.values pass) in let word = core.words (word_of sizes pass op) in
+      let pass = core.passes by in let next = entered sizes op pass.control (next_step sizes core.values pass) in let word = core.words (word_of sizes pass op) in
       come sizes by core (TakesStep op found) (step_may next op word found (may_act core by) e) (stays_out op found) record {
-        may = may_do core op (next_or_entry op pass.control (next_step sizes core.values pass) (step_next next op word found (may_act core by) e));
+        may = may_do core op (next_or_entry sizes op pass.control (next_step sizes core.values pass) (step_next next op word found (may_act core by) e));
         is = step_found next op word found (may_act core by) e;
       }
 

@@ -1,8 +1,8 @@
 -- Words: which of them a step may change.
 use Rattle.std.proofs.Common.{◌≡◌, ◌≢◌, ℕ, ◌==◌, Bool, true, false, List, [], ◌∷◌, Option, refl, sym, ap, subst, ◌∙◌}
 use Rattle.std.specs.Prelude.{Some, None}
-use Rattle.nv_core.specs.state.Words.{Sizes, Word, STOP, ORDER, HEAD, TAIL, HAND, CLEANER, SIZE, STORE, ENTRY, HINT, PAGE, DIRTY, family, is_lock, is_shut, CLEANUP}
-use Rattle.nv_core.specs.state.Cleaner.{Batch, CleanerControl, TakeHeader, RefusedGiveCleanup, GiveStores, GiveHeader, GiveCleaner, CleanerOp, TakeCleaner, Clean, Subtract, Free, MoveTail}
+use Rattle.nv_core.specs.state.Words.{Sizes, Word, STOP, ORDER, HEAD, TAIL, HAND, CLEANER, SIZE, STORE, ENTRY, HINT, PAGE, DIRTY, PROG, family, is_lock, is_shut, CLEANUP}
+use Rattle.nv_core.specs.state.Cleaner.{Batch, CleanerControl, TakeHeader, RefusedGiveCleanup, GiveStores, GiveHeader, GiveCleaner, CleanerOp, TakeCleaner, Clean, Subtract, MoveProgress, Free, MoveTail}
 use Rattle.nv_core.specs.state.Cleaner as cleaner
 use Rattle.nv_core.specs.steps.CleanerSteps.{cleaner_word, cleaner_value, next_cleaner_op}
 use Rattle.nv_core.specs.state.Passes.{Control, Pass}
@@ -14,7 +14,7 @@ use Rattle.nv_core.proofs.state.Changes.{by_word, word_else, number_self}
 use Rattle.nv_core.proofs.state.Choices.{if_both, not_both}
 use Rattle.nv_core.proofs.steps.CleanerControls.{tended}
 
--- whether a step of a cleaner may change a word: a lock, STOP, TAIL, an ENTRY or a DIRTY
+-- whether a step of a cleaner may change a word: a lock, STOP, TAIL, an ENTRY, a DIRTY or a PROG
 abbrev pub cleaner_op_touches : Word → CleanerOp → Bool
 cleaner_op_touches STOP cleaner.Stop = true
 cleaner_op_touches STOP cleaner_op = false
@@ -27,6 +27,8 @@ cleaner_op_touches (ENTRY slot) (Free number) = true
 cleaner_op_touches (ENTRY slot) cleaner_op = false
 cleaner_op_touches (DIRTY page) (Subtract other) = true
 cleaner_op_touches (DIRTY page) cleaner_op = false
+cleaner_op_touches (PROG who) (MoveProgress other number) = true
+cleaner_op_touches (PROG who) cleaner_op = false
 cleaner_op_touches word cleaner_op = is_lock word
 
 -- whether a step may change a word
@@ -92,7 +94,7 @@ next_locks sizes (cell ∷ rest) batch cleaner.GiveBack = if_both MayLock (is_lo
 next_locks sizes owned batch inner = tt
 
 pub cleaner_op_locks : (sizes : Sizes) (pass : Pass) (cleaner_op : CleanerOp) (control : Control) → CleanerEnabled sizes pass cleaner_op control → IsLocking cleaner_op
-cleaner_op_locks sizes pass cleaner_op control may = tended (λ c _. IsLocking c) sizes pass cleaner_op control may (λ _. tt) (λ batch inner e. subst MayLock e (next_locks sizes pass.owned batch inner))
+cleaner_op_locks sizes pass cleaner_op control may = tended (λ c _. IsLocking c) sizes pass cleaner_op control may (λ _ _ _. tt) (λ batch inner e. subst MayLock e (next_locks sizes pass.owned batch inner))
 
 -- the words that a cleaner's steps are made on are those that they may change
 lock_touched : (cell : Word) (cleaner_op : CleanerOp) → is_lock cell ≡ true → cleaner_op_touches cell cleaner_op ≡ true
@@ -100,6 +102,7 @@ lock_touched STOP cleaner_op lock = absurd (not_both lock refl)
 lock_touched TAIL cleaner_op lock = absurd (not_both lock refl)
 lock_touched (ENTRY slot) cleaner_op lock = absurd (not_both lock refl)
 lock_touched (DIRTY page) cleaner_op lock = absurd (not_both lock refl)
+lock_touched (PROG who) cleaner_op lock = absurd (not_both lock refl)
 lock_touched cell cleaner_op lock = lock
 
 cleaner_op_else : (sizes : Sizes) (word : Word) (cleaner_op : CleanerOp) → cleaner_op_touches (cleaner_word sizes cleaner_op) cleaner_op ≡ true → cleaner_op_touches word cleaner_op ≡ false → word ≢ cleaner_word sizes cleaner_op
@@ -110,11 +113,12 @@ cleaner_op_untouched : (sizes : Sizes) (words : Word → ℕ) (cleaner_op : Clea
 cleaner_op_untouched sizes words (cleaner.Load target) found lock is word not_so = same_value words target found is word
 cleaner_op_untouched sizes words (cleaner.Take cell) found lock is word not_so = word_else words cell 1 word (cleaner_op_else sizes word (cleaner.Take cell) (lock_touched cell (cleaner.Take cell) lock) not_so)
 cleaner_op_untouched sizes words (cleaner.Give cell) found lock is word not_so = word_else words cell 0 word (cleaner_op_else sizes word (cleaner.Give cell) (lock_touched cell (cleaner.Give cell) lock) not_so)
-cleaner_op_untouched sizes words (TakeCleaner most) found lock is word not_so = word_else words CLEANER 1 word (cleaner_op_else sizes word (TakeCleaner most) refl not_so)
+cleaner_op_untouched sizes words (TakeCleaner who most) found lock is word not_so = word_else words (CLEANER who) 1 word (cleaner_op_else sizes word (TakeCleaner who most) refl not_so)
 cleaner_op_untouched sizes words (cleaner.Hold number) found lock is word not_so = word_else words _ _ word (cleaner_op_else sizes word (cleaner.Hold number) refl not_so)
 cleaner_op_untouched sizes words (cleaner.Return number) found lock is word not_so = word_else words _ _ word (cleaner_op_else sizes word (cleaner.Return number) refl not_so)
 cleaner_op_untouched sizes words (Clean number) found lock is word not_so = word_else words _ _ word (cleaner_op_else sizes word (Clean number) refl not_so)
 cleaner_op_untouched sizes words (Subtract page) found lock is word not_so = word_else words _ _ word (cleaner_op_else sizes word (Subtract page) refl not_so)
+cleaner_op_untouched sizes words (MoveProgress who number) found lock is word not_so = word_else words _ _ word (cleaner_op_else sizes word (MoveProgress who number) refl not_so)
 cleaner_op_untouched sizes words (Free number) found lock is word not_so = word_else words _ _ word (cleaner_op_else sizes word (Free number) refl not_so)
 cleaner_op_untouched sizes words (MoveTail tail) found lock is word not_so = word_else words TAIL tail word (cleaner_op_else sizes word (MoveTail tail) refl not_so)
 cleaner_op_untouched sizes words cleaner.Stop found lock is word not_so = word_else words STOP 1 word (cleaner_op_else sizes word cleaner.Stop refl not_so)

@@ -36,7 +36,7 @@ spent_walked : IsShort (opening (short_mount (2 ^ 60 - 1))) walk_spent (HEAD ∷
 unfolding group_steps pieces_steps piece_steps data_steps entry_field_steps line_stores durable_store
 spent_walked = record { is_run = tabled short_sizes (opening (short_mount (2 ^ 60 - 1))) walk_spent refl (record { known = omega arith; near = omega arith; short = omega arith; plain = refl; bytes = bytes_of 8 9 (omega arith) }, tt); says = refl }
 
-raced_walked : IsShort grown_core walk_raced (STOP ∷ ORDER ∷ HEAD ∷ ENTRY 3 ∷ PAGE 0 ∷ PAGE 1 ∷ CLEANER ∷ []) (1 ∷ 1 ∷ 4 ∷ 5 ∷ 0 ∷ 0 ∷ 0 ∷ [])
+raced_walked : IsShort grown_core walk_raced (STOP ∷ ORDER ∷ HEAD ∷ ENTRY 3 ∷ PAGE 0 ∷ PAGE 1 ∷ CLEANER 0 ∷ []) (1 ∷ 1 ∷ 4 ∷ 5 ∷ 0 ∷ 0 ∷ 0 ∷ [])
 unfolding group_steps pieces_steps piece_steps data_steps entry_field_steps line_stores durable_store
 raced_walked = record { is_run = tabled short_sizes grown_core walk_raced refl (record { known = omega arith; near = omega arith; short = omega arith; plain = refl; bytes = bytes_of 1 1 (omega arith) }, (record { known = omega arith; near = omega arith; short = omega arith; plain = refl; bytes = bytes_of 1 1 (omega arith) }, (come short_sizes 0 _ _ refl (λ none. none) record { due = record { row = commit_call 3 64 (1 ∷ []) 0; there = omega arith; at = refl; cell = refl; spares = walk_spares 2; job = refl }; ends = record { never_falls = omega arith; more = omega arith }; leaves = fault_stays 2 (commit_call 3 64 (1 ∷ []) 0).step; here = refl }, (record { known = omega arith; near = omega arith; short = omega arith; plain = refl; bytes = tt }, (record { known = omega arith; near = omega arith; short = omega arith; plain = refl; bytes = tt }, tt))))); says = refl }
 
@@ -88,6 +88,7 @@ short_begins : (next : ℕ) → next ≤ 2 ^ 60 → IsMount (short_mount next)
 unfolding total
 short_begins next small = record {
   small = small;
+  cleaners = omega arith;
   buffers = record { many = refl };
   ready = λ slot less. record { lines = omega arith; spare = λ line below. (takes_15 2 line below).0 };
   header = record { there = omega arith; spare = λ line below. (takes_15 mount_layout.header_lines line below).0 };

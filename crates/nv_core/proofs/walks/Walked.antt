@@ -60,6 +60,7 @@ unfolding total
 search_is_walked = record {
   begins = record {
     small = omega arith;
+    cleaners = omega arith;
     buffers = record { many = refl };
     ready = λ slot less. record { lines = omega arith; spare = λ line below. (takes_15 2 line below).0 };
     header = record { there = omega arith; spare = λ line below. (takes_15 mount_layout.header_lines line below).0 };
@@ -88,6 +89,7 @@ pub walk_begins : WalkBegins
 unfolding total
 walk_begins = record {
   small = omega arith;
+  cleaners = omega arith;
   buffers = record { many = refl };
   ready = λ slot less. record { lines = omega arith; spare = λ line below. (takes_15 2 line below).0 };
   header = record { there = omega arith; spare = λ line below. (takes_15 mount_layout.header_lines line below).0 };

@@ -100,7 +100,7 @@ pub record HasRegion (sizes : Sizes) (names : List (List ℕ)) (tails : Tails) (
   pub files : length names ≡ sizes.files
   pub pages : sizes.pages ≤ mount_layout.page_limit
   pub low : core.words TAIL ≤ tails.least
-  pub persistent : PersistentTail sizes tails.next log core
+  pub persistent : PersistentTail sizes log core
 
 -- In every sound state in which the content of the log is right, each image does.
 abbrev pub StatesSurviveCrashes : Type 0

@@ -4,7 +4,7 @@ use Rattle.std.specs.List.{concat}
 use Rattle.nv_plain.specs.declared.call.FileCall.{FileCall}
 use Rattle.nv_plain.specs.declared.call.FileCall.TheVariants.{Write, Writev}
 use Rattle.nv_store.specs.Store.{Store, is_unsynced, durable_byte}
-use Rattle.nv_core.specs.state.Words.{Sizes, STORE}
+use Rattle.nv_core.specs.state.Words.{Sizes, STORE, PROG, cleaner_of_file}
 use Rattle.nv_core.specs.state.Core.{Core}
 use Rattle.nv_core.specs.content.StorePages.{store_of_value}
 use Rattle.nv_core.specs.invariant.LogWindow.{InWindow}
@@ -17,7 +17,7 @@ Touches (Write one at bytes) file i = (one ≡ file) × (at ≤ i) × (i < at + 
 Touches (Writev one at parts) file i = (one ≡ file) × (at ≤ i) × (i < at + length (concat parts))
 Touches call file i = ⊥
 
--- a byte of a file is one of a live piece, whose number is no lower than the tail that the header has
+-- a byte of a file is one of a live piece, whose number is no lower than this one
 pub record IsInAPiece (sizes : Sizes) (tail : ℕ) (log : Log) (core : Core) (file i : ℕ) : Type 0 where
   pub number : ℕ
   pub within : InWindow core number
@@ -33,6 +33,7 @@ pub record LiesInPieces (sizes : Sizes) (tail : ℕ) (log : Log) (core : Core) (
   pub unsynced : (i : ℕ) → is_unsynced store i ≡ true → IsInAPiece sizes tail log core file i
   pub longer : length store.durable < length store.seen → (i : ℕ) × (length store.seen ≤ i + 1) × IsInAPiece sizes tail log core file i
 
--- So it is of each store that tells.
-pub record PersistentTail (sizes : Sizes) (tail : ℕ) (log : Log) (core : Core) : Type 0 where
-  pub stores : (file : ℕ) (store : Store) → file < sizes.files → store_of_value (core.values (STORE file)) ≡ Some store → LiesInPieces sizes tail log core file store
+-- So it is of each store that tells, with the PROG of the cleaner that serves its file: no tail of the header is above that.
+pub record PersistentTail (sizes : Sizes) (log : Log) (core : Core) : Type 0 where
+  pub stores : (file : ℕ) (store : Store) → file < sizes.files → store_of_value (core.values (STORE file)) ≡ Some store
+      → LiesInPieces sizes (core.words (PROG (cleaner_of_file sizes file))) log core file store

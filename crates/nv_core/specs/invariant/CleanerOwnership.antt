@@ -1,6 +1,6 @@
 -- A cleaner's ownership: which locks a cleaner holds, by where it stands.
 use Rattle.std.specs.Prelude.{ℕ, ◌+◌, ◌==◌, if◌then◌else◌, List, [], ◌∷◌, take, drop}
-use Rattle.nv_core.specs.state.Cleaner.{Batch, CleanerControl, TakeHeader, WriteBack, CleanEntry, SubtractDirty, RefusedReturnEntry, FailedReturnEntry, RefusedGiveCleanup, GiveStores, GiveHeader, GiveCleaner, SetStop}
+use Rattle.nv_core.specs.state.Cleaner.{Batch, CleanerControl, WriteBack, CleanEntry, SubtractDirty, RefusedReturnEntry, FailedReturnEntry, RefusedGiveCleanup, GiveStores, LoadStopAgain, LoadTail, LoadEachProgress, MoveHeaderTail, FreeEntry, AdvanceTail, GiveHeader, SetStop, SetStopAfterMove}
 use Rattle.nv_core.specs.state.Cleaner as cleaner
 use Rattle.nv_core.specs.steps.CleanerSteps.{holds_store}
 
@@ -9,17 +9,21 @@ abbrev pub count_in : List ℕ → (number : ℕ) → ℕ
 count_in [] number = 0
 count_in (first ∷ rest) number = (if number == first then 1 else 0) + count_in rest number
 
--- HEADER, but before it has taken it and after it has given it back
+-- HEADER while it retires
 abbrev pub of_cleaner_header : CleanerControl → ℕ
-of_cleaner_header TakeHeader = 0
-of_cleaner_header GiveCleaner = 0
-of_cleaner_header inner = 1
+of_cleaner_header LoadStopAgain = 1
+of_cleaner_header LoadTail = 1
+of_cleaner_header (LoadEachProgress who) = 1
+of_cleaner_header (MoveHeaderTail calls) = 1
+of_cleaner_header (FreeEntry number) = 1
+of_cleaner_header AdvanceTail = 1
+of_cleaner_header GiveHeader = 1
+of_cleaner_header SetStopAfterMove = 1
+of_cleaner_header inner = 0
 
 -- STORE of the files of its batch, till it gives them back
 abbrev pub of_cleaner_store : Batch → CleanerControl → (file : ℕ) → ℕ
 of_cleaner_store batch (GiveStores files) file = count_in files file
-of_cleaner_store batch GiveHeader file = 0
-of_cleaner_store batch GiveCleaner file = 0
 of_cleaner_store batch inner file = if holds_store batch file then 1 else 0
 
 -- CLEANUP of the pages of the group at hand, while it takes them and gives them back those of a part of it

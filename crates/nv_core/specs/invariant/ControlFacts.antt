@@ -3,7 +3,7 @@ use Rattle.std.specs.Prelude.{◌≡◌, ◌≢◌, ℕ, zero, suc, ◌+◌, ◌
 use Rattle.nv_header.specs.HeaderSteps.{tail_steps}
 use Rattle.nv_plain.specs.declared.call.FileCall.{FileCall}
 use Rattle.nv_core.specs.state.Words.{Sizes, Word}
-use Rattle.nv_core.specs.state.Cleaner.{Batch, CleanerControl, TakeHeader, LoadTail, LoadHead, WriteBack, CleanEntry, SubtractDirty, RefusedReturnEntry, FailedReturnEntry, RefusedGiveCleanup, SyncStores, MoveHeaderTail, FreeEntry, AdvanceTail, GiveStores, SetStop}
+use Rattle.nv_core.specs.state.Cleaner.{Batch, CleanerControl, LoadProgress, LoadHead, GiveCleaner, WriteBack, CleanEntry, SubtractDirty, RefusedReturnEntry, FailedReturnEntry, RefusedGiveCleanup, SyncStores, GiveStores, MoveHeaderTail, FreeEntry, AdvanceTail, SetStop}
 use Rattle.nv_core.specs.state.Cleaner as cleaner
 use Rattle.nv_core.specs.steps.ControlSteps.{exceeds}
 use Rattle.nv_core.specs.state.Passes.{Control, Idle, TakePage, TakeSize, VisitPage, TakeCleanup, TakeStore, ReadStore, GiveStore, Search, TakeVictim, GiveVictim, Searching, ReadLoadHead, ReadLoadTail, LoadEntry, HoldEntry, ReadPiece, ReturnEntry, GiveCleanup, WriteLoadHead, WriteLoadTail, DrawNumbers, SeizeEntry, CommitGroup, PledgePage, ReadyEntry, GrowLength, GiveSize, GivePage, GiveBack, SetStopAfterRead, SetStopAfterPiece, SetStopAfterCommit, BreakEntry, Pass, IsAllowed, IsAmong, is_read, is_write, page_count, first_page, end_page, nth_of, first_pages, pages_of, Cleaning}
@@ -39,10 +39,10 @@ IsElsewhere pages search = Unit {0}
 
 -- what a cleaner needs to stand where it does
 abbrev pub CleanerFactsAt : Batch → (owned : List Word) → CleanerControl → Type 0
-CleanerFactsAt batch owned TakeHeader = length batch.pages ≡ 0
-CleanerFactsAt batch owned cleaner.LoadStop = length batch.pages ≡ 0
-CleanerFactsAt batch owned LoadTail = length batch.pages ≡ 0
+CleanerFactsAt batch owned cleaner.LoadStop = (length batch.pages ≡ 0) × (batch.files ≡ [])
+CleanerFactsAt batch owned LoadProgress = length batch.pages ≡ 0
 CleanerFactsAt batch owned LoadHead = length batch.pages ≡ 0
+CleanerFactsAt batch owned GiveCleaner = batch.files ≡ []
 CleanerFactsAt batch owned (cleaner.LoadEntry zero) = (length batch.pages ≡ 0) × (batch.reached < batch.head)
 CleanerFactsAt batch owned (cleaner.LoadEntry (suc i)) = (length batch.pages ≡ suc i) × (suc i < batch.count)
 CleanerFactsAt batch owned (cleaner.TakeCleanup i) = i < length batch.pages
@@ -56,11 +56,11 @@ CleanerFactsAt batch owned (cleaner.GiveCleanup i) = i < length batch.pages
 CleanerFactsAt batch owned (RefusedReturnEntry i end) = (i < end) × (end ≤ length batch.pages)
 CleanerFactsAt batch owned (FailedReturnEntry i end) = (i < end) × (end ≤ length batch.pages)
 CleanerFactsAt batch owned (RefusedGiveCleanup i) = i < length batch.pages
-CleanerFactsAt batch owned (SyncStores files) = (files ≢ []) × (batch.tail < batch.reached)
-CleanerFactsAt batch owned (MoveHeaderTail calls) = (calls < length (tail_steps batch.reached)) × (batch.tail < batch.reached)
-CleanerFactsAt batch owned (FreeEntry number) = (batch.tail ≤ number) × (number < batch.reached)
-CleanerFactsAt batch owned AdvanceTail = batch.tail < batch.reached
+CleanerFactsAt batch owned (SyncStores files) = files ≢ []
 CleanerFactsAt batch owned (GiveStores files) = files ≢ []
+CleanerFactsAt batch owned (MoveHeaderTail calls) = (calls < length (tail_steps batch.least)) × (batch.tail < batch.least)
+CleanerFactsAt batch owned (FreeEntry number) = (batch.tail ≤ number) × (number < batch.least)
+CleanerFactsAt batch owned AdvanceTail = batch.tail < batch.least
 CleanerFactsAt batch owned (SetStop held) = held ≤ length batch.pages
 CleanerFactsAt batch owned cleaner.GiveBack = owned ≢ []
 CleanerFactsAt batch owned inner = Unit {0}

@@ -1,7 +1,7 @@
 -- Forbidden steps: those that no sound state allows, and what a step that is allowed has before it.
-use Rattle.std.specs.Prelude.{◌≡◌, ◌≢◌, ◌⊎◌, ◌↔◌, ℕ, ◌+◌, ◌≤◌, List, [], true}
+use Rattle.std.specs.Prelude.{◌≡◌, ◌≢◌, ◌⊎◌, ◌↔◌, ℕ, ◌+◌, ◌/◌, ◌≤◌, List, [], true}
 use Rattle.nv_plain.specs.declared.call.Reply.{Reply}
-use Rattle.nv_core.specs.state.Words.{Sizes, Word, STOP, HEAD, TAIL, ENTRY, CLEANUP, DIRTY, free, ready, kind_of, broken, slot_of_entry}
+use Rattle.nv_core.specs.state.Words.{Sizes, Word, STOP, HEAD, TAIL, ENTRY, CLEANUP, DIRTY, free, ready, kind_of, page_of, broken, slot_of_entry, cleaner_of_file}
 use Rattle.nv_core.specs.state.Cleaner.{Batch, CleanerControl}
 use Rattle.nv_core.specs.state.Cleaner as cleaner
 use Rattle.nv_core.specs.steps.CleanerSteps.{after_cleaner_op, surveyed, batch_with_page, count_of}
@@ -14,7 +14,7 @@ use Rattle.nv_core.specs.steps.Events.{FoundEnabled}
 use Rattle.nv_core.specs.invariant.ControlFacts.{IsPage}
 use Rattle.nv_core.specs.invariant.Ownership.{cleanup_held}
 use Rattle.nv_core.specs.invariant.LogWindow.{Fills, InWindow, entry_word_at}
-use Rattle.nv_core.specs.log.Progress.{HasLoadedTail, IsBatchBounded}
+use Rattle.nv_core.specs.log.Progress.{HasLoadedProgress, IsBatchBounded}
 use Rattle.nv_core.specs.invariant.StopWord.{HasFailed}
 use Rattle.nv_core.specs.invariant.Sound.{Sound}
 
@@ -131,16 +131,17 @@ NoDrawPastTheEnd =
     (sizes : Sizes) (first : Values) (core : Core) (by found : ℕ) → Sound sizes first core
     → FoundEnabled sizes by core Draw found → (after_step sizes by Draw found core).words HEAD ≤ core.words TAIL + sizes.entries
 
--- What a cleaner has cleaned, with the group at hand, is at most its batch; or it is the first group alone.
+-- What a cleaner has cleaned, with the group at hand, is at most its batch; or it is the first group of its files alone.
 abbrev pub NoBatchPastItsBound : Type 0
 NoBatchPastItsBound =
     (sizes : Sizes) (first : Values) (core : Core) (by : ℕ) (batch : Batch) (inner : CleanerControl) (sound : Sound sizes first core)
-    → (core.passes by).control ≡ Cleaning batch inner → HasLoadedTail inner → IsBatchBounded sound.grouped.log batch
+    → (core.passes by).control ≡ Cleaning batch inner → HasLoadedProgress inner → IsBatchBounded sizes sound.grouped.log batch
 
--- A cleaner goes on with the next group exactly where its leader is ready, and the group is the first or fits the batch: whatever its size the
--- first one is passed, and of the others each that fits.
+-- A cleaner goes on with the next group of its files exactly where its leader is ready, and the group is the first or fits the batch: whatever its
+-- size the first one is passed, and of the others each that fits.
 abbrev pub GroupsArePassedByTheBound : Type 0
 GroupsArePassedByTheBound =
     (sizes : Sizes) (owned : List Word) (batch : Batch) (found : ℕ)
+    → cleaner_of_file sizes (page_of found / sizes.pages) ≡ batch.cleaner
     → (after_cleaner_op sizes owned batch (cleaner.LoadEntry 0) found ≡ surveyed (batch_with_page batch 0 found) 0)
-    ↔ ((kind_of found ≡ ready) × ((batch.reached ≡ batch.tail) ⊎ (batch.reached + count_of found ≤ batch.tail + batch.most)))
+    ↔ ((kind_of found ≡ ready) × ((batch.passed ≡ 0) ⊎ (batch.passed + count_of found ≤ batch.most)))

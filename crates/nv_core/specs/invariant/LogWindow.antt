@@ -1,7 +1,7 @@
 -- The log's window: which numbers the log has, and what each of their slots is.
 use Rattle.std.specs.Prelude.{◌≡◌, ◌≢◌, ◌⊎◌, ℕ, ◌+◌, ◌^◌, ◌<◌, ◌≤◌, true}
-use Rattle.nv_core.specs.state.Words.{Sizes, STOP, HEAD, TAIL, ENTRY, kind_of, free, filling, cleaned, was_readied, slot_of_entry}
-use Rattle.nv_core.specs.invariant.CleanerNumbers.{IsCleaned, IsFreed}
+use Rattle.nv_core.specs.state.Words.{Sizes, HEAD, TAIL, ENTRY, kind_of, free, filling, was_readied, slot_of_entry}
+use Rattle.nv_core.specs.invariant.CleanerNumbers.{IsFreed}
 use Rattle.nv_core.specs.state.Passes.{Pass, IsUnseized, IsFilling}
 use Rattle.nv_core.specs.state.Core.{Core}
 
@@ -25,7 +25,7 @@ abbrev pub WasReadied : Sizes → Core → (number : ℕ) → Type 0
 WasReadied sizes core number = (was_readied (entry_word_at sizes core number) ≡ true) ⊎ ((by : ℕ) × IsFreed (core.passes by).control number)
 
 -- Each number of the window is drawn and not seized by a pass, being filled by one, ready, held, cleaned or broken: by its word no two
--- of these at once; or it is freed by a cleaner that is still to move TAIL.
+-- of these at once; or it is freed by the cleaner that holds HEADER, which is still to move TAIL.
 pub data IsNumbered (sizes : Sizes) (core : Core) (number : ℕ) : Type 0 where
   Drawn : (by : ℕ) → HasUnseized (core.passes by) number → IsNumbered sizes core number
   Filling : (by : ℕ) → Fills (core.passes by) number → IsNumbered sizes core number
@@ -43,11 +43,6 @@ pub record LogWindow (sizes : Sizes) (core : Core) : Type 0 where
   pub filling_is : (by number : ℕ) → Fills (core.passes by) number → entry_word_at sizes core number ≡ filling
   pub freed_in : (by number : ℕ) → IsFreed (core.passes by).control number → InWindow core number
   pub freed_is : (by number : ℕ) → IsFreed (core.passes by).control number → entry_word_at sizes core number ≡ free
-  -- what a cleaner has cleaned is in the window, and its word says so; and nothing else is cleaned, but after STOP
-  pub cleaned_in : (by number : ℕ) → IsCleaned (core.passes by).control number → InWindow core number
-  pub cleaned_is : (by number : ℕ) → IsCleaned (core.passes by).control number → kind_of (entry_word_at sizes core number) ≡ cleaned
-  pub cleaned_by : (number : ℕ) → InWindow core number → kind_of (entry_word_at sizes core number) ≡ cleaned → core.words STOP ≡ 0
-      → (by : ℕ) × IsCleaned (core.passes by).control number
   -- no two passes have one number, and a freed one is not drawn again
   pub unseized_by_one : (by other number : ℕ) → HasUnseized (core.passes by) number → HasUnseized (core.passes other) number → by ≡ other
   pub freed_by_none : (by other number : ℕ) → HasUnseized (core.passes by) number → IsFreed (core.passes other).control number → ⊥

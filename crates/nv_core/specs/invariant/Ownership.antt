@@ -62,10 +62,10 @@ abbrev pub store_times : Pass → Control → (file : ℕ) → ℕ
 store_times pass (Cleaning batch inner) file = of_cleaner_store batch inner file
 store_times pass control file = if file == file_of pass.call then store_held control else 0
 
--- CLEANER and HEADER are a cleaner's
-abbrev pub cleaner_held : Control → ℕ
-cleaner_held (Cleaning batch inner) = 1
-cleaner_held control = 0
+-- CLEANER of its own number and HEADER are a cleaner's
+abbrev pub cleaner_held : Control → (cleaner : ℕ) → ℕ
+cleaner_held (Cleaning batch inner) cleaner = one_if (cleaner == batch.cleaner)
+cleaner_held control cleaner = 0
 
 abbrev pub header_held : Control → ℕ
 header_held (Cleaning batch inner) = of_cleaner_header inner
@@ -76,7 +76,7 @@ abbrev pub lock_held : Sizes → Pass → Control → Word → ℕ
 lock_held sizes pass control (PAGE page) = page_held sizes pass control page
 lock_held sizes pass control (SIZE file) = if file == file_of pass.call then size_held pass control else 0
 lock_held sizes pass control (STORE file) = store_times pass control file
-lock_held sizes pass control CLEANER = cleaner_held control
+lock_held sizes pass control (CLEANER cleaner) = cleaner_held control cleaner
 lock_held sizes pass control HEADER = header_held control
 lock_held sizes pass control (CLEANUP page) = cleanup_held pass.pages control page
 lock_held sizes pass control cell = 0

@@ -7,8 +7,7 @@ use Rattle.nv_pmem.specs.Steps.{LineStep}
 use Rattle.nv_entry.specs.Group.{IsReady}
 use Rattle.nv_header.specs.HeaderSteps.{tail_steps}
 use Rattle.nv_header.specs.Regions.{IsRoomy}
-use Rattle.nv_core.specs.state.Cleaner.{CleanerControl, LoadTail, LoadHead, WriteBack, CleanEntry, SubtractDirty, RefusedReturnEntry, RefusedGiveCleanup, SyncStores, MoveHeaderTail, SetStop}
-use Rattle.nv_core.specs.state.Cleaner as cleaner
+use Rattle.nv_core.specs.state.Cleaner.{CleanerControl, LoadTail, LoadEachProgress, MoveHeaderTail, SetStopAfterMove}
 use Rattle.nv_core.specs.state.Words.{Sizes, STOP, HEADER, ENTRY, was_readied, free, slot_of_entry}
 use Rattle.nv_core.specs.state.Spares.{room_of_spares}
 use Rattle.nv_core.specs.state.Values.{Value, APart}
@@ -45,34 +44,22 @@ abbrev pub KeepsRoomy : Value → Type 0
 KeepsRoomy (APart device spares) = IsRoomy mount_layout.header_lines (room_of_spares spares)
 KeepsRoomy value = ⊥
 
--- a cleaner has begun to move the header's tail, or has met a fault, and not yet set STOP
+-- a cleaner has begun to move the header's tail, or has met a fault at that, and not yet set STOP
 abbrev pub IsMoving : Control → Type 0
 IsMoving (Cleaning batch (MoveHeaderTail (suc calls))) = Unit {0}
-IsMoving (Cleaning batch (SetStop held)) = Unit {0}
+IsMoving (Cleaning batch SetStopAfterMove) = Unit {0}
 IsMoving control = ⊥
 
--- a cleaner has found STOP at 0, and not begun to move the tail
+-- a cleaner has found STOP at 0 under HEADER, and not begun to move the tail
 abbrev pub IsUnmoved : CleanerControl → Type 0
 IsUnmoved LoadTail = Unit {0}
-IsUnmoved LoadHead = Unit {0}
-IsUnmoved (cleaner.LoadEntry i) = Unit {0}
-IsUnmoved (cleaner.TakeCleanup i) = Unit {0}
-IsUnmoved cleaner.TakeStore = Unit {0}
-IsUnmoved (cleaner.HoldEntry i) = Unit {0}
-IsUnmoved (cleaner.ReadPiece i) = Unit {0}
-IsUnmoved (WriteBack i) = Unit {0}
-IsUnmoved (CleanEntry i) = Unit {0}
-IsUnmoved (SubtractDirty i) = Unit {0}
-IsUnmoved (cleaner.GiveCleanup i) = Unit {0}
-IsUnmoved (RefusedReturnEntry i end) = Unit {0}
-IsUnmoved (RefusedGiveCleanup i) = Unit {0}
-IsUnmoved (SyncStores files) = Unit {0}
+IsUnmoved (LoadEachProgress who) = Unit {0}
 IsUnmoved (MoveHeaderTail zero) = Unit {0}
 IsUnmoved inner = ⊥
 
 -- then the header's part has room, and while it moves the tail, that part comes to have it by the calls that are still to come
 abbrev pub MovesRoomy : Control → Value → Type 0
-MovesRoomy (Cleaning batch (MoveHeaderTail (suc calls))) value = EndsRoomy (drop (suc calls) (tail_steps batch.reached)) value
+MovesRoomy (Cleaning batch (MoveHeaderTail (suc calls))) value = EndsRoomy (drop (suc calls) (tail_steps batch.least)) value
 MovesRoomy (Cleaning batch inner) value = IsUnmoved inner → KeepsRoomy value
 MovesRoomy control value = Unit {0}
 

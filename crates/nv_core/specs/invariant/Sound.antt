@@ -7,6 +7,7 @@ use Rattle.nv_core.specs.invariant.Numbers.{Numbers}
 use Rattle.nv_core.specs.invariant.ControlFacts.{ControlFacts}
 use Rattle.nv_core.specs.invariant.Ownership.{Ownership}
 use Rattle.nv_core.specs.invariant.Locks.{Locks}
+use Rattle.nv_core.specs.invariant.Cleaners.{Cleaners}
 use Rattle.nv_core.specs.invariant.LogWindow.{LogWindow}
 use Rattle.nv_core.specs.invariant.EntryWords.{EntryWords}
 use Rattle.nv_core.specs.invariant.DirtyCounters.{DirtyCounters}
@@ -47,6 +48,7 @@ pub record Sound (sizes : Sizes) (first : Values) (core : Core) : Type 0 where
   pub control_facts : (number : ℕ) → ControlFacts sizes (core.passes number)
   pub ownership : (number : ℕ) → Ownership sizes (core.passes number)
   pub locks : Locks core
+  pub cleaners : Cleaners sizes core
   pub window : LogWindow sizes core
   pub entries : EntryWords sizes core.words
   pub dirty : DirtyCounters sizes core

@@ -2,7 +2,7 @@
 use Rattle.std.specs.Prelude.{◌≡◌, ℕ, ◌≤◌, true}
 use Rattle.nv_plain.specs.Faults.{Rose}
 use Rattle.nv_core.specs.state.Words.{Sizes, Word, STOP, IsWord}
-use Rattle.nv_core.specs.state.Cleaner.{SetStop}
+use Rattle.nv_core.specs.state.Cleaner.{SetStop, SetStopAfterMove}
 use Rattle.nv_core.specs.state.Passes.{Control, Cleaning}
 use Rattle.nv_core.specs.state.Values.{faults_of}
 use Rattle.nv_core.specs.steps.Order.{Values, IsFailing}
@@ -17,6 +17,7 @@ pub record HasFailed (sizes : Sizes) (first now : Values) : Type 0 where
 -- a cleaner is about to set STOP
 abbrev pub IsSettingStop : Control → Type 0
 IsSettingStop (Cleaning batch (SetStop held)) = Unit {0}
+IsSettingStop (Cleaning batch SetStopAfterMove) = Unit {0}
 IsSettingStop control = ⊥
 
 -- STOP is 0 or 1. It is 1, and a pass is about to set it, only where a count rose, and no count ever fell. A pass that has seen it

@@ -26,7 +26,7 @@ tails_moved ending tail calls tails = tails
 
 -- after a device call of a pass
 abbrev pub tails_worked : CallEnding → Control → Tails → Tails
-tails_worked ending (Cleaning batch (MoveHeaderTail calls)) tails = tails_moved ending batch.reached (calls + 1) tails
+tails_worked ending (Cleaning batch (MoveHeaderTail calls)) tails = tails_moved ending batch.least (calls + 1) tails
 tails_worked ending control tails = tails
 
 abbrev pub tails_acted : Control → Act → Tails → Tails

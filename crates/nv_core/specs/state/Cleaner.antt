@@ -2,24 +2,29 @@
 use Rattle.std.specs.Prelude.{ℕ, List}
 use Rattle.nv_core.specs.state.Words.{Word}
 
--- A batch: how many entries it may pass; TAIL and HEAD as it loaded them; the end of the groups that it has cleaned; how many entries the
--- group at hand has, and the pages of those whose ENTRY it has loaded; and the files whose STORE it holds.
+-- A batch: the number of its cleaner; how many entries it may pass; PROG and HEAD as it loaded them; the end of the groups that it has passed, and how
+-- many entries of its own files were among them; how many entries the group at hand has, and the pages of those whose ENTRY it has loaded; the
+-- files whose STORE it holds; and, to retire, TAIL and the least PROG as it loaded them.
 pub record Batch : Type 0 where
+  pub cleaner : ℕ
   pub most : ℕ
-  pub tail : ℕ
+  pub start : ℕ
   pub head : ℕ
   pub reached : ℕ
+  pub passed : ℕ
   pub count : ℕ
   pub pages : List ℕ
   pub files : List ℕ
+  pub tail : ℕ
+  pub least : ℕ
 
 -- Where a cleaner stands: what its next step is. The entries of the group at hand are named by their places in it.
 pub data CleanerControl : Type 0 where
-  -- HEADER is taken next, CLEANER being held; STOP, TAIL and HEAD are loaded
-  TakeHeader : CleanerControl
+  -- STOP, its PROG and HEAD are loaded, CLEANER being held; where STOP is found 1, CLEANER is given back
   LoadStop : CleanerControl
-  LoadTail : CleanerControl
+  LoadProgress : CleanerControl
   LoadHead : CleanerControl
+  GiveCleaner : CleanerControl
   -- the group at hand: this one's ENTRY is loaded next; CLEANUP of its page is taken; and then STORE of the file, if it isn't held
   LoadEntry : (i : ℕ) → CleanerControl
   TakeCleanup : (i : ℕ) → CleanerControl
@@ -37,25 +42,30 @@ pub data CleanerControl : Type 0 where
   RefusedReturnEntry : (i end : ℕ) → CleanerControl
   FailedReturnEntry : (i end : ℕ) → CleanerControl
   RefusedGiveCleanup : (i : ℕ) → CleanerControl
-  -- these stores are synced, the next one first; the header's tail is moved, of which so many device calls came; this number's entry is
-  -- freed next; TAIL moves
+  -- these stores are synced, the next one first; PROG moves; STORE of these is given back, the next one first
   SyncStores : (files : List ℕ) → CleanerControl
+  AdvanceProgress : CleanerControl
+  GiveStores : (files : List ℕ) → CleanerControl
+  -- to retire: HEADER is taken next; STOP is loaded again, TAIL, and the PROG of this cleaner
+  TakeHeader : CleanerControl
+  LoadStopAgain : CleanerControl
+  LoadTail : CleanerControl
+  LoadEachProgress : (who : ℕ) → CleanerControl
+  -- the header's tail is moved, of which so many device calls came; this number's entry is freed next; TAIL moves; HEADER is given back
   MoveHeaderTail : (calls : ℕ) → CleanerControl
   FreeEntry : (number : ℕ) → CleanerControl
   AdvanceTail : CleanerControl
-  -- STORE of these is given back, the next one first; HEADER; CLEANER
-  GiveStores : (files : List ℕ) → CleanerControl
   GiveHeader : CleanerControl
-  GiveCleaner : CleanerControl
-  -- after a device fault, with so many entries of the group held, STOP is set next
+  -- after a device fault STOP is set next: with so many entries of the group held, or while the header's tail was moved
   SetStop : (held : ℕ) → CleanerControl
+  SetStopAfterMove : CleanerControl
   -- all that is held is given back, the last taken first
   GiveBack : CleanerControl
 
 -- A cleaner's step, by its kind: the take of CLEANER with which it begins, for a batch of so many; load, take, give, hold, return as ready,
--- return as cleaned, subtract, free, tail, stop. An entry is named by its number.
+-- return as cleaned, subtract, progress, free, tail, stop. An entry is named by its number.
 pub data CleanerOp : Type 0 where
-  TakeCleaner : (most : ℕ) → CleanerOp
+  TakeCleaner : (who most : ℕ) → CleanerOp
   Load : Word → CleanerOp
   Take : Word → CleanerOp
   Give : Word → CleanerOp
@@ -63,6 +73,7 @@ pub data CleanerOp : Type 0 where
   Return : (number : ℕ) → CleanerOp
   Clean : (number : ℕ) → CleanerOp
   Subtract : (page : ℕ) → CleanerOp
+  MoveProgress : (who number : ℕ) → CleanerOp
   Free : (number : ℕ) → CleanerOp
   MoveTail : (tail : ℕ) → CleanerOp
   Stop : CleanerOp

@@ -1,22 +1,23 @@
 -- Words: the shared words by name, and where each of them stands.
-use Rattle.std.specs.Prelude.{◌≡◌, ℕ, ◌+◌, ◌*◌, ◌/◌, ◌%◌, ◌<◌, ◌==◌, ◌&&◌, nat_le, Bool, true, false, if◌then◌else◌}
+use Rattle.std.specs.Prelude.{◌≡◌, ℕ, zero, suc, ◌+◌, ◌*◌, ◌/◌, ◌%◌, ◌<◌, ◌==◌, ◌&&◌, nat_le, Bool, true, false, if◌then◌else◌}
 
--- The sizes of a mount: bytes of a page, files, pages of a file, entries of the log, and buffers.
+-- The sizes of a mount: bytes of a page, files, pages of a file, entries of the log, buffers, and cleaners.
 pub record Sizes : Type 0 where
   pub page : ℕ
   pub files : ℕ
   pub pages : ℕ
   pub entries : ℕ
   pub buffers : ℕ
+  pub cleaners : ℕ
 
--- A shared word. Those that end the line of a family are counted: a file's, an entry's, a hint's, a page's.
+-- A shared word. Those that end the line of a family are counted: a cleaner's, a file's, an entry's, a hint's, a page's.
 pub data Word : Type 0 where
   STOP : Word
   ORDER : Word
   HEAD : Word
   TAIL : Word
   HAND : Word
-  CLEANER : Word
+  CLEANER : (cleaner : ℕ) → Word
   HEADER : Word
   SIZE : (file : ℕ) → Word
   LENGTH : (file : ℕ) → Word
@@ -26,6 +27,7 @@ pub data Word : Type 0 where
   PAGE : (page : ℕ) → Word
   CLEANUP : (page : ℕ) → Word
   DIRTY : (page : ℕ) → Word
+  PROG : (cleaner : ℕ) → Word
 
 -- which family a word is of
 abbrev pub family : Word → ℕ
@@ -34,7 +36,7 @@ family ORDER = 1
 family HEAD = 2
 family TAIL = 3
 family HAND = 4
-family CLEANER = 5
+family (CLEANER cleaner) = 5
 family HEADER = 6
 family (SIZE file) = 7
 family (LENGTH file) = 8
@@ -44,9 +46,11 @@ family (HINT buffer) = 11
 family (PAGE page) = 12
 family (CLEANUP page) = 13
 family (DIRTY page) = 14
+family (PROG cleaner) = 15
 
 -- and which one of them it is
 abbrev pub index : Word → ℕ
+index (CLEANER cleaner) = cleaner
 index (SIZE file) = file
 index (LENGTH file) = file
 index (STORE file) = file
@@ -55,6 +59,7 @@ index (HINT buffer) = buffer
 index (PAGE page) = page
 index (CLEANUP page) = page
 index (DIRTY page) = page
+index (PROG cleaner) = cleaner
 index _ = 0
 
 -- whether two words are one
@@ -69,14 +74,20 @@ page_total sizes = sizes.files * sizes.pages
 abbrev pub first_page_word : Sizes → ℕ
 first_page_word sizes = 7 + 3 * sizes.files + sizes.entries + sizes.buffers
 
--- Where a word stands: seven single ones, three for each file, one for each entry and each buffer, and three for each page.
+-- the word behind those of the last page
+abbrev pub end_page_words : Sizes → ℕ
+end_page_words sizes = first_page_word sizes + 3 * page_total sizes
+
+-- Where a word stands: seven single ones, of which one is the first cleaner's, three for each file, one for each entry and each buffer, three for
+-- each page, one for each cleaner, and one for each cleaner but the first.
 abbrev pub place : Sizes → Word → ℕ
 place sizes STOP = 0
 place sizes ORDER = 1
 place sizes HEAD = 2
 place sizes TAIL = 3
 place sizes HAND = 4
-place sizes CLEANER = 5
+place sizes (CLEANER zero) = 5
+place sizes (CLEANER (suc others)) = end_page_words sizes + sizes.cleaners + others
 place sizes HEADER = 6
 place sizes (SIZE file) = 7 + 3 * file
 place sizes (LENGTH file) = 8 + 3 * file
@@ -86,9 +97,11 @@ place sizes (HINT buffer) = 7 + 3 * sizes.files + sizes.entries + buffer
 place sizes (PAGE page) = first_page_word sizes + 3 * page
 place sizes (CLEANUP page) = first_page_word sizes + 3 * page + 1
 place sizes (DIRTY page) = first_page_word sizes + 3 * page + 2
+place sizes (PROG cleaner) = end_page_words sizes + cleaner
 
 -- a word that a mount of these sizes has
 abbrev pub IsWord : Sizes → Word → Type 0
+IsWord sizes (CLEANER cleaner) = cleaner < sizes.cleaners
 IsWord sizes (SIZE file) = file < sizes.files
 IsWord sizes (LENGTH file) = file < sizes.files
 IsWord sizes (STORE file) = file < sizes.files
@@ -97,11 +110,16 @@ IsWord sizes (HINT buffer) = buffer < sizes.buffers
 IsWord sizes (PAGE page) = page < page_total sizes
 IsWord sizes (CLEANUP page) = page < page_total sizes
 IsWord sizes (DIRTY page) = page < page_total sizes
+IsWord sizes (PROG cleaner) = cleaner < sizes.cleaners
 IsWord sizes _ = Unit {0}
 
 -- Words of a mount that stand at one place are one.
 abbrev pub PlacesDiffer : Type 0
 PlacesDiffer = (sizes : Sizes) (one other : Word) → IsWord sizes one → IsWord sizes other → place sizes one ≡ place sizes other → one ≡ other
+
+-- the cleaner that serves a file
+abbrev pub cleaner_of_file : Sizes → (file : ℕ) → ℕ
+cleaner_of_file sizes file = file % sizes.cleaners
 
 -- the slot of an entry, by its number
 abbrev pub slot_of_entry : Sizes → (number : ℕ) → ℕ
@@ -151,7 +169,7 @@ is_entry_of kind page word = kind_of word == kind && page_of word == page
 
 -- whether a word is a lock, which is 0 or 1
 abbrev pub is_lock : Word → Bool
-is_lock CLEANER = true
+is_lock (CLEANER cleaner) = true
 is_lock HEADER = true
 is_lock (SIZE file) = true
 is_lock (STORE file) = true

@@ -5,7 +5,8 @@ use Rattle.nv_core.specs.state.Words.{Sizes, Word, STOP, ORDER, HEAD, TAIL, LENG
 use Rattle.nv_core.specs.state.Passes.{Control, Idle, TakePage, LoadLength, TakeSize, LoadStop, LoadOrder, VisitPage, TakeCleanup, Search, LoadHint, TakeVictim, GiveVictim, VictimGiven, NotFound, HintSet, Searching, TakeStore, ReadStore, GiveStore, ReadLoadHead, ReadLoadTail, LoadEntry, HoldEntry, ReadPiece, ReturnEntry, GiveCleanup, WriteLoadHead, WriteLoadTail, DrawNumbers, SeizeEntry, CommitGroup, PledgePage, ReadyEntry, TakePlace, GrowLength, GiveSize, GivePage, GiveBack, SetStopAfterPiece, SetStopAfterCommit, BreakEntry, Pass, at_of, len_of, is_write, is_read, page_count, first_page, end_page, without, Cleaning}
 use Rattle.nv_core.specs.steps.Ops.{Op, Load, Take, Give, Place, Stop, Draw, Seize, Pledge, Ready, Grow, Break, Turn, Hint, Hold, Return, moved, cleaner_move, ByCleaner}
 use Rattle.nv_core.specs.invariant.CleanerOwnership.{count_in}
-use Rattle.nv_core.specs.state.Cleaner.{CleanerOp, TakeCleaner, TakeHeader}
+use Rattle.nv_core.specs.state.Cleaner.{CleanerOp, TakeCleaner}
+use Rattle.nv_core.specs.state.Cleaner as cleaner
 use Rattle.nv_core.specs.steps.CleanerSteps.{new_batch, after_cleaner_op}
 
 -- a test is true
@@ -183,7 +184,7 @@ after_return sizes pass control = control
 -- A cleaner begins, or goes on. Its owned cells are those after the step.
 abbrev pub after_by_cleaner : Sizes → (owned : List Word) → CleanerOp → (found : ℕ) → Control → Control
 after_by_cleaner sizes owned cleaner_op found (Cleaning batch inner) = after_cleaner_op sizes owned batch inner found
-after_by_cleaner sizes owned (TakeCleaner most) found Idle = if found == 0 then Cleaning (new_batch most) TakeHeader else Idle
+after_by_cleaner sizes owned (TakeCleaner who most) found Idle = if found == 0 then Cleaning (new_batch who most) cleaner.LoadStop else Idle
 after_by_cleaner sizes owned cleaner_op found control = control
 
 abbrev pub control_after : Sizes → Pass → Op → (found : ℕ) → Control

@@ -1,7 +1,7 @@
 -- Opening: the state in which a mount begins.
 use Rattle.std.specs.Prelude.{ℕ, ◌^◌, ◌<◌, ◌≤◌, false, []}
 use Rattle.nv_plain.specs.declared.call.FileCall.TheVariants.{Sync}
-use Rattle.nv_core.specs.state.Words.{Sizes, Word, HEADER, HEAD, TAIL, LENGTH, ENTRY, HINT}
+use Rattle.nv_core.specs.state.Words.{Sizes, Word, HEADER, HEAD, TAIL, LENGTH, ENTRY, HINT, PROG}
 use Rattle.nv_core.specs.state.Passes.{Idle, Pass}
 use Rattle.nv_core.specs.steps.Order.{Values}
 use Rattle.nv_core.specs.state.Core.{Core}
@@ -15,12 +15,13 @@ pub record Mount : Type 0 where
   pub lengths : ℕ → ℕ
   pub values : Values
 
--- the words at opening: HEAD and TAIL are the next number, the lengths are the stores', hint j is of page j, and all others are 0
+-- the words at opening: HEAD, TAIL and each PROG are the next number, the lengths are the stores', hint j is of page j, and all others are 0
 abbrev pub opening_word : Mount → Word → ℕ
 opening_word mount HEAD = mount.next
 opening_word mount TAIL = mount.next
 opening_word mount (LENGTH file) = mount.lengths file
 opening_word mount (HINT buffer) = buffer
+opening_word mount (PROG cleaner) = mount.next
 opening_word mount word = 0
 
 -- a pass that has seen nothing yet
@@ -56,9 +57,10 @@ opening mount = record {
   ended = [];
 }
 
--- Its numbers are small, it has as many buffers as its sizes say, and its parts have room.
+-- Its numbers are small, it has a cleaner and as many buffers as its sizes say, and its parts have room.
 pub record IsMount (mount : Mount) : Type 0 where
   pub small : mount.next ≤ 2 ^ 60
+  pub cleaners : 1 ≤ mount.sizes.cleaners
   pub buffers : BuffersKept mount.sizes mount.values
   pub ready : (slot : ℕ) → slot < mount.sizes.entries → KeepsReady mount.sizes (mount.values (ENTRY slot))
   pub header : KeepsRoomy (mount.values HEADER)

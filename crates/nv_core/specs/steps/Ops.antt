@@ -107,7 +107,7 @@ pub data Move : Type 0 where
 
 -- what moves by a step of a cleaner
 abbrev pub cleaner_move : Sizes → CleanerOp → (found : ℕ) → Move
-cleaner_move sizes (TakeCleaner most) found = if found == 0 then Comes CLEANER else Stays
+cleaner_move sizes (TakeCleaner who most) found = if found == 0 then Comes (CLEANER who) else Stays
 cleaner_move sizes (cleaner.Take cell) found = if found == 0 then Comes cell else Stays
 cleaner_move sizes (cleaner.Give cell) found = Goes cell
 cleaner_move sizes (cleaner.Hold number) found = Comes (ENTRY (slot_of_entry sizes number))

@@ -122,14 +122,14 @@ step_at sizes values pass control = None
 abbrev pub next_step : Sizes → Values → Pass → Option Op
 next_step sizes values pass = step_at sizes values pass pass.control
 
--- An idle pass may begin a batch, of any size.
-abbrev pub IsBatchEntry : Op → Control → Type 0
-IsBatchEntry (ByCleaner (TakeCleaner most)) Idle = Unit {0}
-IsBatchEntry op control = ⊥
+-- An idle pass may begin a batch of any cleaner that is there, of any size.
+abbrev pub IsBatchEntry : Sizes → Op → Control → Type 0
+IsBatchEntry sizes (ByCleaner (TakeCleaner who most)) Idle = who < sizes.cleaners
+IsBatchEntry sizes op control = ⊥
 
 -- A step may come where it is the next one, or where an idle pass begins a batch by it.
 abbrev pub Enabled : Sizes → Values → Pass → Op → Type 0
-Enabled sizes values pass op = (next_step sizes values pass ≡ Some op) ⊎ IsBatchEntry op pass.control
+Enabled sizes values pass op = (next_step sizes values pass ≡ Some op) ⊎ IsBatchEntry sizes op pass.control
 
 -- a device has failed
 abbrev pub IsFailing : Control → Type 0
@@ -221,7 +221,7 @@ abbrev pub CleanerCallDue : Sizes → Values → Batch → Work → CleanerContr
 CleanerCallDue sizes values batch work (cleaner.ReadPiece i) = IsPieceRead sizes values (batch.reached + i) work
 CleanerCallDue sizes values batch work (WriteBack i) = IsPieceWrite sizes values batch (batch.reached + i) work
 CleanerCallDue sizes values batch work (SyncStores (file ∷ rest)) = (work.cell ≡ STORE file) × (work.job ≡ StoreSync)
-CleanerCallDue sizes values batch work (MoveHeaderTail calls) = IsTailCall batch.reached calls work
+CleanerCallDue sizes values batch work (MoveHeaderTail calls) = IsTailCall batch.least calls work
 CleanerCallDue sizes values batch work inner = ⊥
 
 -- A device call ends by a fault only where the count rose. Only a store may refuse one for want of memory.

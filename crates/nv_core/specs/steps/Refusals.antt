@@ -1,13 +1,13 @@
 -- Refusals: by which numbers a call is refused, takes SIZE, grows its file, turns the cache's hand and ends its search, and a batch passes a group.
-use Rattle.std.specs.Prelude.{◌≡◌, ◌≢◌, ◌⊎◌, ℕ, ◌+◌, ◌*◌, ◌%◌, ◌^◌, ◌<◌, ◌≤◌, true, false, List, ◌∷◌}
+use Rattle.std.specs.Prelude.{◌≡◌, ◌≢◌, ◌⊎◌, ℕ, ◌+◌, ◌*◌, ◌/◌, ◌%◌, ◌^◌, ◌<◌, ◌≤◌, true, false, List, ◌∷◌}
 use Rattle.nv_plain.specs.Histories.{Answered}
 use Rattle.nv_plain.specs.declared.call.Reply.{Reply}
-use Rattle.nv_core.specs.state.Words.{Sizes, Word, STOP, ORDER, HEAD, TAIL, LENGTH, PAGE, DIRTY, kind_of, ready}
+use Rattle.nv_core.specs.state.Words.{Sizes, Word, STOP, ORDER, HEAD, TAIL, LENGTH, PAGE, DIRTY, kind_of, page_of, was_readied, ready, cleaner_of_file}
 use Rattle.nv_core.specs.state.Values.{lacks_buffer}
 use Rattle.nv_core.specs.state.Passes.{Control, TakeSize, LoadStop, Searching, LoadHint, WriteLoadHead, WriteLoadTail, GrowLength, GiveBack, Cleaning, Pass, at_of, len_of, is_write, page_count}
 use Rattle.nv_core.specs.state.Cleaner.{Batch}
 use Rattle.nv_core.specs.state.Cleaner as cleaner
-use Rattle.nv_core.specs.steps.CleanerSteps.{count_of, after_cleaner_op, finishing, surveyed, batch_with_page}
+use Rattle.nv_core.specs.steps.CleanerSteps.{count_of, after_cleaner_op, finishing, surveying, surveyed, passed_over, batch_with_page}
 use Rattle.nv_core.specs.steps.Ops.{Op, Load, Take, Give, Place, Draw, Turn, ByCleaner, Comes, moved, value_after}
 use Rattle.nv_core.specs.steps.ControlSteps.{out_of_call, phase, leaving, ending, tries_of, control_after}
 use Rattle.nv_core.specs.steps.PassSteps.{stepped}
@@ -100,14 +100,19 @@ pub record SearchesEnd : Type 0 where
 
 -- ---- batches
 
--- the next group's leader is ready, and it is the batch's first, or ends no further than the batch's entries from its tail on
-abbrev pub MayPass : Batch → (found : ℕ) → Type 0
-MayPass batch found = (kind_of found ≡ ready) × ((batch.reached ≡ batch.tail) ⊎ (batch.reached + count_of found ≤ batch.tail + batch.most))
+-- the next group's leader was made ready, and another cleaner serves its file
+abbrev pub IsOfAnother : Sizes → Batch → (found : ℕ) → Type 0
+IsOfAnother sizes batch found = (was_readied found ≡ true) × (cleaner_of_file sizes (page_of found / sizes.pages) ≢ batch.cleaner)
 
--- A cleaner passes a group exactly then, and else its batch ends.
+-- it is ready, and it is the batch's first, or has with those of before no more entries than the batch
+abbrev pub MayPass : Batch → (found : ℕ) → Type 0
+MayPass batch found = (kind_of found ≡ ready) × ((batch.passed ≡ 0) ⊎ (batch.passed + count_of found ≤ batch.most))
+
+-- A cleaner passes a group over exactly where it is another's, cleans it exactly where it isn't and may be passed, and else its walk ends.
 pub record PassesExactly (sizes : Sizes) (owned : List Word) (batch : Batch) (found : ℕ) : Type 0 where
-  pub passes : MayPass batch found → after_cleaner_op sizes owned batch (cleaner.LoadEntry 0) found ≡ surveyed (batch_with_page batch 0 found) 0
-  pub ends : (MayPass batch found → ⊥) → after_cleaner_op sizes owned batch (cleaner.LoadEntry 0) found ≡ finishing sizes owned batch
+  pub over : IsOfAnother sizes batch found → after_cleaner_op sizes owned batch (cleaner.LoadEntry 0) found ≡ surveying sizes (passed_over batch (count_of found))
+  pub passes : (IsOfAnother sizes batch found → ⊥) → MayPass batch found → after_cleaner_op sizes owned batch (cleaner.LoadEntry 0) found ≡ surveyed (batch_with_page batch 0 found) 0
+  pub ends : (IsOfAnother sizes batch found → ⊥) → (MayPass batch found → ⊥) → after_cleaner_op sizes owned batch (cleaner.LoadEntry 0) found ≡ finishing sizes batch
 
 abbrev pub BatchesAreExact : Type 0
 BatchesAreExact = (sizes : Sizes) (owned : List Word) (batch : Batch) (found : ℕ) → PassesExactly sizes owned batch found

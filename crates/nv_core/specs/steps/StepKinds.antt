@@ -109,10 +109,10 @@ MayGive pass (STORE file) GiveBack = IsLastTaken (STORE file) pass.owned
 MayGive pass (CLEANUP page) GiveBack = IsLastTaken (CLEANUP page) pass.owned
 MayGive pass word control = ⊥
 
--- a cleaner may make this step: an idle pass may begin a batch, and one that is at its batch makes the step that is next
+-- a cleaner may make this step: an idle pass may begin a batch of any cleaner that is there, and one that is at its batch makes the step that is next
 abbrev pub CleanerEnabled : Sizes → Pass → CleanerOp → Control → Type 0
 CleanerEnabled sizes pass cleaner_op (Cleaning batch inner) = next_cleaner_op sizes pass.owned batch inner ≡ Some cleaner_op
-CleanerEnabled sizes pass (TakeCleaner most) Idle = Unit {0}
+CleanerEnabled sizes pass (TakeCleaner who most) Idle = who < sizes.cleaners
 CleanerEnabled sizes pass cleaner_op control = ⊥
 
 -- a step may come, by its kind

@@ -8,7 +8,7 @@ use Rattle.nv_plain.specs.Recovered.{recovered}
 use Rattle.nv_plain.specs.declared.call.FileCall.TheVariants.{Read, Write}
 use Rattle.nv_plain.specs.Made.{made_calls}
 use Rattle.nv_store.specs.Store.{Store}
-use Rattle.nv_core.specs.state.Words.{STOP, ORDER, HEAD, TAIL, LENGTH, HEADER, STORE, ENTRY, PAGE, CLEANUP}
+use Rattle.nv_core.specs.state.Words.{STOP, ORDER, HEAD, TAIL, LENGTH, STORE, ENTRY, PAGE, CLEANUP, PROG}
 use Rattle.nv_core.specs.state.Values.{PieceRead, PieceWrite, Made}
 use Rattle.nv_core.specs.state.Cleaner.{TakeCleaner, Clean}
 use Rattle.nv_core.specs.state.Cleaner as cleaner
@@ -39,10 +39,9 @@ hand_store = record { seen = walk_bytes ++ replicate 123 97; durable = replicate
 abbrev pub hand_clean : List Event
 hand_clean =
     acts 0 (TakesStep Split 0)
-    ∷ acts 0 (TakesStep (ByCleaner (TakeCleaner 2)) 0)
-    ∷ acts 0 (TakesStep (ByCleaner (cleaner.Take HEADER)) 0)
+    ∷ acts 0 (TakesStep (ByCleaner (TakeCleaner 0 2)) 0)
     ∷ acts 0 (TakesStep (ByCleaner (cleaner.Load STOP)) 0)
-    ∷ acts 0 (TakesStep (ByCleaner (cleaner.Load TAIL)) 0)
+    ∷ acts 0 (TakesStep (ByCleaner (cleaner.Load (PROG 0))) 0)
     ∷ acts 0 (TakesStep (ByCleaner (cleaner.Load HEAD)) 1)
     ∷ acts 0 (TakesStep (ByCleaner (cleaner.Load (ENTRY 0))) 10)
     ∷ acts 0 (TakesStep (ByCleaner (cleaner.Take (CLEANUP 0))) 0)

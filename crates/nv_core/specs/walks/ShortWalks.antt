@@ -6,9 +6,9 @@ use Rattle.nv_plain.specs.declared.call.FileCall.{FileCall}
 use Rattle.nv_plain.specs.declared.call.FileCall.TheVariants.{Read, Write, Sync}
 use Rattle.nv_plain.specs.declared.call.Reply.TheVariants.{Bytes, Count, Done}
 use Rattle.nv_pmem.specs.Steps.{StoreWord, Flush, Fence}
-use Rattle.nv_core.specs.state.Words.{Sizes, Word, STOP, ORDER, HEAD, TAIL, CLEANER, HEADER, LENGTH, SIZE, STORE, ENTRY, HINT, PAGE, CLEANUP, DIRTY}
+use Rattle.nv_core.specs.state.Words.{Sizes, Word, STOP, ORDER, HEAD, TAIL, CLEANER, HEADER, LENGTH, SIZE, STORE, ENTRY, HINT, PAGE, CLEANUP, DIRTY, PROG}
 use Rattle.nv_core.specs.state.Values.{APart, AStore, Job, PartStep, PageRead, PieceRead, PieceWrite, StoreSync, CallEnding, Made, Failed, Refused}
-use Rattle.nv_core.specs.state.Cleaner.{CleanerOp, TakeCleaner, Clean, Subtract, Free, MoveTail}
+use Rattle.nv_core.specs.state.Cleaner.{CleanerOp, TakeCleaner, Clean, Subtract, MoveProgress, Free, MoveTail}
 use Rattle.nv_core.specs.state.Cleaner as cleaner
 use Rattle.nv_core.specs.steps.Ops.{Op, Load, Take, Give, Place, Stop, Draw, Seize, Pledge, Ready, Grow, Break, Hold, Return, Turn, Hint, ByCleaner, Split, PutBack, Join}
 use Rattle.nv_core.specs.steps.Order.{Values}
@@ -48,15 +48,27 @@ calls by cell job ending = acts by (CallsDevice record { cell = cell; job = job;
 abbrev pub long_bytes : List ℕ
 long_bytes = replicate 70 7
 
+-- a cleaner that holds nothing else gives its CLEANER back
+abbrev pub withdraws : List Event
+withdraws = cleaners (cleaner.Give (CLEANER 0)) 1 ∷ []
+
+-- it takes HEADER, and finds this as the least PROG
+abbrev pub looks_at_progress : (least : ℕ) → List Event
+looks_at_progress least =
+    cleaners (cleaner.Take HEADER) 0
+    ∷ cleaners (cleaner.Load STOP) 0
+    ∷ cleaners (cleaner.Load TAIL) 0
+    ∷ cleaners (cleaner.Load (PROG 0)) least
+    ∷ []
+
 -- a batch of pass 1 that meets no group, from the load of HEAD on: the log is empty, or the next leader isn't ready
 abbrev pub meets : (head : ℕ) → List Event → List Event
 meets head looks =
-    cleaners (TakeCleaner 2) 0
-    ∷ cleaners (cleaner.Take HEADER) 0
+    cleaners (TakeCleaner 0 2) 0
     ∷ cleaners (cleaner.Load STOP) 0
-    ∷ cleaners (cleaner.Load TAIL) 0
+    ∷ cleaners (cleaner.Load (PROG 0)) 0
     ∷ cleaners (cleaner.Load HEAD) head
-    ∷ (looks ++ (cleaners (cleaner.Give HEADER) 1 ∷ cleaners (cleaner.Give CLEANER) 1 ∷ []))
+    ∷ (looks ++ (cleaners (MoveProgress 0 0) 0 ∷ looks_at_progress 0 ++ cleaners (cleaner.Give HEADER) 1 ∷ withdraws))
 
 -- Pass 0 makes passes 1 and 2, and writes 70 bytes at 252: to pages 3, 4 and 5, up to 322. A write of pass 1 finds SIZE held meanwhile, and its
 -- batches an empty log, and then a leader that is being filled. Each piece takes 16 device calls, eight stores and a flush of its one line of
@@ -156,12 +168,9 @@ walk_raced =
     ∷ does 1 (Load STOP) 1
     ∷ does 1 (Give (PAGE 0)) 1
     ∷ begins 1 (Sync 0) (Load STOP) 1
-    ∷ cleaners (TakeCleaner 2) 0
-    ∷ cleaners (cleaner.Take HEADER) 0
+    ∷ cleaners (TakeCleaner 0 2) 0
     ∷ cleaners (cleaner.Load STOP) 1
-    ∷ cleaners (cleaner.Give HEADER) 1
-    ∷ cleaners (cleaner.Give CLEANER) 1
-    ∷ []
+    ∷ withdraws
 
 -- ---- calls of no page, and passes that are taken in
 
@@ -196,10 +205,9 @@ walk_joins =
 -- three, and is of page 3: 2 + 8 * 3 + 1024 * 3; its followers are of pages 4 and 5.
 abbrev pub surveys : List Event
 surveys =
-    cleaners (TakeCleaner 2) 0
-    ∷ cleaners (cleaner.Take HEADER) 0
+    cleaners (TakeCleaner 0 2) 0
     ∷ cleaners (cleaner.Load STOP) 0
-    ∷ cleaners (cleaner.Load TAIL) 0
+    ∷ cleaners (cleaner.Load (PROG 0)) 0
     ∷ cleaners (cleaner.Load HEAD) 3
     ∷ cleaners (cleaner.Load (ENTRY 0)) 3098
     ∷ cleaners (cleaner.Load (ENTRY 1)) 4098
@@ -245,32 +253,32 @@ cleans =
 abbrev pub cleaned_events : List Event
 cleaned_events = claims ++ (writes_back_first Made ++ cleans)
 
--- the CLEANUPs are given back, the last taken first; and the rest
+-- the CLEANUPs are given back, the last taken first
 abbrev pub retreats : List Event
 retreats = cleaners (cleaner.Give (CLEANUP 5)) 1 ∷ cleaners (cleaner.Give (CLEANUP 4)) 1 ∷ cleaners (cleaner.Give (CLEANUP 3)) 1 ∷ []
 
-abbrev pub withdraws : List Event
-withdraws = cleaners (cleaner.Give HEADER) 1 ∷ cleaners (cleaner.Give CLEANER) 1 ∷ []
+-- it is synced, and PROG moves; then the tail is moved, and all three entries are freed
+abbrev pub progresses : List Event
+progresses = calls 1 (STORE 0) StoreSync Made ∷ cleaners (MoveProgress 0 3) 0 ∷ cleaners (cleaner.Give (STORE 0)) 1 ∷ looks_at_progress 3
 
--- it is synced, the tail is moved, and all three entries are freed
 abbrev pub retires : List Event
 retires =
-    calls 1 (STORE 0) StoreSync Made
-    ∷ calls 1 HEADER (PartStep (StoreWord 1 0 3) header_spares) Made
+    progresses
+    ++ (calls 1 HEADER (PartStep (StoreWord 1 0 3) header_spares) Made
     ∷ calls 1 HEADER (PartStep (Flush 1) header_spares) Made
     ∷ calls 1 HEADER (PartStep Fence header_spares) Made
     ∷ cleaners (Free 0) 3100
     ∷ cleaners (Free 1) 4100
     ∷ cleaners (Free 2) 5124
     ∷ cleaners (MoveTail 3) 0
-    ∷ cleaners (cleaner.Give (STORE 0)) 1
-    ∷ withdraws
+    ∷ cleaners (cleaner.Give HEADER) 1
+    ∷ withdraws)
 
 -- Another pass finds CLEANER held, and a read CLEANUP of its page. The store then refuses a write for want of memory, and the batch ends with no group.
 abbrev pub walk_refuses : List Event
 walk_refuses =
     claims
-    ++ (does 2 (ByCleaner (TakeCleaner 1)) 1
+    ++ (does 2 (ByCleaner (TakeCleaner 0 1)) 1
     ∷ begins 0 (Read 0 192 16) (Take (PAGE 3)) 0
     ∷ does 0 (Load (LENGTH 0)) 322
     ∷ does 0 (Load STOP) 0
@@ -319,10 +327,10 @@ walk_sync_fails = cleaned_events ++ (calls 1 (STORE 0) StoreSync (Failed false 1
 abbrev pub walk_move_fails : List Event
 walk_move_fails =
     cleaned_events
-    ++ (calls 1 (STORE 0) StoreSync Made
-    ∷ calls 1 HEADER (PartStep (StoreWord 1 0 3) header_spares) (Failed true 1)
+    ++ (progresses
+    ++ calls 1 HEADER (PartStep (StoreWord 1 0 3) header_spares) (Failed true 1)
     ∷ cleaners cleaner.Stop 0
-    ∷ cleaners (cleaner.Give (STORE 0)) 1
+    ∷ cleaners (cleaner.Give HEADER) 1
     ∷ withdraws)
 
 -- ---- reads
@@ -420,7 +428,7 @@ pub record IsShort (core : Core) (events : List Event) (words : List Word) (say 
 
 -- STOP, the group's entries, TAIL, and the locks of a cleaner
 abbrev pub of_cleaner : List Word
-of_cleaner = STOP ∷ ENTRY 0 ∷ ENTRY 1 ∷ ENTRY 2 ∷ TAIL ∷ CLEANER ∷ HEADER ∷ STORE 0 ∷ CLEANUP 3 ∷ CLEANUP 4 ∷ CLEANUP 5 ∷ []
+of_cleaner = STOP ∷ ENTRY 0 ∷ ENTRY 1 ∷ ENTRY 2 ∷ TAIL ∷ CLEANER 0 ∷ HEADER ∷ STORE 0 ∷ CLEANUP 3 ∷ CLEANUP 4 ∷ CLEANUP 5 ∷ []
 
 pub record ShortWalks : Type 0 where
   pub begins : (next : ℕ) → next ≤ 2 ^ 60 → IsMount (short_mount next)
@@ -428,7 +436,7 @@ pub record ShortWalks : Type 0 where
       (1 ∷ 3 ∷ 322 ∷ 0 ∷ 3098 ∷ 4098 ∷ 5122 ∷ 1 ∷ 1 ∷ 1 ∷ 0 ∷ 0 ∷ [])
   pub again : IsShort grown_core walk_again (HEAD ∷ PAGE 0 ∷ PAGE 1 ∷ []) (3 ∷ 0 ∷ 0 ∷ [])
   pub spent : IsShort (opening (short_mount (2 ^ 60 - 1))) walk_spent (HEAD ∷ PAGE 0 ∷ PAGE 1 ∷ []) ((2 ^ 60 - 1) ∷ 0 ∷ 0 ∷ [])
-  pub raced : IsShort grown_core walk_raced (STOP ∷ ORDER ∷ HEAD ∷ ENTRY 3 ∷ PAGE 0 ∷ PAGE 1 ∷ CLEANER ∷ []) (1 ∷ 1 ∷ 4 ∷ 5 ∷ 0 ∷ 0 ∷ 0 ∷ [])
+  pub raced : IsShort grown_core walk_raced (STOP ∷ ORDER ∷ HEAD ∷ ENTRY 3 ∷ PAGE 0 ∷ PAGE 1 ∷ CLEANER 0 ∷ []) (1 ∷ 1 ∷ 4 ∷ 5 ∷ 0 ∷ 0 ∷ 0 ∷ [])
   pub joins : IsShort grown_core walk_joins (ORDER ∷ LENGTH 0 ∷ SIZE 0 ∷ PAGE 0 ∷ []) (4 ∷ 322 ∷ 0 ∷ 1 ∷ [])
   pub taken_in : (after_run short_sizes grown_core walk_joins).ended ≡ 2 ∷ 1 ∷ []
   pub retires : IsShort grown_core (cleaned_events ++ retires) of_cleaner (0 ∷ 0 ∷ 0 ∷ 0 ∷ 3 ∷ 0 ∷ 0 ∷ 0 ∷ 0 ∷ 0 ∷ 0 ∷ [])

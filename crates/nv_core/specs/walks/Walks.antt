@@ -11,7 +11,7 @@ use Rattle.nv_pmem.specs.Steps.{Fence}
 use Rattle.nv_entry.specs.Group.{group_steps}
 use Rattle.std.specs.List.{range_with_len}
 use Rattle.nv_store.specs.Store.{quiet_store}
-use Rattle.nv_core.specs.state.Words.{Sizes, place, STOP, ORDER, HEAD, TAIL, HAND, CLEANER, HEADER, SIZE, LENGTH, STORE, ENTRY, HINT, PAGE, CLEANUP, DIRTY}
+use Rattle.nv_core.specs.state.Words.{Sizes, place, STOP, ORDER, HEAD, TAIL, HAND, CLEANER, HEADER, SIZE, LENGTH, STORE, ENTRY, HINT, PAGE, CLEANUP, DIRTY, PROG}
 use Rattle.nv_core.specs.state.Spares.{Spares}
 use Rattle.nv_core.specs.state.Values.{Bare, APart, AStore, ABuffer, PartStep, PageRead, CallEnding, Made, Failed, is_valid, lacks_buffer}
 use Rattle.nv_core.specs.steps.Ops.{Load, Take, Give, Place, Split, Draw, Seize, Pledge, Ready, Stop, Break, Turn, Hint}
@@ -20,9 +20,9 @@ use Rattle.nv_core.specs.state.Core.{Core}
 use Rattle.nv_core.specs.steps.Events.{Act, BeginsCall, TakesStep, CallsDevice, Event, after_event, after_run, IsRun}
 use Rattle.nv_core.specs.steps.Opening.{Mount, IsMount, opening}
 
--- one file of 64 pages of 64 bytes, 16 entries and 4 buffers
+-- one file of 64 pages of 64 bytes, 16 entries, 4 buffers and one cleaner
 abbrev pub walk_sizes : Sizes
-walk_sizes = record { page = 64; files = 1; pages = 64; entries = 16; buffers = 4 }
+walk_sizes = record { page = 64; files = 1; pages = 64; entries = 16; buffers = 4; cleaners = 1 }
 
 -- what a part of so many lines can take: each line 15 stores
 abbrev pub walk_spares : (lines : ℕ) → Spares
@@ -287,12 +287,12 @@ pub record TriesAreWalked : Type 0 where
 abbrev pub FirstPageIsWord30 : Type 0
 FirstPageIsWord30 = place walk_sizes (PAGE 0) ≡ 30
 
--- The words at opening, where number 5 comes next and the file has three bytes: HEAD and TAIL are 5, LENGTH is 3, the hints are 0 to 3, and all others 0.
+-- The words at opening, where number 5 comes next and the file has three bytes: HEAD, TAIL and PROG are 5, LENGTH is 3, the hints are 0 to 3, and all others 0.
 abbrev pub OpeningWordsByHand : Type 0
 OpeningWordsByHand =
     map (opening record walk_mount { next = 5; lengths = λ file. 3 }).words
-    (STOP ∷ ORDER ∷ HEAD ∷ TAIL ∷ HAND ∷ CLEANER ∷ HEADER ∷ SIZE 0 ∷ LENGTH 0 ∷ STORE 0 ∷ ENTRY 0 ∷ ENTRY 15 ∷ HINT 0 ∷ HINT 1 ∷ HINT 2 ∷ HINT 3 ∷ PAGE 0 ∷ CLEANUP 63 ∷ DIRTY 63 ∷ [])
-    ≡ 0 ∷ 0 ∷ 5 ∷ 5 ∷ 0 ∷ 0 ∷ 0 ∷ 0 ∷ 3 ∷ 0 ∷ 0 ∷ 0 ∷ 0 ∷ 1 ∷ 2 ∷ 3 ∷ 0 ∷ 0 ∷ 0 ∷ []
+    (STOP ∷ ORDER ∷ HEAD ∷ TAIL ∷ PROG 0 ∷ HAND ∷ CLEANER 0 ∷ HEADER ∷ SIZE 0 ∷ LENGTH 0 ∷ STORE 0 ∷ ENTRY 0 ∷ ENTRY 15 ∷ HINT 0 ∷ HINT 1 ∷ HINT 2 ∷ HINT 3 ∷ PAGE 0 ∷ CLEANUP 63 ∷ DIRTY 63 ∷ [])
+    ≡ 0 ∷ 0 ∷ 5 ∷ 5 ∷ 5 ∷ 0 ∷ 0 ∷ 0 ∷ 0 ∷ 3 ∷ 0 ∷ 0 ∷ 0 ∷ 0 ∷ 1 ∷ 2 ∷ 3 ∷ 0 ∷ 0 ∷ 0 ∷ []
 
 -- This is a mount from which runs begin.
 abbrev pub WalkBegins : Type 0
