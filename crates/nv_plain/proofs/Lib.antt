@@ -3,3 +3,5 @@ pub mod HistoryLemmas
 pub mod MadeLemmas
 pub mod OwnLayouts
 pub mod PieceLemmas
+pub mod PositionLemmas
+pub mod StartLemmas

@@ -1,4 +1,5 @@
 pub mod Files
+pub mod Positions
 pub mod Calls
 pub mod Histories
 pub mod Made

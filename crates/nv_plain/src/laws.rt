@@ -5,8 +5,10 @@ ghost use Rattle.nv_plain.specs.Histories.{GoesOnFrom, GoesOnLegally, HistoryKee
 ghost use Rattle.nv_plain.specs.Made.{
   CallsAreMadeAlike,
   CallsAreMadeRight,
+  CallsMove,
   HistoriesAreMadeRight,
   MadeCallsGoOn,
+  NamedHistoriesStay,
   PlainCallsAreThemselves,
 };
 ghost use Rattle.nv_plain.specs.Pieces.{WriteIsItsPieces};
@@ -24,8 +26,8 @@ pub fn write_leaves_its_bytes()
     ensures reach { WriteReachesItsEnd }
 {}
 
-/// A legal history goes on by one call: the files after it are those that the call leaves, and it is
-/// legal just where the call's reply is the right one on the files before. There are as many files after it as before.
+/// A legal history goes on by one call: the state after it is the one that the call leaves, and it is
+/// legal just where the call's reply is the right one on the state before. There are as many files after it as before.
 pub fn history_goes_on()
     ensures files { GoesOnFrom }
     ensures legal { GoesOnLegally }
@@ -33,14 +35,21 @@ pub fn history_goes_on()
 {}
 
 /// A call is right where the plain call that it is made as is: it leaves the same files, and its reply follows from that one's. So
-/// the files after a history are those after its calls as they were made, each on the files of its turn. A plain call is made
-/// as itself, and what a call is made as is the same on all files.
+/// the files after a history are those after its calls as they were made, each on the state of its turn. A plain call is made
+/// as itself, and what a call is made as is the same on all states, where it doesn't go by a position.
 pub fn calls_are_made_right()
     ensures calls { CallsAreMadeRight }
     ensures histories { HistoriesAreMadeRight }
     ensures goes_on { MadeCallsGoOn }
     ensures plain { PlainCallsAreThemselves }
     ensures alike { CallsAreMadeAlike }
+{}
+
+/// A call that goes by its descriptor's position moves it behind the bytes that it read or wrote, or where it leads, and moves no
+/// other; and each other call leaves all positions. So a history of others leaves each descriptor at the start where it began there.
+pub fn calls_move_positions()
+    ensures moves { CallsMove }
+    ensures stays { NamedHistoriesStay }
 {}
 
 /// A count that stands still at 2^64 - 1 rises wherever the exact one rises: what is said of the exact sum of several

@@ -7,7 +7,7 @@ use Rattle.std.proofs.lemmas.Nat.{div-mul-add, mod-mul-add}
 use Rattle.std.proofs.Math.Nat.{mul-le-mul_right, div-mul-le_self, div-add-mod, mul_comm}
 use Rattle.nv_plain.specs.Pieces.{pages_touched, piece_of, piece_bytes}
 use Rattle.nv_plain.specs.declared.call.FileCall.{FileCall}
-use Rattle.nv_plain.specs.declared.call.FileCall.TheVariants.{Read, Write, Readv, Writev, Sync}
+use Rattle.nv_plain.specs.declared.call.FileCall.TheVariants.{Read, Write, Readv, Writev, Sync, ReadHere, WriteHere, Seek}
 use Rattle.nv_plain.specs.Files.{Files, contents_of, with_contents, overwritten}
 use Rattle.nv_plain.specs.Calls.{files_after}
 use Rattle.nv_core.specs.state.Words.{Sizes}
@@ -37,6 +37,9 @@ files_same (Read other at len) files file plain there is = refl
 files_same (Readv other at lens) files file plain there is = refl
 files_same (Writev other at parts) files file plain there is = absurd (joined_elsewhere other at parts plain)
 files_same (Sync other) files file plain there is = refl
+files_same (ReadHere fd other len) files file plain there is = refl
+files_same (WriteHere fd other append bytes) files file plain there is = refl
+files_same (Seek fd other seek) files file plain there is = refl
 files_same (Write other at bytes) files file plain there (inr ne) = contents_else files other file (overwritten (contents_of files other) at bytes) ne
 files_same (Write other at bytes) files file plain there (inl none) = elim (cases_eq file other) [
   | inl e ↦ subst (λ f. contents_of (files_after (Write other at bytes) files) f ≡ contents_of files f) (sym e)
@@ -57,6 +60,9 @@ pub files_grow : (plain : PlainLaws) (call : FileCall) (files : Files) (file : �
 files_grow plain (Read other at len) files file there = omega arith
 files_grow plain (Readv other at lens) files file there = omega arith
 files_grow plain (Sync other) files file there = omega arith
+files_grow plain (ReadHere fd other len) files file there = omega arith
+files_grow plain (WriteHere fd other append bytes) files file there = omega arith
+files_grow plain (Seek fd other seek) files file there = omega arith
 files_grow plain (Write other at bytes) files file there = write_grows plain other at bytes files file there
 files_grow plain (Writev other at parts) files file there = write_grows plain other at (concat parts) files file there
 
@@ -67,6 +73,9 @@ files_written plain (Read other at len) files there write = absurd (true≢false
 files_written plain (Readv other at lens) files there write = absurd (true≢false (sym write))
 files_written plain (Writev other at parts) files there write = absurd (true≢false (sym write))
 files_written plain (Sync other) files there write = absurd (true≢false (sym write))
+files_written plain (ReadHere fd other len) files there write = absurd (true≢false (sym write))
+files_written plain (WriteHere fd other append bytes) files there write = absurd (true≢false (sym write))
+files_written plain (Seek fd other seek) files there write = absurd (true≢false (sym write))
 files_written plain (Write other at bytes) files there write =
     ap length (contents_here files other (overwritten (contents_of files other) at bytes) there)
     ∙ plain.reach (contents_of files other) bytes at (ltb-true 0 (length bytes) write)
@@ -153,6 +162,9 @@ own_none sizes (Read file at len) page old none = refl
 own_none sizes (Readv file at lens) page old none = refl
 own_none sizes (Writev file at parts) page old none = refl
 own_none sizes (Sync file) page old none = refl
+own_none sizes (ReadHere fd file len) page old none = refl
+own_none sizes (WriteHere fd file append bytes) page old none = refl
+own_none sizes (Seek fd file seek) page old none = refl
 own_none sizes (Write file at []) page old none =
     let piece = piece_of at (length {A = ℕ} []) sizes.page (page - first_page sizes (Write file at [])) in
     ap (overwritten old (piece.at % sizes.page)) (no_bytes (piece_bytes [] piece) (let t = length-take {A = ℕ} piece.size (drop piece.from []) in let d = length-drop {A = ℕ} piece.from [] in omega (arith, t, d)))
@@ -165,6 +177,9 @@ page_placed plain sizes (Read file at len) files page allowed there is = refl
 page_placed plain sizes (Readv file at lens) files page allowed there is = refl
 page_placed plain sizes (Writev file at parts) files page allowed there is = absurd (joined_elsewhere file at parts allowed.plain)
 page_placed plain sizes (Sync file) files page allowed there is = refl
+page_placed plain sizes (ReadHere fd file len) files page allowed there is = refl
+page_placed plain sizes (WriteHere fd file append bytes) files page allowed there is = refl
+page_placed plain sizes (Seek fd file seek) files page allowed there is = refl
 page_placed plain sizes (Write file at bytes) files page allowed there is = elim (cases_lt 0 (length bytes)) [
   | inl some ↦ write_page plain sizes files file at bytes some allowed there page is
   | inr none ↦ absurd (let z = pages_touched_none at (length bytes) sizes.page (let e : length bytes ≡ 0 = omega (arith, none) in e) in let l = is.0 in let h = is.1 in omega (arith, l, h, z))
@@ -176,6 +191,9 @@ page_else plain sizes (Read file at len) files page allowed there other = refl
 page_else plain sizes (Readv file at lens) files page allowed there other = refl
 page_else plain sizes (Writev file at parts) files page allowed there other = absurd (joined_elsewhere file at parts allowed.plain)
 page_else plain sizes (Sync file) files page allowed there other = refl
+page_else plain sizes (ReadHere fd file len) files page allowed there other = refl
+page_else plain sizes (WriteHere fd file append bytes) files page allowed there other = refl
+page_else plain sizes (Seek fd file seek) files page allowed there other = refl
 page_else plain sizes (Write file at bytes) files page allowed there other = elim (cases_lt 0 (length bytes)) [
   | inl some ↦ write_else plain sizes files file at bytes some allowed there page other
   | inr none ↦ ap (λ b. page_from b (page % sizes.pages * sizes.page) sizes.page) (files_same (Write file at bytes) files (page / sizes.pages) refl there (inl (le-ltb 0 (length bytes) none)))

@@ -2,7 +2,7 @@
 use Rattle.std.proofs.Common.{◌≡◌, ℕ, ◌+◌, ◌^◌, ◌==◌, nat_lt, nat_le, not, ◌&&◌, Bool, true, false, if◌then◌else◌, List, [], ◌∷◌, inl, inr, refl, sym, ap, subst, ◌∙◌, arith}
 use Rattle.std.proofs.lemmas.Bool.{cases_lt, true≢false}
 use Rattle.nv_plain.specs.declared.call.FileCall.{FileCall}
-use Rattle.nv_plain.specs.declared.call.FileCall.TheVariants.{Read, Write, Readv, Writev, Sync}
+use Rattle.nv_plain.specs.declared.call.FileCall.TheVariants.{Read, Write, Readv, Writev, Sync, ReadHere, WriteHere, Seek}
 use Rattle.nv_core.specs.state.Words.{Sizes, Word, STOP, ORDER, HEAD, TAIL, SIZE, LENGTH, STORE, ENTRY, PAGE, CLEANUP, DIRTY, ready, is_entry_of, HINT, slot_of_entry}
 use Rattle.nv_core.specs.state.Values.{is_valid, bytes_in}
 use Rattle.nv_core.specs.state.Passes.{Control, Idle, TakePage, LoadLength, TakeSize, LoadStop, LoadOrder, VisitPage, TakeStore, ReadStore, GiveStore, ReadLoadHead, ReadLoadTail, LoadEntry, HoldEntry, ReadPiece, ReturnEntry, GiveCleanup, TakeCleanup, WriteLoadHead, WriteLoadTail, DrawNumbers, SeizeEntry, CommitGroup, PledgePage, ReadyEntry, TakePlace, GrowLength, GiveSize, GivePage, GiveBack, SetStopAfterRead, SetStopAfterPiece, SetStopAfterCommit, BreakEntry, Pass, is_write, is_read, page_count, first_page, end_page, without, times, Searching, LoadHint, TakeVictim, GiveVictim, VictimGiven, NotFound}
@@ -75,6 +75,9 @@ write_only (Read file at len) write = absurd (true≢false (sym write))
 write_only (Readv file at lens) write = absurd (true≢false (sym write))
 write_only (Writev file at parts) write = absurd (true≢false (sym write))
 write_only (Sync file) write = absurd (true≢false (sym write))
+write_only (ReadHere fd file len) write = absurd (true≢false (sym write))
+write_only (WriteHere fd file append bytes) write = absurd (true≢false (sym write))
+write_only (Seek fd file seek) write = absurd (true≢false (sym write))
 
 -- the pages that a call holds have what they are now, where their buffers count
 abbrev pub AreRight : Sizes → (now : ℕ → List ℕ) → Values → FileCall → Type 0

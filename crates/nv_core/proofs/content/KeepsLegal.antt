@@ -4,17 +4,18 @@ use Rattle.std.specs.List.{flat_map, range_with_len}
 use Rattle.std.proofs.lemmas.Bool.{cases_eq, cases_lt, ltb-true, ltb-false, lt-ltb, and_from, true≢false}
 use Rattle.std.proofs.lemmas.List.{take_all, length-take, length-drop}
 use Rattle.nv_plain.specs.Files.{Files, contents_of, bytes_at}
-use Rattle.nv_plain.specs.Calls.{reply_of}
+use Rattle.nv_plain.specs.Calls.{reply_on}
+use Rattle.nv_plain.specs.Positions.{at_start}
 use Rattle.nv_plain.specs.Histories.{IsLegal}
 use Rattle.nv_plain.specs.Pieces.{pages_touched, piece_of}
 use Rattle.nv_plain.specs.declared.call.FileCall.{FileCall}
-use Rattle.nv_plain.specs.declared.call.FileCall.TheVariants.{Read, Write, Readv, Writev, Sync}
+use Rattle.nv_plain.specs.declared.call.FileCall.TheVariants.{Read, Write, Readv, Writev, Sync, ReadHere, WriteHere, Seek}
 use Rattle.nv_plain.specs.declared.call.Reply.{Reply}
 use Rattle.nv_plain.specs.declared.call.Reply.TheVariants.{Bytes}
 use Rattle.nv_core.proofs.content.MadeLaws.{reply_asked}
 use Rattle.nv_core.specs.steps.PassSteps.{as_answered}
 use Rattle.nv_core.specs.state.Words.{Sizes, SIZE}
-use Rattle.nv_core.specs.state.Passes.{Control, VisitPage, TakePlace, GrowLength, IsAllowed, file_of, at_of, len_of, is_read, page_count, first_page, end_read, covered, page_number, plain_call, times}
+use Rattle.nv_core.specs.state.Passes.{Control, VisitPage, TakePlace, GrowLength, IsAllowed, file_of, at_of, len_of, is_read, page_count, first_page, end_read, covered, page_number, is_named, plain_call, times}
 use Rattle.nv_core.specs.steps.Ops.{Op, Place}
 use Rattle.nv_core.specs.steps.Order.{Values, page_bytes, plain_reply}
 use Rattle.nv_core.specs.steps.StepKinds.{MayPlace}
@@ -70,6 +71,9 @@ read_is sizes files values (Write file at bytes) loaded fetched read allowed low
 read_is sizes files values (Readv file at lens) loaded fetched read allowed low all right = absurd (true≢false (sym read))
 read_is sizes files values (Writev file at parts) loaded fetched read allowed low all right = absurd (true≢false (sym read))
 read_is sizes files values (Sync file) loaded fetched read allowed low all right = absurd (true≢false (sym read))
+read_is sizes files values (ReadHere fd file len) loaded fetched read allowed low all right = absurd (true≢false (sym read))
+read_is sizes files values (WriteHere fd file append bytes) loaded fetched read allowed low all right = absurd (true≢false (sym read))
+read_is sizes files values (Seek fd file seek) loaded fetched read allowed low all right = absurd (true≢false (sym read))
 read_is sizes files values (Read file at len) loaded fetched read allowed low all right =
     ap (λ n. flat_map part (range_with_len 0 n)) many ∙ elim (cases_lt 0 (min len (loaded - at))) [
       | inl some ↦
@@ -107,6 +111,9 @@ read_some (Write file at bytes) read = absurd (true≢false (sym read))
 read_some (Readv file at lens) read = absurd (true≢false (sym read))
 read_some (Writev file at parts) read = absurd (true≢false (sym read))
 read_some (Sync file) read = absurd (true≢false (sym read))
+read_some (ReadHere fd file len) read = absurd (true≢false (sym read))
+read_some (WriteHere fd file append bytes) read = absurd (true≢false (sym read))
+read_some (Seek fd file seek) read = absurd (true≢false (sym read))
 
 module _ (sizes : Sizes) (first : Values) (opening : Files) (by : ℕ) (core : Core) (sound : Sound sizes first core) (lengths : Lengths sizes opening core)
     (measured : HasMeasured (core.passes by).control) (placing : (core.passes by).control ≡ GrowLength → ⊥) (known : file_of (core.passes by).call < sizes.files) where
@@ -131,33 +138,40 @@ module _ (sizes : Sizes) (first : Values) (opening : Files) (by : ℕ) (core : C
 
 -- ---- replies
 
-plain_is : (call : FileCall) (files : Files) → plain_call call ≡ call → is_read call ≡ false → plain_reply call ≡ reply_of call files
-plain_is (Write file at bytes) files plain none = refl
-plain_is (Readv file at lens) files plain none = absurd (summed_elsewhere file at lens plain)
-plain_is (Writev file at parts) files plain none = absurd (joined_elsewhere file at parts plain)
-plain_is (Sync file) files plain none = refl
-plain_is (Read file at len) files plain none = ap Bytes (sym (nothing (bytes_at (contents_of files file) at len)
+plain_is : (call : FileCall) (files : Files) → plain_call call ≡ call → is_named call ≡ true → is_read call ≡ false → plain_reply call ≡ reply_on call files
+plain_is (Write file at bytes) files plain named none = refl
+plain_is (Readv file at lens) files plain named none = absurd (summed_elsewhere file at lens plain)
+plain_is (Writev file at parts) files plain named none = absurd (joined_elsewhere file at parts plain)
+plain_is (Sync file) files plain named none = refl
+plain_is (ReadHere fd file len) files plain named none = absurd (cc)
+plain_is (WriteHere fd file append bytes) files plain named none = absurd (cc)
+plain_is (Seek fd file seek) files plain named none = absurd (cc)
+plain_is (Read file at len) files plain named none = ap Bytes (sym (nothing (bytes_at (contents_of files file) at len)
     (let l = ltb-false 0 len none in let t = length-take len (drop at (contents_of files file)) in omega (arith, l, t))))
   where
     nothing : (list : List ℕ) → length list ≡ 0 → list ≡ []
     nothing [] is = refl
     nothing (first ∷ rest) is = absurd (omega (arith, is))
 
-read_reply : (call : FileCall) (files : Files) → is_read call ≡ true → Bytes (bytes_at (contents_of files (file_of call)) (at_of call) (len_of call)) ≡ reply_of call files
+read_reply : (call : FileCall) (files : Files) → is_read call ≡ true → Bytes (bytes_at (contents_of files (file_of call)) (at_of call) (len_of call)) ≡ reply_on call files
 read_reply (Read file at len) files read = refl
 read_reply (Write file at bytes) files read = absurd (true≢false (sym read))
 read_reply (Readv file at lens) files read = absurd (true≢false (sym read))
 read_reply (Writev file at parts) files read = absurd (true≢false (sym read))
 read_reply (Sync file) files read = absurd (true≢false (sym read))
+read_reply (ReadHere fd file len) files read = absurd (true≢false (sym read))
+read_reply (WriteHere fd file append bytes) files read = absurd (true≢false (sym read))
+read_reply (Seek fd file seek) files read = absurd (true≢false (sym read))
 
 -- a call takes its place with the reply that it has on the files after the history
 pub reply_is : (sizes : Sizes) (first : Values) (opening : Files) (by : ℕ) (core : Core) (reply : Reply) → Sound sizes first core → Lengths sizes opening core → ValidBuffers sizes opening core
-    → MayPlace sizes core.values (core.passes by) reply (core.passes by).control → reply ≡ reply_of (core.passes by).call (files_now opening core)
+    → MayPlace sizes core.values (core.passes by) reply (core.passes by).control → reply ≡ reply_on (core.passes by).call (files_now opening core)
 reply_is sizes first opening by core reply sound lengths buffers may = go (core.passes by).control refl may
   where
-    go : (control : Control) → (core.passes by).control ≡ control → MayPlace sizes core.values (core.passes by) reply control → reply ≡ reply_of (core.passes by).call (files_now opening core)
+    go : (control : Control) → (core.passes by).control ≡ control → MayPlace sizes core.values (core.passes by) reply control → reply ≡ reply_on (core.passes by).call (files_now opening core)
     go TakePlace at placed =
         placed ∙ plain_is (core.passes by).call (files_now opening core) ((sound.control_facts by).allowed (step_idle sizes core.values (core.passes by) (Place reply) may)).plain
+        ((sound.control_facts by).allowed (step_idle sizes core.values (core.passes by) (Place reply) may)).named
         (subst (GatheredAt sizes (page_now sizes opening core) core.values (core.passes by).call (core.passes by).pages (core.passes by).fetched) at (buffers.gathered by))
     go (VisitPage next) at placed =
         let stands : FactsAt sizes (core.passes by) (VisitPage next) = subst (FactsAt sizes (core.passes by)) at (sound.control_facts by).at in
@@ -179,6 +193,6 @@ pub legal_step : (plain : PlainLaws) (sizes : Sizes) (first : Values) (opening :
     → FoundEnabledByKind sizes by core op found → Legal opening core → Legal opening (after_step sizes by op found core)
 legal_step plain sizes first opening by core (Place reply) found sound lengths buffers may was = record {
   legal =
-      (plain.legally core.history (as_answered by (core.passes by) reply) opening).1 (was.legal, reply_asked plain opening by core reply sound (reply_is sizes first opening by core reply sound lengths buffers may.may));
+      (plain.legally core.history (as_answered by (core.passes by) reply) (at_start opening)).1 (was.legal, reply_asked plain opening by core reply sound (reply_is sizes first opening by core reply sound lengths buffers may.may));
 }
 legal_step plain sizes first opening by core op found sound lengths buffers may was = record { legal = subst (λ h. IsLegal h opening) (sym (same_history by core op tt)) was.legal }

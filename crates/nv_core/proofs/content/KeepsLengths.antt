@@ -2,10 +2,11 @@
 use Rattle.std.proofs.Common.{◌≡◌, ◌≢◌, ◌⊎◌, ℕ, ◌+◌, ◌^◌, ◌<◌, ◌≤◌, ◌==◌, max, nat_lt, nat_le, not, ◌&&◌, true, false, if◌then◌else◌, List, ◌++◌, length, inl, inr, refl, sym, ap, subst, ◌∙◌, arith}
 use Rattle.std.proofs.lemmas.Bool.{ltb-true, ltb-false, and_parts, and_from, cases_eq, cases_Bool, true≢false}
 use Rattle.nv_plain.specs.Files.{Files, contents_of}
+use Rattle.nv_plain.specs.Positions.{State, at_start}
 use Rattle.nv_plain.specs.Histories.{after}
 use Rattle.nv_plain.specs.Calls.{files_after}
 use Rattle.nv_plain.specs.declared.call.FileCall.{FileCall}
-use Rattle.nv_plain.specs.declared.call.FileCall.TheVariants.{Read, Write, Readv, Writev, Sync}
+use Rattle.nv_plain.specs.declared.call.FileCall.TheVariants.{Read, Write, Readv, Writev, Sync, ReadHere, WriteHere, Seek}
 use Rattle.nv_plain.specs.declared.call.Reply.{Reply}
 use Rattle.nv_core.proofs.content.MadeLaws.{made_now}
 use Rattle.nv_core.specs.state.Words.{Sizes, Word, STOP, ORDER, HEAD, TAIL, SIZE, LENGTH, STORE, ENTRY, PAGE, DIRTY, index, HINT, CLEANUP, ready, is_entry_of, slot_of_entry}
@@ -21,7 +22,7 @@ use Rattle.nv_core.specs.steps.Events.{CallMayBegin}
 use Rattle.nv_core.proofs.steps.ByKind.{FoundEnabledByKind}
 use Rattle.nv_core.specs.invariant.ControlFacts.{has_call}
 use Rattle.nv_core.specs.invariant.Loaded.{HasMeasured}
-use Rattle.nv_core.specs.content.PagesAfter.{files_now}
+use Rattle.nv_core.specs.content.PagesAfter.{files_now, state_now}
 use Rattle.nv_core.specs.content.Lengths.{length_now, IsGrowing, Extends, Lengths}
 use Rattle.nv_core.specs.invariant.Sound.{Sound}
 use Rattle.nv_core.specs.content.PlainLaws.{PlainLaws}
@@ -190,14 +191,14 @@ pub known_file : (plain : PlainLaws) (sizes : Sizes) (first : Values) (opening :
     → MayCall sizes core.values (core.passes by) op → file_of (core.passes by).call < length (files_now opening core).contents
 known_file plain sizes first opening by core op sound count may =
     let known = ((sound.control_facts by).allowed (called sizes core.values (core.passes by) op may)).known in
-    let all = plain.count core.history opening in
+    let all = plain.count core.history (at_start opening) in
     omega (arith, known, all, count)
 
 -- the files after it
 pub files_placed : (plain : PlainLaws) (sizes : Sizes) (first : Values) (opening : Files) (by : ℕ) (core : Core) (reply : Reply) → Sound sizes first core
     → after (core.history ++ added by (core.passes by) (Place reply)) opening ≡ files_after (core.passes by).call (files_now opening core)
 files_placed plain sizes first opening by core reply sound =
-    plain.goes_on core.history (as_answered by (core.passes by) reply) opening ∙ sym (plain.made (core.passes by).asked (files_now opening core)).leaves
+    ap (λ (s : State). s.files) (plain.goes_on core.history (as_answered by (core.passes by) reply) (at_start opening)) ∙ sym (plain.made (core.passes by).asked (state_now opening core)).leaves
     ∙ ap (λ call. files_after call (files_now opening core)) (sym (made_now plain opening by core sound))
 
 -- two passes that grow one file are one
@@ -212,6 +213,9 @@ write_some (Read file at len) write = absurd (true≢false (sym write))
 write_some (Readv file at lens) write = absurd (true≢false (sym write))
 write_some (Writev file at parts) write = absurd (true≢false (sym write))
 write_some (Sync file) write = absurd (true≢false (sym write))
+write_some (ReadHere fd file len) write = absurd (true≢false (sym write))
+write_some (WriteHere fd file append bytes) write = absurd (true≢false (sym write))
+write_some (Seek fd file seek) write = absurd (true≢false (sym write))
 
 -- what extending says, of a pass
 abbrev ExtendsBy : Files → Core → (file : ℕ) → Pass → Type 0

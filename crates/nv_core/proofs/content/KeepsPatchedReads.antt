@@ -5,7 +5,7 @@ use Rattle.std.specs.Prelude.{slice_index_or, Some}
 use Rattle.nv_plain.specs.Files.{Files, overwritten}
 use Rattle.nv_plain.specs.Histories.{after}
 use Rattle.nv_plain.specs.declared.call.FileCall.{FileCall}
-use Rattle.nv_plain.specs.declared.call.FileCall.TheVariants.{Read, Write, Readv, Writev, Sync}
+use Rattle.nv_plain.specs.declared.call.FileCall.TheVariants.{Read, Write, Readv, Writev, Sync, ReadHere, WriteHere, Seek}
 use Rattle.nv_pmem.specs.Part.{Part}
 use Rattle.nv_pmem.specs.Laws.{LoadsAreAnImage}
 use Rattle.nv_entry.specs.Commits.{after_some, GroupsBecomeWhole}
@@ -526,6 +526,9 @@ written_part sizes values tail (Read file at len) first calls i written below = 
 written_part sizes values tail (Readv file at lens) first calls i written below = absurd written
 written_part sizes values tail (Writev file at parts) first calls i written below = absurd written
 written_part sizes values tail (Sync file) first calls i written below = absurd written
+written_part sizes values tail (ReadHere fd file len) first calls i written below = absurd written
+written_part sizes values tail (WriteHere fd file append bytes) first calls i written below = absurd written
+written_part sizes values tail (Seek fd file seek) first calls i written below = absurd written
 
 says_piece : (sizes : Sizes) (at : ℕ) (bytes : List ℕ) (value : Value) (part : Part) → IsPart value part → SaysPieceOf sizes at bytes value → SaysPiece sizes at bytes (Some part)
 says_piece sizes at bytes (APart device spares) part is says = subst (SaysPiece sizes at bytes) is says

@@ -3,7 +3,7 @@ use Rattle.std.proofs.Common.{◌≡◌, ◌≢◌, ℕ, ◌+◌, ◌*◌, ◌%�
 use Rattle.std.proofs.lemmas.Bool.{eqb-true, eq-eqb, ne_eqb, cases_eq, cases_Bool, true≢false}
 use Rattle.nv_plain.specs.Files.{Files, overwritten}
 use Rattle.nv_plain.specs.declared.call.FileCall.{FileCall}
-use Rattle.nv_plain.specs.declared.call.FileCall.TheVariants.{Read, Write, Readv, Writev, Sync}
+use Rattle.nv_plain.specs.declared.call.FileCall.TheVariants.{Read, Write, Readv, Writev, Sync, ReadHere, WriteHere, Seek}
 use Rattle.nv_plain.specs.declared.call.Reply.{Reply}
 use Rattle.nv_store.specs.Store.{Store}
 use Rattle.nv_core.specs.state.Words.{Sizes, Word, PAGE, CLEANUP, DIRTY, ENTRY, STORE, same, index, HEADER, slot_of_entry}
@@ -230,6 +230,9 @@ read_only (Write file at bytes) read = absurd (true≢false (sym read))
 read_only (Readv file at lens) read = refl
 read_only (Writev file at parts) read = refl
 read_only (Sync file) read = refl
+read_only (ReadHere fd file len) read = refl
+read_only (WriteHere fd file append bytes) read = refl
+read_only (Seek fd file seek) read = refl
 
 -- what its buffers have then: all of its pieces
 place_patched : (sizes : Sizes) (values : Values) (pass : Pass) (reply : Reply) (page : ℕ) (old : List ℕ) (control : Control) → FactsAt sizes pass control → MayPlace sizes values pass reply control

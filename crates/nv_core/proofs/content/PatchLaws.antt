@@ -8,8 +8,9 @@ use Rattle.std.proofs.Math.Nat.{mul-le-mul_right, div-add-mod, mul_comm}
 use Rattle.nv_plain.specs.Files.{Files, contents_of, overwritten}
 use Rattle.nv_plain.specs.Pieces.{Piece, pages_touched, piece_of, piece_bytes}
 use Rattle.nv_plain.specs.Calls.{files_after}
+use Rattle.nv_plain.specs.Positions.{at_start}
 use Rattle.nv_plain.specs.declared.call.FileCall.{FileCall}
-use Rattle.nv_plain.specs.declared.call.FileCall.TheVariants.{Read, Write, Readv, Writev, Sync}
+use Rattle.nv_plain.specs.declared.call.FileCall.TheVariants.{Read, Write, Readv, Writev, Sync, ReadHere, WriteHere, Seek}
 use Rattle.nv_plain.specs.Made.{after_calls, made_calls}
 use Rattle.nv_store.specs.Store.{Store}
 use Rattle.nv_core.specs.state.Words.{Sizes, HEAD, TAIL, STORE, ENTRY, PAGE, kind_of, was_readied, free, filling}
@@ -160,6 +161,9 @@ piece_page plain sizes (Read file at len) files i page write allowed there low =
 piece_page plain sizes (Readv file at lens) files i page write allowed there low = absurd (true≢false (sym write))
 piece_page plain sizes (Writev file at parts) files i page write allowed there low = absurd (true≢false (sym write))
 piece_page plain sizes (Sync file) files i page write allowed there low = absurd (true≢false (sym write))
+piece_page plain sizes (ReadHere fd file len) files i page write allowed there low = absurd (true≢false (sym write))
+piece_page plain sizes (WriteHere fd file append bytes) files i page write allowed there low = absurd (true≢false (sym write))
+piece_page plain sizes (Seek fd file seek) files i page write allowed there low = absurd (true≢false (sym write))
 
 -- ---- the history, and what is to be placed
 
@@ -323,7 +327,7 @@ module _ (plain : PlainLaws) (sizes : Sizes) (first : Values) (opened : Files) (
   -- no write that is to be placed is on the page
   history_page : page_now sizes opened core page ≡ page_in sizes (after_calls (made_calls opened core.history ++ to_place core) opened) page
   history_page =
-      sym (ap (λ f. page_in sizes f page) (plain.made_histories core.history opened))
+      sym (ap (λ f. page_in sizes f page) (plain.made_histories core.history (at_start opened)))
       ∙ sym (off_page plain sizes page (to_place core) (after_calls (made_calls opened core.history) opened) (after_length (made_calls opened core.history) opened ∙ count)
       (off_rising sizes page (λ by. call_if (is_waiting (core.passes by) (core.passes by).control) (core.passes by).call) 0 (core.made + 1)
       (λ by low high. off_if sizes page (is_waiting (core.passes by) (core.passes by).control) (core.passes by).call

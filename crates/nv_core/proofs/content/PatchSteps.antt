@@ -7,7 +7,7 @@ use Rattle.nv_plain.specs.Images.{PartImage, Image, entry_of, data_of}
 use Rattle.nv_plain.specs.Layouts.{mount_layout}
 use Rattle.nv_plain.specs.Pieces.{piece_of, piece_bytes}
 use Rattle.nv_plain.specs.declared.call.FileCall.{FileCall}
-use Rattle.nv_plain.specs.declared.call.FileCall.TheVariants.{Read, Write, Readv, Writev, Sync}
+use Rattle.nv_plain.specs.declared.call.FileCall.TheVariants.{Read, Write, Readv, Writev, Sync, ReadHere, WriteHere, Seek}
 use Rattle.nv_pmem.specs.Part.{Part, part_word}
 use Rattle.nv_pmem.specs.Images.{IsPartImage}
 use Rattle.nv_pmem.specs.Laws.{LoadsAreAnImage}
@@ -233,6 +233,9 @@ module _ (loads : LoadsAreAnImage) (sizes : Sizes) (log : Log) (core : Core) (gr
       go (Readv file at lens) e = absurd (whole (Readv file at lens) e)
       go (Writev file at parts) e = absurd (whole (Writev file at parts) e)
       go (Sync file) e = absurd (whole (Sync file) e)
+      go (ReadHere fd file len) e = absurd (whole (ReadHere fd file len) e)
+      go (WriteHere fd file append bytes) e = absurd (whole (WriteHere fd file append bytes) e)
+      go (Seek fd file seek) e = absurd (whole (Seek fd file seek) e)
       go (Write file at bytes) e =
           let g = groups.each number within in
           let a = g.among.0 in let b = g.among.1 in

@@ -5,7 +5,7 @@ use Rattle.std.proofs.Math.ListN.{set}
 use Rattle.std.proofs.lemmas.Bool.{cases_lt, cases_eq}
 use Rattle.std.proofs.lemmas.List.{length-set, get_or-set_same, get_or-set_other, ext_get_or}
 use Rattle.nv_plain.specs.declared.call.FileCall.{FileCall}
-use Rattle.nv_plain.specs.declared.call.FileCall.TheVariants.{Read, Write, Readv, Writev, Sync}
+use Rattle.nv_plain.specs.declared.call.FileCall.TheVariants.{Read, Write, Readv, Writev, Sync, ReadHere, WriteHere, Seek}
 use Rattle.nv_plain.specs.Files.{Files, overwritten}
 use Rattle.nv_plain.specs.Calls.{files_after}
 use Rattle.nv_plain.specs.Made.{after_calls}
@@ -116,14 +116,23 @@ pub calls_apart : (plain : PlainLaws) (one other : FileCall) (files : Files) →
 calls_apart plain (Read file at len) other files apart = refl
 calls_apart plain (Readv file at lens) other files apart = refl
 calls_apart plain (Sync file) other files apart = refl
+calls_apart plain (ReadHere fd file len) other files apart = refl
+calls_apart plain (WriteHere fd file append bytes) other files apart = refl
+calls_apart plain (Seek fd file seek) other files apart = refl
 calls_apart plain (Write file at bytes) (Read other from count) files apart = refl
 calls_apart plain (Write file at bytes) (Readv other from lens) files apart = refl
 calls_apart plain (Write file at bytes) (Sync other) files apart = refl
+calls_apart plain (Write file at bytes) (ReadHere fd other len) files apart = refl
+calls_apart plain (Write file at bytes) (WriteHere fd other append others) files apart = refl
+calls_apart plain (Write file at bytes) (Seek fd other seek) files apart = refl
 calls_apart plain (Write file at bytes) (Write other from others) files apart = writes_apart plain file at bytes other from others files apart
 calls_apart plain (Write file at bytes) (Writev other from others) files apart = writes_apart plain file at bytes other from (concat others) files apart
 calls_apart plain (Writev file at parts) (Read other from count) files apart = refl
 calls_apart plain (Writev file at parts) (Readv other from lens) files apart = refl
 calls_apart plain (Writev file at parts) (Sync other) files apart = refl
+calls_apart plain (Writev file at parts) (ReadHere fd other len) files apart = refl
+calls_apart plain (Writev file at parts) (WriteHere fd other append others) files apart = refl
+calls_apart plain (Writev file at parts) (Seek fd other seek) files apart = refl
 calls_apart plain (Writev file at parts) (Write other from others) files apart = writes_apart plain file at (concat parts) other from others files apart
 calls_apart plain (Writev file at parts) (Writev other from others) files apart = writes_apart plain file at (concat parts) other from (concat others) files apart
 

@@ -4,7 +4,7 @@ use Rattle.std.specs.List.{concat}
 use Rattle.std.proofs.lemmas.Bool.{cases_lt, cases_eq}
 use Rattle.std.proofs.lemmas.List.{length-set, get_or_past, ext_get_or}
 use Rattle.nv_plain.specs.declared.call.FileCall.{FileCall}
-use Rattle.nv_plain.specs.declared.call.FileCall.TheVariants.{Read, Write, Readv, Writev, Sync}
+use Rattle.nv_plain.specs.declared.call.FileCall.TheVariants.{Read, Write, Readv, Writev, Sync, ReadHere, WriteHere, Seek}
 use Rattle.nv_plain.specs.Files.{Files, contents_of, with_contents, overwritten}
 use Rattle.nv_plain.specs.Calls.{files_after}
 use Rattle.nv_plain.specs.Made.{after_calls}
@@ -131,6 +131,9 @@ alike_after plain [] one other agree = same_files one other agree
 alike_after plain (Read file at len ∷ later) one other agree = alike_after plain later one other (still (Read file at len) later one other (λ f i none. none) agree)
 alike_after plain (Readv file at lens ∷ later) one other agree = alike_after plain later one other (still (Readv file at lens) later one other (λ f i none. none) agree)
 alike_after plain (Sync file ∷ later) one other agree = alike_after plain later one other (still (Sync file) later one other (λ f i none. none) agree)
+alike_after plain (ReadHere fd file len ∷ later) one other agree = alike_after plain later one other (still (ReadHere fd file len) later one other (λ f i none. none) agree)
+alike_after plain (WriteHere fd file append bytes ∷ later) one other agree = alike_after plain later one other (still (WriteHere fd file append bytes) later one other (λ f i none. none) agree)
+alike_after plain (Seek fd file seek ∷ later) one other agree = alike_after plain later one other (still (Seek fd file seek) later one other (λ f i none. none) agree)
 alike_after plain (Write file at bytes ∷ later) one other agree =
     alike_after plain later (files_after (Write file at bytes) one) (files_after (Write file at bytes) other) (write_agrees plain file at bytes later one other agree)
 alike_after plain (Writev file at parts ∷ later) one other agree =

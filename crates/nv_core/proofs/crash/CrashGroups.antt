@@ -13,7 +13,7 @@ use Rattle.nv_plain.specs.Layouts.{mount_layout}
 use Rattle.nv_plain.specs.Pieces.{pages_touched, piece_of}
 use Rattle.nv_plain.specs.Recovered.{IsFollower, IsPiece, GoesOn, IsGroup, Fits, group_numbers, with_entry}
 use Rattle.nv_plain.specs.declared.call.FileCall.{FileCall}
-use Rattle.nv_plain.specs.declared.call.FileCall.TheVariants.{Read, Write, Readv, Writev, Sync}
+use Rattle.nv_plain.specs.declared.call.FileCall.TheVariants.{Read, Write, Readv, Writev, Sync, ReadHere, WriteHere, Seek}
 use Rattle.nv_plain.specs.Made.{after_calls}
 use Rattle.nv_header.specs.Heads.{first_names}
 use Rattle.nv_header.specs.Regions.{ReadsAs}
@@ -214,6 +214,9 @@ module _ (plain : PlainLaws) (sizes : Sizes) (first : Values) (opened : Files) (
   call_whole (Readv file at lens) n some committed reads = absurd reads
   call_whole (Writev file at parts) n some committed reads = absurd reads
   call_whole (Sync file) n some committed reads = absurd reads
+  call_whole (ReadHere fd file len) n some committed reads = absurd reads
+  call_whole (WriteHere fd file append bytes) n some committed reads = absurd reads
+  call_whole (Seek fd file seek) n some committed reads = absurd reads
 
   pub whole_if : (n : ℕ) → LeadsGroup sizes log core n → is_committed sizes image n ≡ true → ReadsWhole sizes (log.group n).call n image
   whole_if n leads committed =
@@ -227,6 +230,9 @@ module _ (plain : PlainLaws) (sizes : Sizes) (first : Values) (opened : Files) (
   group_of_call (Readv file at lens) n whole write allowed within small = absurd whole
   group_of_call (Writev file at parts) n whole write allowed within small = absurd whole
   group_of_call (Sync file) n whole write allowed within small = absurd whole
+  group_of_call (ReadHere fd file len) n whole write allowed within small = absurd whole
+  group_of_call (WriteHere fd file append bytes) n whole write allowed within small = absurd whole
+  group_of_call (Seek fd file seek) n whole write allowed within small = absurd whole
 
   call_after : (call : FileCall) (n : ℕ) (files : Files) → ReadsWhole sizes call n image → is_write call ≡ true → file_of call < length files.contents → fold (with_entry image) files (group_numbers image n) ≡ files_after call files
   call_after (Write file at bytes) n files whole write there = group_after sizes names tail image reads n file at bytes (ltb-true 0 (length bytes) write) whole plain files there
@@ -234,6 +240,9 @@ module _ (plain : PlainLaws) (sizes : Sizes) (first : Values) (opened : Files) (
   call_after (Readv file at lens) n files whole write there = absurd whole
   call_after (Writev file at parts) n files whole write there = absurd whole
   call_after (Sync file) n files whole write there = absurd whole
+  call_after (ReadHere fd file len) n files whole write there = absurd whole
+  call_after (WriteHere fd file append bytes) n files whole write there = absurd whole
+  call_after (Seek fd file seek) n files whole write there = absurd whole
 
   call_count : (call : FileCall) (n : ℕ) → ReadsWhole sizes call n image → is_write call ≡ true → (image_entry image n).count ≡ page_count sizes call
   call_count (Write file at bytes) n whole write = count_is sizes names tail image reads n file at bytes (ltb-true 0 (length bytes) write) whole
@@ -241,6 +250,9 @@ module _ (plain : PlainLaws) (sizes : Sizes) (first : Values) (opened : Files) (
   call_count (Readv file at lens) n whole write = absurd whole
   call_count (Writev file at parts) n whole write = absurd whole
   call_count (Sync file) n whole write = absurd whole
+  call_count (ReadHere fd file len) n whole write = absurd whole
+  call_count (WriteHere fd file append bytes) n whole write = absurd whole
+  call_count (Seek fd file seek) n whole write = absurd whole
 
   -- the window lies in the image's
   pub end_low : core.words HEAD ≤ tail + sizes.entries
@@ -266,6 +278,9 @@ module _ (plain : PlainLaws) (sizes : Sizes) (first : Values) (opened : Files) (
   committed_of (Readv file at lens) n low whole = absurd whole
   committed_of (Writev file at parts) n low whole = absurd whole
   committed_of (Sync file) n low whole = absurd whole
+  committed_of (ReadHere fd file len) n low whole = absurd whole
+  committed_of (WriteHere fd file append bytes) n low whole = absurd whole
+  committed_of (Seek fd file seek) n low whole = absurd whole
 
   -- a leader from the tail on that was made ready reads as committed
   pub ready_committed : (n : ℕ) → InWindow core n → tail ≤ n → (log.group n).first ≡ n → was_readied (entry_word_at sizes core n) ≡ true → is_committed sizes image n ≡ true

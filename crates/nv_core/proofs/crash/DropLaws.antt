@@ -4,7 +4,7 @@ use Rattle.std.specs.List.{concat}
 use Rattle.std.proofs.lemmas.Bool.{cases_lt, cases_eq}
 use Rattle.std.proofs.lemmas.List.{length-set, get_or_past}
 use Rattle.nv_plain.specs.declared.call.FileCall.{FileCall}
-use Rattle.nv_plain.specs.declared.call.FileCall.TheVariants.{Read, Write, Readv, Writev, Sync}
+use Rattle.nv_plain.specs.declared.call.FileCall.TheVariants.{Read, Write, Readv, Writev, Sync, ReadHere, WriteHere, Seek}
 use Rattle.nv_plain.specs.Files.{Files, contents_of, with_contents, overwritten}
 use Rattle.nv_plain.specs.Calls.{files_after}
 use Rattle.nv_plain.specs.Made.{after_calls}
@@ -30,6 +30,9 @@ touches_or_not : (call : FileCall) (file i : ℕ) → Touches call file i ⊎ (T
 touches_or_not (Read one at len) file i = inr (λ t. t)
 touches_or_not (Readv one at lens) file i = inr (λ t. t)
 touches_or_not (Sync one) file i = inr (λ t. t)
+touches_or_not (ReadHere fd one len) file i = inr (λ t. t)
+touches_or_not (WriteHere fd one append bytes) file i = inr (λ t. t)
+touches_or_not (Seek fd one seek) file i = inr (λ t. t)
 touches_or_not (Write one at bytes) file i = written_or_not one at bytes file i
 touches_or_not (Writev one at parts) file i = written_or_not one at (concat parts) file i
 
@@ -61,6 +64,9 @@ byte_left : (plain : PlainLaws) (call : FileCall) (files : Files) (file i : ℕ)
 byte_left plain (Read one at len) files file i none = refl
 byte_left plain (Readv one at lens) files file i none = refl
 byte_left plain (Sync one) files file i none = refl
+byte_left plain (ReadHere fd one len) files file i none = refl
+byte_left plain (WriteHere fd one append bytes) files file i none = refl
+byte_left plain (Seek fd one seek) files file i none = refl
 byte_left plain (Write one at bytes) files file i none = write_left plain one at bytes files file i none
 byte_left plain (Writev one at parts) files file i none = write_left plain one at (concat parts) files file i none
 
@@ -95,6 +101,9 @@ end_left : (plain : PlainLaws) (call : FileCall) (files : Files) (file : ℕ) �
 end_left plain (Read one at len) files file = Same refl
 end_left plain (Readv one at lens) files file = Same refl
 end_left plain (Sync one) files file = Same refl
+end_left plain (ReadHere fd one len) files file = Same refl
+end_left plain (WriteHere fd one append bytes) files file = Same refl
+end_left plain (Seek fd one seek) files file = Same refl
 end_left plain (Write one at bytes) files file = write_ends plain one at bytes files file
 end_left plain (Writev one at parts) files file = elim (write_ends plain one at (concat parts) files file) [ Same e ↦ Same e | Longer i touched is low ↦ Longer i touched is low ]
 
@@ -137,6 +146,9 @@ dropped plain call others few files among same = sym (alike_after plain others (
         go (Readv one at lens) = refl
         go (Writev one at parts) = length-set files.contents one (overwritten (contents_of files one) at (concat parts))
         go (Sync one) = refl
+        go (ReadHere fd one len) = refl
+        go (WriteHere fd one append bytes) = refl
+        go (Seek fd one seek) = refl
         go (Write one at bytes) = length-set files.contents one (overwritten (contents_of files one) at bytes)
 
     long : (file : ℕ) → length (contents_of (after_calls others (files_after call files)) file) ≡ length (contents_of (after_calls few files) file)

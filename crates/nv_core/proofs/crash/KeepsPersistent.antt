@@ -3,7 +3,7 @@ use Rattle.std.proofs.Common.{◌≡◌, ◌≢◌, ◌⊎◌, ℕ, ◌+◌, ◌
 use Rattle.std.proofs.lemmas.Bool.{cases_lt, cases_eq, cases_Bool, eqb-true, lt-leb, and_parts}
 use Rattle.nv_plain.specs.Files.{Files}
 use Rattle.nv_plain.specs.declared.call.FileCall.{FileCall}
-use Rattle.nv_plain.specs.declared.call.FileCall.TheVariants.{Read, Write, Readv, Writev, Sync}
+use Rattle.nv_plain.specs.declared.call.FileCall.TheVariants.{Read, Write, Readv, Writev, Sync, ReadHere, WriteHere, Seek}
 use Rattle.nv_pmem.specs.Laws.{LoadsAreAnImage}
 use Rattle.nv_header.specs.HeaderSteps.{tail_steps}
 use Rattle.nv_store.specs.Store.{Store, IsQuietStore}
@@ -58,6 +58,9 @@ piece_file sizes (Read one at len) k file i touches = absurd touches
 piece_file sizes (Readv one at lens) k file i touches = absurd touches
 piece_file sizes (Writev one at parts) k file i touches = absurd touches
 piece_file sizes (Sync one) k file i touches = absurd touches
+piece_file sizes (ReadHere fd one len) k file i touches = absurd touches
+piece_file sizes (WriteHere fd one append bytes) k file i touches = absurd touches
+piece_file sizes (Seek fd one seek) k file i touches = absurd touches
 
 module _ (sizes : Sizes) (first : Values) (opened : Files) (names : List (List ℕ)) (tails : Tails) (log : Log) (placed : ℕ → Bool) (core : Core)
     (sound : Sound sizes first core) (content : LogContent sizes first opened tails log placed core) (region : HasRegion sizes names tails log core) where

@@ -3,7 +3,7 @@ use Rattle.std.proofs.Common.{◌≡◌, ◌≢◌, ℕ, ◌+◌, ◌==◌, ◌&
 use Rattle.std.proofs.lemmas.Bool.{eqb-false, lt-ltb, true≢false}
 use Rattle.nv_plain.specs.Histories.{Answered}
 use Rattle.nv_plain.specs.declared.call.FileCall.{FileCall}
-use Rattle.nv_plain.specs.declared.call.FileCall.TheVariants.{Read, Write, Readv, Writev, Sync}
+use Rattle.nv_plain.specs.declared.call.FileCall.TheVariants.{Read, Write, Readv, Writev, Sync, ReadHere, WriteHere, Seek}
 use Rattle.nv_plain.specs.declared.call.Reply.{Reply}
 use Rattle.nv_core.specs.state.Words.{Sizes, Word, ENTRY, slot_of_entry}
 use Rattle.nv_core.specs.state.Values.{CallEnding, Made, Failed, Refused}
@@ -32,6 +32,9 @@ written sizes (Read file at len) is = absurd (true≢false (sym is))
 written sizes (Readv file at lens) is = absurd (true≢false (sym is))
 written sizes (Writev file at parts) is = absurd (true≢false (sym is))
 written sizes (Sync file) is = absurd (true≢false (sym is))
+written sizes (ReadHere fd file len) is = absurd (true≢false (sym is))
+written sizes (WriteHere fd file append bytes) is = absurd (true≢false (sym is))
+written sizes (Seek fd file seek) is = absurd (true≢false (sym is))
 
 -- a call that is no write of at least one byte draws nothing
 unwritten : (sizes : Sizes) (call : FileCall) → is_write call ≡ false → entries_of sizes call ≡ 0
@@ -41,6 +44,9 @@ unwritten sizes (Read file at len) none = refl
 unwritten sizes (Readv file at lens) none = refl
 unwritten sizes (Writev file at parts) none = refl
 unwritten sizes (Sync file) none = refl
+unwritten sizes (ReadHere fd file len) none = refl
+unwritten sizes (WriteHere fd file append bytes) none = refl
+unwritten sizes (Seek fd file seek) none = refl
 
 reads_none : (sizes : Sizes) (call : FileCall) → is_read call ≡ true → entries_of sizes call ≡ 0
 reads_none sizes (Read file at len) is = refl
@@ -48,6 +54,9 @@ reads_none sizes (Write file at bytes) is = absurd (true≢false (sym is))
 reads_none sizes (Readv file at lens) is = refl
 reads_none sizes (Writev file at parts) is = refl
 reads_none sizes (Sync file) is = refl
+reads_none sizes (ReadHere fd file len) is = refl
+reads_none sizes (WriteHere fd file append bytes) is = refl
+reads_none sizes (Seek fd file seek) is = refl
 
 placed_more : (sizes : Sizes) (calls : List Answered) (one : Answered) → placed_entries sizes (calls ++ one ∷ []) ≡ placed_entries sizes calls + entries_of sizes (plain_call one.call)
 placed_more sizes [] one = omega arith

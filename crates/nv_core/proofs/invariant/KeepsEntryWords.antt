@@ -4,7 +4,7 @@ use Rattle.std.proofs.lemmas.Bool.{ltb-true, eqb-true, true≢false}
 use Rattle.std.proofs.lemmas.Nat.{div_below}
 use Rattle.nv_plain.specs.Layouts.{mount_layout}
 use Rattle.nv_plain.specs.declared.call.FileCall.{FileCall}
-use Rattle.nv_plain.specs.declared.call.FileCall.TheVariants.{Read, Write, Readv, Writev, Sync}
+use Rattle.nv_plain.specs.declared.call.FileCall.TheVariants.{Read, Write, Readv, Writev, Sync, ReadHere, WriteHere, Seek}
 use Rattle.nv_core.specs.state.Words.{Sizes, ENTRY, same, page_total, free, filling, broken, ready, held, cleaned, kind_of, is_entry_of, slot_of_entry}
 use Rattle.nv_core.specs.state.Cleaner.{Clean, Free}
 use Rattle.nv_core.specs.state.Cleaner as cleaner
@@ -32,6 +32,9 @@ some_bytes (Read file at len) write = absurd (true≢false (sym write))
 some_bytes (Readv file at lens) write = absurd (true≢false (sym write))
 some_bytes (Writev file at parts) write = absurd (true≢false (sym write))
 some_bytes (Sync file) write = absurd (true≢false (sym write))
+some_bytes (ReadHere fd file len) write = absurd (true≢false (sym write))
+some_bytes (WriteHere fd file append bytes) write = absurd (true≢false (sym write))
+some_bytes (Seek fd file seek) write = absurd (true≢false (sym write))
 
 -- bytes below so many pages touch pages below so many
 touched_within : (at len page pages : ℕ) → 1 ≤ len → at + len ≤ page * pages → at / page + (if len == 0 then 0 else (at + len - 1) / page - at / page + 1) ≤ pages

@@ -2,7 +2,7 @@
 use Rattle.std.proofs.Common.{◌≡◌, ℕ, ◌+◌, ◌≤◌, nat_lt, true, refl, sym, ap, subst, ◌∙◌, arith}
 use Rattle.std.proofs.lemmas.Bool.{and_from, lt-ltb, true≢false}
 use Rattle.nv_plain.specs.declared.call.FileCall.{FileCall}
-use Rattle.nv_plain.specs.declared.call.FileCall.TheVariants.{Read, Write, Readv, Writev, Sync}
+use Rattle.nv_plain.specs.declared.call.FileCall.TheVariants.{Read, Write, Readv, Writev, Sync, ReadHere, WriteHere, Seek}
 use Rattle.nv_core.specs.state.Words.{Sizes, Word, SIZE, STORE, ENTRY, CLEANUP, index}
 use Rattle.nv_core.specs.state.Passes.{Fault, Control, SetStopAfterRead, SetStopAfterCommit, IsOneOf, file_of, at_of, len_of, is_write, times, SetStopAfterPiece}
 use Rattle.nv_core.specs.steps.Ops.{Op}
@@ -37,6 +37,9 @@ some_bytes (Read file at len) write = absurd (true≢false (sym write))
 some_bytes (Readv file at lens) write = absurd (true≢false (sym write))
 some_bytes (Writev file at parts) write = absurd (true≢false (sym write))
 some_bytes (Sync file) write = absurd (true≢false (sym write))
+some_bytes (ReadHere fd file len) write = absurd (true≢false (sym write))
+some_bytes (WriteHere fd file append bytes) write = absurd (true≢false (sym write))
+some_bytes (Seek fd file seek) write = absurd (true≢false (sym write))
 
 failing_measured : (control : Control) → IsFailing control → HasMeasured control
 failing_measured (SetStopAfterRead page dirty) fails = tt

@@ -2,7 +2,7 @@
 use Rattle.std.proofs.Common.{◌≢◌, ℕ, zero, suc, ◌+◌, ◌-◌, ◌<◌, ◌≤◌, ◌==◌, List, [], ◌∷◌, inl, inr, refl, sym, ap, subst, ◌∙◌, arith}
 use Rattle.std.proofs.lemmas.Bool.{eqb-true, cases_eq}
 use Rattle.nv_plain.specs.declared.call.FileCall.{FileCall}
-use Rattle.nv_plain.specs.declared.call.FileCall.TheVariants.{Read, Write, Readv, Writev, Sync}
+use Rattle.nv_plain.specs.declared.call.FileCall.TheVariants.{Read, Write, Readv, Writev, Sync, ReadHere, WriteHere, Seek}
 use Rattle.nv_pmem.specs.Rows.{steps_on}
 use Rattle.nv_pmem.specs.Steps.{LineStep}
 use Rattle.nv_entry.specs.Commits.{GroupsEndReady}
@@ -43,6 +43,9 @@ all_due ends sizes pass (Read file at len) i value less is = is
 all_due ends sizes pass (Readv file at lens) i value less is = is
 all_due ends sizes pass (Writev file at parts) i value less is = is
 all_due ends sizes pass (Sync file) i value less is = is
+all_due ends sizes pass (ReadHere fd file len) i value less is = is
+all_due ends sizes pass (WriteHere fd file append bytes) i value less is = is
+all_due ends sizes pass (Seek fd file seek) i value less is = is
 all_due ends sizes pass call i value less is = absurd is
 
 -- one of them comes

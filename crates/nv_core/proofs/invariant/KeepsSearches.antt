@@ -2,7 +2,7 @@
 use Rattle.std.proofs.Common.{◌≡◌, ◌≢◌, ℕ, zero, suc, ◌+◌, ◌%◌, ◌^◌, ◌<◌, ◌≤◌, ◌==◌, nat_lt, nat_le, not, ◌&&◌, true, false, if◌then◌else◌, List, [], Some, None, inl, inr, refl, sym, ap, subst, ◌∙◌, arith}
 use Rattle.std.proofs.lemmas.Bool.{true≢false, eq-eqb}
 use Rattle.nv_plain.specs.declared.call.FileCall.{FileCall}
-use Rattle.nv_plain.specs.declared.call.FileCall.TheVariants.{Read, Write, Readv, Writev, Sync}
+use Rattle.nv_plain.specs.declared.call.FileCall.TheVariants.{Read, Write, Readv, Writev, Sync, ReadHere, WriteHere, Seek}
 use Rattle.nv_core.specs.state.Totals.{total}
 use Rattle.nv_core.specs.state.Words.{Sizes, Word, STOP, ORDER, HEAD, TAIL, SIZE, LENGTH, STORE, ENTRY, HINT, PAGE, CLEANUP, DIRTY, page_total, index, ready, is_entry_of, slot_of_entry}
 use Rattle.nv_core.specs.state.Values.{Value, ABuffer, Job, PageRead, CallEnding, Made, Failed, Refused, called, filled, buffers_in, lacks_buffer, emptied, received}
@@ -124,6 +124,9 @@ read_some (Write file at bytes) read = absurd (true≢false (sym read))
 read_some (Readv file at lens) read = absurd (true≢false (sym read))
 read_some (Writev file at parts) read = absurd (true≢false (sym read))
 read_some (Sync file) read = absurd (true≢false (sym read))
+read_some (ReadHere fd file len) read = absurd (true≢false (sym read))
+read_some (WriteHere fd file append bytes) read = absurd (true≢false (sym read))
+read_some (Seek fd file seek) read = absurd (true≢false (sym read))
 
 searched_within : (sizes : Sizes) (first : Values) (by : ℕ) (core : Core) (page tries : ℕ) (search : Search) → Sound sizes first core → (core.passes by).control ≡ Searching page tries search → page < page_total sizes
 searched_within sizes first by core page tries search sound at =

@@ -90,7 +90,7 @@ sound_begin sizes first by core call sound made may = record {
   stop = stop_begin sizes first by core call sound may;
   broken = broken_begin sizes first by core call sound sound.broken may;
   broken_lengths = broken_lengths_begin sizes by core call sound.broken_lengths;
-  made = made_begin sizes by core call sound.made;
+  made = made_begin sizes by core call may sound.made;
   history = history_begin sizes by core call sound.history made may;
   buffers = sound.buffers;
   searches = searches_begin sizes by core call sound.searches;
@@ -229,7 +229,7 @@ opening_is_sound mount is_mount = record {
     whole = (0, omega arith, refl);
     mine = λ n. refl;
   };
-  made = record { each = λ n. refl };
+  made = record { each = λ n. refl; named = λ n. refl };
   buffers = is_mount.buffers;
   searches = record { hints = first_hints mount is_mount; each = λ n. tt };
   devices = record { each = λ cell. refl };

@@ -3,7 +3,7 @@ use Rattle.std.proofs.Common.{◌≡◌, ℕ, ◌+◌, ◌-◌, ◌<◌, ◌≤�
 use Rattle.std.specs.Prelude.{Some, None, option_map}
 use Rattle.std.proofs.lemmas.Bool.{ltb-true}
 use Rattle.nv_plain.specs.declared.call.FileCall.{FileCall}
-use Rattle.nv_plain.specs.declared.call.FileCall.TheVariants.{Read, Write, Readv, Writev, Sync}
+use Rattle.nv_plain.specs.declared.call.FileCall.TheVariants.{Read, Write, Readv, Writev, Sync, ReadHere, WriteHere, Seek}
 use Rattle.nv_pmem.specs.Rows.{steps_on}
 use Rattle.nv_pmem.specs.Runs.{run}
 use Rattle.nv_pmem.specs.Steps.{LineStep, after_line_step}
@@ -84,6 +84,9 @@ all_due groups sizes pass (Read file at len) i value some drawn less is = absurd
 all_due groups sizes pass (Readv file at lens) i value some drawn less is = absurd (not_both drawn.write refl)
 all_due groups sizes pass (Writev file at parts) i value some drawn less is = absurd (not_both drawn.write refl)
 all_due groups sizes pass (Sync file) i value some drawn less is = absurd (not_both drawn.write refl)
+all_due groups sizes pass (ReadHere fd file len) i value some drawn less is = absurd (not_both drawn.write refl)
+all_due groups sizes pass (WriteHere fd file append bytes) i value some drawn less is = absurd (not_both drawn.write refl)
+all_due groups sizes pass (Seek fd file seek) i value some drawn less is = absurd (not_both drawn.write refl)
 all_due groups sizes pass call i value some drawn less is = absurd is
 
 -- a read of a piece leaves what each part tells

@@ -6,7 +6,7 @@ use Rattle.std.proofs.lemmas.List.{take_all, length-set, get_or-set_same, get_or
 use Rattle.nv_plain.specs.Images.{PartImage, Image}
 use Rattle.nv_plain.specs.Pieces.{pages_touched}
 use Rattle.nv_plain.specs.declared.call.FileCall.{FileCall}
-use Rattle.nv_plain.specs.declared.call.FileCall.TheVariants.{Read, Write, Readv, Writev, Sync}
+use Rattle.nv_plain.specs.declared.call.FileCall.TheVariants.{Read, Write, Readv, Writev, Sync, ReadHere, WriteHere, Seek}
 use Rattle.nv_pmem.specs.Part.{Part, part_word}
 use Rattle.nv_pmem.specs.Images.{IsPartImage, IsQuietPart}
 use Rattle.nv_pmem.specs.Laws.{StepsKeepLines}
@@ -105,3 +105,6 @@ group_blank laws sizes values tail (Read file at len) first calls written all be
 group_blank laws sizes values tail (Readv file at lens) first calls written all below i less = absurd written
 group_blank laws sizes values tail (Writev file at parts) first calls written all below i less = absurd written
 group_blank laws sizes values tail (Sync file) first calls written all below i less = absurd written
+group_blank laws sizes values tail (ReadHere fd file len) first calls written all below i less = absurd written
+group_blank laws sizes values tail (WriteHere fd file append bytes) first calls written all below i less = absurd written
+group_blank laws sizes values tail (Seek fd file seek) first calls written all below i less = absurd written

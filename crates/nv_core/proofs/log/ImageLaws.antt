@@ -7,7 +7,7 @@ use Rattle.std.proofs.lemmas.List.{get_or_past, take_all}
 use Rattle.nv_plain.specs.Images.{Image, entry_of}
 use Rattle.nv_plain.specs.Pieces.{pages_touched}
 use Rattle.nv_plain.specs.declared.call.FileCall.{FileCall}
-use Rattle.nv_plain.specs.declared.call.FileCall.TheVariants.{Read, Write, Readv, Writev, Sync}
+use Rattle.nv_plain.specs.declared.call.FileCall.TheVariants.{Read, Write, Readv, Writev, Sync, ReadHere, WriteHere, Seek}
 use Rattle.nv_pmem.specs.Part.{Part, part_word}
 use Rattle.nv_pmem.specs.Images.{IsPartImage, IsQuietPart}
 use Rattle.nv_pmem.specs.Laws.{LoadsAreAnImage}
@@ -135,6 +135,9 @@ module _ (loads : LoadsAreAnImage) (sizes : Sizes) (values : Values) (tail : ℕ
   call_reads atomic (Readv file at lens) first calls written low = absurd written
   call_reads atomic (Writev file at parts) first calls written low = absurd written
   call_reads atomic (Sync file) first calls written low = absurd written
+  call_reads atomic (ReadHere fd file len) first calls written low = absurd written
+  call_reads atomic (WriteHere fd file append bytes) first calls written low = absurd written
+  call_reads atomic (Seek fd file seek) first calls written low = absurd written
 
   pub call_still : GroupsStayOpen → (call : FileCall) (first calls : ℕ) → IsWritten sizes values tail call first calls → tail ≤ first → calls + 3 ≤ commit_length sizes call first → InEachImageOf sizes values (ReadsOpen sizes call first)
   call_still stay (Write file at bytes) first calls written low few = reads_still loads sizes values tail first file at bytes calls some written stay low few
@@ -142,6 +145,9 @@ module _ (loads : LoadsAreAnImage) (sizes : Sizes) (values : Values) (tail : ℕ
   call_still stay (Readv file at lens) first calls written low few = absurd written
   call_still stay (Writev file at parts) first calls written low few = absurd written
   call_still stay (Sync file) first calls written low few = absurd written
+  call_still stay (ReadHere fd file len) first calls written low few = absurd written
+  call_still stay (WriteHere fd file append bytes) first calls written low few = absurd written
+  call_still stay (Seek fd file seek) first calls written low few = absurd written
 
   call_open : (call : FileCall) (first calls : ℕ) → IsWritten sizes values tail call first calls → tail ≤ first → calls ≡ 0 → InEachImageOf sizes values (ReadsOpen sizes call first)
   call_open (Write file at bytes) first calls written low none = reads_open loads sizes values tail first file at bytes calls some written low none
@@ -149,6 +155,9 @@ module _ (loads : LoadsAreAnImage) (sizes : Sizes) (values : Values) (tail : ℕ
   call_open (Readv file at lens) first calls written low none = absurd written
   call_open (Writev file at parts) first calls written low none = absurd written
   call_open (Sync file) first calls written low none = absurd written
+  call_open (ReadHere fd file len) first calls written low none = absurd written
+  call_open (WriteHere fd file append bytes) first calls written low none = absurd written
+  call_open (Seek fd file seek) first calls written low none = absurd written
 
   pub call_whole : GroupsBecomeWhole → (call : FileCall) (first calls : ℕ) → IsWritten sizes values tail call first calls → tail ≤ first → calls ≡ commit_length sizes call first → InEachImageOf sizes values (ReadsWhole sizes call first)
   call_whole becomes (Write file at bytes) first calls written low all = reads_whole loads sizes values tail first file at bytes calls some written becomes low all
@@ -156,6 +165,9 @@ module _ (loads : LoadsAreAnImage) (sizes : Sizes) (values : Values) (tail : ℕ
   call_whole becomes (Readv file at lens) first calls written low all = absurd written
   call_whole becomes (Writev file at parts) first calls written low all = absurd written
   call_whole becomes (Sync file) first calls written low all = absurd written
+  call_whole becomes (ReadHere fd file len) first calls written low all = absurd written
+  call_whole becomes (WriteHere fd file append bytes) first calls written low all = absurd written
+  call_whole becomes (Seek fd file seek) first calls written low all = absurd written
 
   call_quiet : GroupsEndQuiet → (call : FileCall) (first calls : ℕ) → IsWritten sizes values tail call first calls → calls ≡ commit_length sizes call first
       → (i : ℕ) → i < page_count sizes call → KeepsQuiet (values (ENTRY (slot_of_entry sizes (first + i))))
@@ -164,6 +176,9 @@ module _ (loads : LoadsAreAnImage) (sizes : Sizes) (values : Values) (tail : ℕ
   call_quiet ends (Readv file at lens) first calls written all = absurd written
   call_quiet ends (Writev file at parts) first calls written all = absurd written
   call_quiet ends (Sync file) first calls written all = absurd written
+  call_quiet ends (ReadHere fd file len) first calls written all = absurd written
+  call_quiet ends (WriteHere fd file append bytes) first calls written all = absurd written
+  call_quiet ends (Seek fd file seek) first calls written all = absurd written
 
 module _ (loads : LoadsAreAnImage) (atomic : GroupsAreAtomic) (becomes : GroupsBecomeWhole) (ends : GroupsEndQuiet)
     (sizes : Sizes) (first : Values) (tails : Tails) (log : Log) (core : Core) (some : 1 ≤ sizes.entries) (sound : Sound sizes first core) (groups : Groups sizes core log) (written : Written sizes tails.least log core)
@@ -306,6 +321,9 @@ module _ (loads : LoadsAreAnImage) (nothing_else : GroupsStoreNothingElse) (size
   call_stale (Readv file at lens) first calls written = absurd written
   call_stale (Writev file at parts) first calls written = absurd written
   call_stale (Sync file) first calls written = absurd written
+  call_stale (ReadHere fd file len) first calls written = absurd written
+  call_stale (WriteHere fd file append bytes) first calls written = absurd written
+  call_stale (Seek fd file seek) first calls written = absurd written
 
 pub stale_words : LoadsAreAnImage → GroupsStoreNothingElse → (sizes : Sizes) (first : Values) (tail : ℕ) (log : Log) (core : Core) → 1 ≤ sizes.entries → Sound sizes first core → Groups sizes core log → Written sizes tail log core
     → StaleWords sizes tail log core

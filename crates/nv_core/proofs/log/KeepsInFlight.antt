@@ -2,7 +2,7 @@
 use Rattle.std.proofs.Common.{◌≡◌, ◌≢◌, ℕ, ◌+◌, ◌-◌, ◌^◌, ◌<◌, ◌≤◌, ◌==◌, nat_lt, nat_le, ◌&&◌, not, Bool, true, false, if◌then◌else◌, List, length, inl, inr, refl, sym, ap, subst, ◌∙◌, arith}
 use Rattle.std.proofs.lemmas.Bool.{eqb-true, eq-eqb, cases_eq}
 use Rattle.nv_plain.specs.declared.call.FileCall.{FileCall}
-use Rattle.nv_plain.specs.declared.call.FileCall.TheVariants.{Read, Write, Readv, Writev, Sync}
+use Rattle.nv_plain.specs.declared.call.FileCall.TheVariants.{Read, Write, Readv, Writev, Sync, ReadHere, WriteHere, Seek}
 use Rattle.nv_plain.specs.declared.call.Reply.{Reply}
 use Rattle.nv_core.specs.state.Words.{Sizes, Word, STOP, ORDER, HEAD, TAIL, LENGTH, DIRTY, PAGE, SIZE, STORE, ENTRY, HINT, was_readied, CLEANUP, ready, is_entry_of, slot_of_entry}
 use Rattle.nv_core.specs.state.Values.{CallEnding, Made, Failed, Refused}
@@ -358,6 +358,9 @@ no_reading (Write file at bytes) write read = not_both read refl
 no_reading (Readv file at lens) write read = not_both write refl
 no_reading (Writev file at parts) write read = not_both write refl
 no_reading (Sync file) write read = not_both write refl
+no_reading (ReadHere fd file len) write read = not_both write refl
+no_reading (WriteHere fd file append bytes) write read = not_both write refl
+no_reading (Seek fd file seek) write read = not_both write refl
 
 pub placing : (sizes : Sizes) (values : Values) (pass : Pass) (reply : Reply) (control : Control) → FactsAt sizes pass control → MayPlace sizes values pass reply control → is_write pass.call ≡ true → IsFlying pass control
 placing sizes values pass reply TakePlace at may write = write

@@ -6,8 +6,9 @@ use Rattle.std.proofs.lemmas.Bool.{true≢false, eqb-true, eq-eqb, ne_eqb, cases
 use Rattle.std.proofs.lemmas.List.{append-nil, length-set, set-get_or}
 use Rattle.nv_plain.specs.Files.{Files}
 use Rattle.nv_plain.specs.Calls.{files_after}
+use Rattle.nv_plain.specs.Positions.{at_start}
 use Rattle.nv_plain.specs.declared.call.FileCall.{FileCall}
-use Rattle.nv_plain.specs.declared.call.FileCall.TheVariants.{Read, Write, Readv, Writev, Sync}
+use Rattle.nv_plain.specs.declared.call.FileCall.TheVariants.{Read, Write, Readv, Writev, Sync, ReadHere, WriteHere, Seek}
 use Rattle.nv_plain.specs.declared.call.Reply.{Reply}
 use Rattle.nv_plain.specs.Made.{after_calls, made_calls, as_made}
 use Rattle.nv_core.proofs.content.MadeLaws.{made_now}
@@ -261,6 +262,9 @@ files_length (Write file at bytes) files = length-set files.contents file _
 files_length (Readv file at lens) files = refl
 files_length (Writev file at parts) files = length-set files.contents file _
 files_length (Sync file) files = refl
+files_length (ReadHere fd file len) files = refl
+files_length (WriteHere fd file append bytes) files = refl
+files_length (Seek fd file seek) files = refl
 
 pub after_length : (calls : List FileCall) (files : Files) → length (after_calls calls files).contents ≡ length files.contents
 after_length [] files = refl
@@ -543,6 +547,9 @@ none_written (Write file at (first ∷ rest)) files plain none = absurd (true≢
 none_written (Readv file at lens) files plain none = refl
 none_written (Writev file at parts) files plain none = absurd (joined_elsewhere file at parts plain)
 none_written (Sync file) files plain none = refl
+none_written (ReadHere fd file len) files plain none = refl
+none_written (WriteHere fd file append bytes) files plain none = refl
+none_written (Seek fd file seek) files plain none = refl
 
 module _ (plain : PlainLaws) (sizes : Sizes) (first : Values) (log : Log) (keep : ℕ → Bool) (opened : Files) (by : ℕ) (core : Core) (found : ℕ) (reply : Reply) (page_is : 1 ≤ sizes.page)
     (sound : Sound sizes first core) (groups : Groups sizes core log) (live : LiveBy sizes log keep opened core) (may : FoundEnabledByKind sizes by core (Place reply) found) where
@@ -557,7 +564,7 @@ module _ (plain : PlainLaws) (sizes : Sizes) (first : Values) (log : Log) (keep 
       place_test n = ap was_readied (untouched sizes by core (Place reply) found may (ENTRY (slot_of_entry sizes n)) refl)
 
   place_history : made_calls opened placed_core.history ≡ made_calls opened core.history ++ (core.passes by).call ∷ []
-  place_history = plain.made_on as_made core.history (as_answered by (core.passes by) reply) opened ∙ ap (λ call. made_calls opened core.history ++ call ∷ []) (sym (made_now plain opened by core sound))
+  place_history = plain.made_on as_made core.history (as_answered by (core.passes by) reply) (at_start opened) ∙ ap (λ call. made_calls opened core.history ++ call ∷ []) (sym (made_now plain opened by core sound))
 
   -- its pass has nothing to place then
   none_now : waits_of (placed_core.passes by) ≡ []

@@ -5,7 +5,7 @@ use Rattle.std.proofs.lemmas.Bool.{eqb-true, cases_eq, cases_lt, true≢false}
 use Rattle.std.proofs.lemmas.Nat.{mod_below}
 use Rattle.std.proofs.lemmas.List.{get_or_past}
 use Rattle.nv_plain.specs.declared.call.FileCall.{FileCall}
-use Rattle.nv_plain.specs.declared.call.FileCall.TheVariants.{Read, Write, Readv, Writev, Sync}
+use Rattle.nv_plain.specs.declared.call.FileCall.TheVariants.{Read, Write, Readv, Writev, Sync, ReadHere, WriteHere, Seek}
 use Rattle.nv_pmem.specs.Limits.{IsPageSize, entry_lines}
 use Rattle.nv_pmem.specs.Part.{Part}
 use Rattle.nv_pmem.specs.Laws.{BlankIsQuiet}
@@ -325,6 +325,9 @@ steps_same sizes pass (Write file at bytes) = refl
 steps_same sizes pass (Readv file at lens) = refl
 steps_same sizes pass (Writev file at parts) = refl
 steps_same sizes pass (Sync file) = refl
+steps_same sizes pass (ReadHere fd file len) = refl
+steps_same sizes pass (WriteHere fd file append bytes) = refl
+steps_same sizes pass (Seek fd file seek) = refl
 
 length_same : (sizes : Sizes) (pass : Pass) (call : FileCall) → length (commit_steps sizes pass call) ≡ commit_length sizes call pass.first
 length_same sizes pass (Read file at len) = refl
@@ -332,6 +335,9 @@ length_same sizes pass (Write file at bytes) = refl
 length_same sizes pass (Readv file at lens) = refl
 length_same sizes pass (Writev file at parts) = refl
 length_same sizes pass (Sync file) = refl
+length_same sizes pass (ReadHere fd file len) = refl
+length_same sizes pass (WriteHere fd file append bytes) = refl
+length_same sizes pass (Seek fd file seek) = refl
 
 module _ (sizes : Sizes) (first : Values) (tail : ℕ) (log : Log) (by : ℕ) (core : Core) (work : Work) (calls : ℕ)
     (sound : Sound sizes first core) (groups : Groups sizes core log) (written : Written sizes tail log core)
@@ -571,6 +577,9 @@ none_written sizes values tail (Read file at len) first blank_quiet page_is byte
 none_written sizes values tail (Readv file at lens) first blank_quiet page_is bytes_are write some blank = absurd (not_both write refl)
 none_written sizes values tail (Writev file at parts) first blank_quiet page_is bytes_are write some blank = absurd (not_both write refl)
 none_written sizes values tail (Sync file) first blank_quiet page_is bytes_are write some blank = absurd (not_both write refl)
+none_written sizes values tail (ReadHere fd file len) first blank_quiet page_is bytes_are write some blank = absurd (not_both write refl)
+none_written sizes values tail (WriteHere fd file append bytes) first blank_quiet page_is bytes_are write some blank = absurd (not_both write refl)
+none_written sizes values tail (Seek fd file seek) first blank_quiet page_is bytes_are write some blank = absurd (not_both write refl)
 none_written sizes values tail (Write file at bytes) first blank_quiet page_is bytes_are write some blank =
     let row = chosen (IsBlankPart sizes values tail first) (page_count sizes (Write file at bytes))
     (λ i less. let b = blank i less in (b.part, (b.is, b.lines, b.quiet, b.stale))) in

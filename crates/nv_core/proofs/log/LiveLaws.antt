@@ -10,7 +10,7 @@ use Rattle.nv_plain.specs.Files.{Files, contents_of, with_contents}
 use Rattle.nv_plain.specs.Calls.{files_after}
 use Rattle.nv_plain.specs.Pieces.{pages_touched, piece_of, piece_bytes, with_piece, with_pieces, WriteIsItsPieces}
 use Rattle.nv_plain.specs.declared.call.FileCall.{FileCall}
-use Rattle.nv_plain.specs.declared.call.FileCall.TheVariants.{Read, Write, Readv, Writev, Sync}
+use Rattle.nv_plain.specs.declared.call.FileCall.TheVariants.{Read, Write, Readv, Writev, Sync, ReadHere, WriteHere, Seek}
 use Rattle.nv_plain.specs.Made.{after_calls}
 use Rattle.nv_core.specs.state.Words.{Sizes}
 use Rattle.nv_core.specs.state.Passes.{is_write, file_of, at_of, page_count, first_page}
@@ -87,6 +87,9 @@ pieces_after law sizes (Read file at len) first files page_is write there = absu
 pieces_after law sizes (Readv file at lens) first files page_is write there = absurd (true≢false (sym write))
 pieces_after law sizes (Writev file at parts) first files page_is write there = absurd (true≢false (sym write))
 pieces_after law sizes (Sync file) first files page_is write there = absurd (true≢false (sym write))
+pieces_after law sizes (ReadHere fd file len) first files page_is write there = absurd (true≢false (sym write))
+pieces_after law sizes (WriteHere fd file append bytes) first files page_is write there = absurd (true≢false (sym write))
+pieces_after law sizes (Seek fd file seek) first files page_is write there = absurd (true≢false (sym write))
 
 -- ---- writes on different pages are apart
 
@@ -108,10 +111,16 @@ lie_apart sizes (Write file at bytes) (Read other from count) f a b g c d x y ho
 lie_apart sizes (Write file at bytes) (Readv other from counts) f a b g c d x y how = tt
 lie_apart sizes (Write file at bytes) (Writev other from others) f a b g c d x y how = absurd y
 lie_apart sizes (Write file at bytes) (Sync other) f a b g c d x y how = tt
+lie_apart sizes (Write file at bytes) (ReadHere fd other len) f a b g c d x y how = tt
+lie_apart sizes (Write file at bytes) (WriteHere fd other append others) f a b g c d x y how = tt
+lie_apart sizes (Write file at bytes) (Seek fd other seek) f a b g c d x y how = tt
 lie_apart sizes (Read file at len) other f a b g c d x y how = tt
 lie_apart sizes (Readv file at lens) other f a b g c d x y how = tt
 lie_apart sizes (Writev file at parts) other f a b g c d x y how = absurd x
 lie_apart sizes (Sync file) other f a b g c d x y how = tt
+lie_apart sizes (ReadHere fd file len) other f a b g c d x y how = tt
+lie_apart sizes (WriteHere fd file append bytes) other f a b g c d x y how = tt
+lie_apart sizes (Seek fd file seek) other f a b g c d x y how = tt
 
 pub piece_lies : (sizes : Sizes) (call : FileCall) (i : ℕ) → 1 ≤ sizes.page → LiesIn sizes (piece_write sizes call i) (file_of call) (at_of call / sizes.page + i) (at_of call / sizes.page + i + 1)
 piece_lies sizes (Write file at bytes) i some = lies sizes.page some
@@ -127,6 +136,9 @@ piece_lies sizes (Read file at len) i some = tt
 piece_lies sizes (Readv file at lens) i some = tt
 piece_lies sizes (Writev file at parts) i some = tt
 piece_lies sizes (Sync file) i some = tt
+piece_lies sizes (ReadHere fd file len) i some = tt
+piece_lies sizes (WriteHere fd file append bytes) i some = tt
+piece_lies sizes (Seek fd file seek) i some = tt
 
 whole_lies : (sizes : Sizes) (call : FileCall) → 1 ≤ sizes.page → is_write call ≡ true → LiesIn sizes call (file_of call) (at_of call / sizes.page) (at_of call / sizes.page + page_count sizes call)
 whole_lies sizes (Write file at bytes) some write = lies sizes.page some (length bytes) (ltb-true 0 (length bytes) write)
@@ -147,6 +159,9 @@ whole_lies sizes (Read file at len) some write = absurd (true≢false (sym write
 whole_lies sizes (Readv file at lens) some write = absurd (true≢false (sym write))
 whole_lies sizes (Writev file at parts) some write = absurd (true≢false (sym write))
 whole_lies sizes (Sync file) some write = absurd (true≢false (sym write))
+whole_lies sizes (ReadHere fd file len) some write = absurd (true≢false (sym write))
+whole_lies sizes (WriteHere fd file append bytes) some write = absurd (true≢false (sym write))
+whole_lies sizes (Seek fd file seek) some write = absurd (true≢false (sym write))
 
 -- a page of one file that is none of a write's pages
 not_on : (sizes : Sizes) (call : FileCall) (file page : ℕ) → (IsPage sizes call (file * sizes.pages + page) → ⊥) → file_of call ≡ file
@@ -206,23 +221,62 @@ apart_turned (Write file at bytes) (Writev other from others) apart = writes_tur
 apart_turned (Write file at bytes) (Read other from count) apart = tt
 apart_turned (Write file at bytes) (Readv other from counts) apart = tt
 apart_turned (Write file at bytes) (Sync other) apart = tt
+apart_turned (Write file at bytes) (ReadHere by other count) apart = tt
+apart_turned (Write file at bytes) (WriteHere by other appends others) apart = tt
+apart_turned (Write file at bytes) (Seek by other sought) apart = tt
 apart_turned (Writev file at parts) (Write other from others) apart = writes_turned file at (length (concat parts)) other from (length others) apart
 apart_turned (Writev file at parts) (Writev other from others) apart = writes_turned file at (length (concat parts)) other from (length (concat others)) apart
 apart_turned (Writev file at parts) (Read other from count) apart = tt
 apart_turned (Writev file at parts) (Readv other from counts) apart = tt
 apart_turned (Writev file at parts) (Sync other) apart = tt
+apart_turned (Writev file at parts) (ReadHere by other count) apart = tt
+apart_turned (Writev file at parts) (WriteHere by other appends others) apart = tt
+apart_turned (Writev file at parts) (Seek by other sought) apart = tt
 apart_turned (Read file at len) (Write other from others) apart = tt
 apart_turned (Read file at len) (Writev other from others) apart = tt
 apart_turned (Read file at len) (Read other from count) apart = tt
 apart_turned (Read file at len) (Readv other from counts) apart = tt
 apart_turned (Read file at len) (Sync other) apart = tt
+apart_turned (Read file at len) (ReadHere by other count) apart = tt
+apart_turned (Read file at len) (WriteHere by other appends others) apart = tt
+apart_turned (Read file at len) (Seek by other sought) apart = tt
 apart_turned (Readv file at lens) (Write other from others) apart = tt
 apart_turned (Readv file at lens) (Writev other from others) apart = tt
 apart_turned (Readv file at lens) (Read other from count) apart = tt
 apart_turned (Readv file at lens) (Readv other from counts) apart = tt
 apart_turned (Readv file at lens) (Sync other) apart = tt
+apart_turned (Readv file at lens) (ReadHere by other count) apart = tt
+apart_turned (Readv file at lens) (WriteHere by other appends others) apart = tt
+apart_turned (Readv file at lens) (Seek by other sought) apart = tt
 apart_turned (Sync file) (Write other from others) apart = tt
 apart_turned (Sync file) (Writev other from others) apart = tt
 apart_turned (Sync file) (Read other from count) apart = tt
 apart_turned (Sync file) (Readv other from counts) apart = tt
 apart_turned (Sync file) (Sync other) apart = tt
+apart_turned (Sync file) (ReadHere by other count) apart = tt
+apart_turned (Sync file) (WriteHere by other appends others) apart = tt
+apart_turned (Sync file) (Seek by other sought) apart = tt
+apart_turned (ReadHere fd file len) (Write other from others) apart = tt
+apart_turned (ReadHere fd file len) (Writev other from others) apart = tt
+apart_turned (ReadHere fd file len) (Read other from count) apart = tt
+apart_turned (ReadHere fd file len) (Readv other from counts) apart = tt
+apart_turned (ReadHere fd file len) (Sync other) apart = tt
+apart_turned (ReadHere fd file len) (ReadHere by other count) apart = tt
+apart_turned (ReadHere fd file len) (WriteHere by other appends others) apart = tt
+apart_turned (ReadHere fd file len) (Seek by other sought) apart = tt
+apart_turned (WriteHere fd file append bytes) (Write other from others) apart = tt
+apart_turned (WriteHere fd file append bytes) (Writev other from others) apart = tt
+apart_turned (WriteHere fd file append bytes) (Read other from count) apart = tt
+apart_turned (WriteHere fd file append bytes) (Readv other from counts) apart = tt
+apart_turned (WriteHere fd file append bytes) (Sync other) apart = tt
+apart_turned (WriteHere fd file append bytes) (ReadHere by other count) apart = tt
+apart_turned (WriteHere fd file append bytes) (WriteHere by other appends others) apart = tt
+apart_turned (WriteHere fd file append bytes) (Seek by other sought) apart = tt
+apart_turned (Seek fd file seek) (Write other from others) apart = tt
+apart_turned (Seek fd file seek) (Writev other from others) apart = tt
+apart_turned (Seek fd file seek) (Read other from count) apart = tt
+apart_turned (Seek fd file seek) (Readv other from counts) apart = tt
+apart_turned (Seek fd file seek) (Sync other) apart = tt
+apart_turned (Seek fd file seek) (ReadHere by other count) apart = tt
+apart_turned (Seek fd file seek) (WriteHere by other appends others) apart = tt
+apart_turned (Seek fd file seek) (Seek by other sought) apart = tt

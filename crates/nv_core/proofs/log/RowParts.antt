@@ -7,7 +7,7 @@ use Rattle.nv_pmem.specs.Rows.{RowStep, on_part}
 use Rattle.nv_pmem.specs.Steps.{LineStep, durable_store}
 use Rattle.nv_entry.specs.Group.{piece_steps, pieces_steps, group_steps}
 use Rattle.nv_plain.specs.declared.call.FileCall.{FileCall}
-use Rattle.nv_plain.specs.declared.call.FileCall.TheVariants.{Read, Write, Readv, Writev, Sync}
+use Rattle.nv_plain.specs.declared.call.FileCall.TheVariants.{Read, Write, Readv, Writev, Sync, ReadHere, WriteHere, Seek}
 use Rattle.nv_core.specs.state.Words.{Sizes}
 use Rattle.nv_core.specs.state.Passes.{Pass, page_count}
 use Rattle.nv_core.specs.steps.Order.{commit_steps}
@@ -60,3 +60,6 @@ row_within sizes pass (Write file at bytes) calls row some less is = in_group si
 row_within sizes pass (Readv file at lens) calls row some less is = absurd (omega arith)
 row_within sizes pass (Writev file at parts) calls row some less is = absurd (omega arith)
 row_within sizes pass (Sync file) calls row some less is = absurd (omega arith)
+row_within sizes pass (ReadHere fd file len) calls row some less is = absurd (omega arith)
+row_within sizes pass (WriteHere fd file append bytes) calls row some less is = absurd (omega arith)
+row_within sizes pass (Seek fd file seek) calls row some less is = absurd (omega arith)

@@ -4,7 +4,7 @@ use Rattle.std.specs.Prelude.{Some, slice_index_or}
 use Rattle.std.proofs.lemmas.Bool.{cases_lt, le-leb}
 use Rattle.nv_plain.specs.Images.{Entry, data_of}
 use Rattle.nv_plain.specs.declared.call.FileCall.{FileCall}
-use Rattle.nv_plain.specs.declared.call.FileCall.TheVariants.{Read, Write, Readv, Writev, Sync}
+use Rattle.nv_plain.specs.declared.call.FileCall.TheVariants.{Read, Write, Readv, Writev, Sync, ReadHere, WriteHere, Seek}
 use Rattle.nv_pmem.specs.Part.{Part, part_word}
 use Rattle.nv_pmem.specs.Laws.{LoadsAreAnImage}
 use Rattle.nv_entry.specs.Group.{HoldsEntry}
@@ -48,6 +48,9 @@ module _ (loads : LoadsAreAnImage) (becomes : GroupsBecomeWhole) (sizes : Sizes)
   piece_said (Readv file at lens) calls written all less = absurd written
   piece_said (Writev file at parts) calls written all less = absurd written
   piece_said (Sync file) calls written all less = absurd written
+  piece_said (ReadHere fd file len) calls written all less = absurd written
+  piece_said (WriteHere fd file append bytes) calls written all less = absurd written
+  piece_said (Seek fd file seek) calls written all less = absurd written
   piece_said (Write file from source) calls written all less =
       let whole = call_whole loads sizes values tail some becomes (Write file from source) first calls written low all (region_of part_word values) (region_is sizes part_word loads values) in
       let entry : HoldsEntry sizes.page first file from source i (region_of part_word values (1 + slot_of_entry sizes (first + i))) = whole.entries i less in

@@ -6,7 +6,7 @@ use Rattle.std.proofs.lemmas.List.{length-set, get_or-set_same, get_or-set_other
 use Rattle.std.specs.Prelude.{slice_index_or, option_map}
 use Rattle.nv_plain.specs.Images.{PartImage}
 use Rattle.nv_plain.specs.declared.call.FileCall.{FileCall}
-use Rattle.nv_plain.specs.declared.call.FileCall.TheVariants.{Read, Write, Readv, Writev, Sync}
+use Rattle.nv_plain.specs.declared.call.FileCall.TheVariants.{Read, Write, Readv, Writev, Sync, ReadHere, WriteHere, Seek}
 use Rattle.nv_pmem.specs.Part.{Part}
 use Rattle.nv_pmem.specs.Laws.{StepsKeepLines}
 use Rattle.nv_pmem.specs.Runs.{run}
@@ -167,6 +167,9 @@ written_later sizes values tail next (Read file at len) first calls less written
 written_later sizes values tail next (Readv file at lens) first calls less written = absurd written
 written_later sizes values tail next (Writev file at parts) first calls less written = absurd written
 written_later sizes values tail next (Sync file) first calls less written = absurd written
+written_later sizes values tail next (ReadHere fd file len) first calls less written = absurd written
+written_later sizes values tail next (WriteHere fd file append bytes) first calls less written = absurd written
+written_later sizes values tail next (Seek fd file seek) first calls less written = absurd written
 
 pub blank_later : (sizes : Sizes) (value : Value) (tail next slot : ℕ) → tail ≤ next → IsBlankEntry sizes value tail slot → IsBlankEntry sizes value next slot
 blank_later sizes value tail next slot less blank = record {
@@ -193,6 +196,9 @@ written_same sizes old new tail (Read file at len) first calls same written = ab
 written_same sizes old new tail (Readv file at lens) first calls same written = absurd written
 written_same sizes old new tail (Writev file at parts) first calls same written = absurd written
 written_same sizes old new tail (Sync file) first calls same written = absurd written
+written_same sizes old new tail (ReadHere fd file len) first calls same written = absurd written
+written_same sizes old new tail (WriteHere fd file append bytes) first calls same written = absurd written
+written_same sizes old new tail (Seek fd file seek) first calls same written = absurd written
 
 -- ---- one of them is stepped on
 
@@ -259,3 +265,6 @@ written_more sizes old new tail (Read file at len) first calls how row there is 
 written_more sizes old new tail (Readv file at lens) first calls how row there is here else_ written = absurd written
 written_more sizes old new tail (Writev file at parts) first calls how row there is here else_ written = absurd written
 written_more sizes old new tail (Sync file) first calls how row there is here else_ written = absurd written
+written_more sizes old new tail (ReadHere fd file len) first calls how row there is here else_ written = absurd written
+written_more sizes old new tail (WriteHere fd file append bytes) first calls how row there is here else_ written = absurd written
+written_more sizes old new tail (Seek fd file seek) first calls how row there is here else_ written = absurd written

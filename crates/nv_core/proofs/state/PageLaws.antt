@@ -5,7 +5,7 @@ use Rattle.std.proofs.lemmas.Nat.{le-div}
 use Rattle.std.proofs.Math.Nat.{div-zero, div-mul-le_self}
 use Rattle.nv_plain.specs.Pieces.{pages_touched}
 use Rattle.nv_plain.specs.declared.call.FileCall.{FileCall}
-use Rattle.nv_plain.specs.declared.call.FileCall.TheVariants.{Read, Write, Readv, Writev, Sync}
+use Rattle.nv_plain.specs.declared.call.FileCall.TheVariants.{Read, Write, Readv, Writev, Sync, ReadHere, WriteHere, Seek}
 use Rattle.nv_core.specs.state.Words.{Sizes}
 use Rattle.nv_core.specs.state.Passes.{is_write, page_count, end_read, end_page}
 use Rattle.nv_core.proofs.state.Choices.{if_both}
@@ -20,6 +20,9 @@ write_pages sizes (Read file at len) write = absurd (true≢false (sym write))
 write_pages sizes (Readv file at lens) write = absurd (true≢false (sym write))
 write_pages sizes (Writev file at parts) write = absurd (true≢false (sym write))
 write_pages sizes (Sync file) write = absurd (true≢false (sym write))
+write_pages sizes (ReadHere fd file len) write = absurd (true≢false (sym write))
+write_pages sizes (WriteHere fd file append bytes) write = absurd (true≢false (sym write))
+write_pages sizes (Seek fd file seek) write = absurd (true≢false (sym write))
 
 -- a quotient grows with what is divided
 pub div_more : (few many page : ℕ) → few ≤ many → few / page ≤ many / page
@@ -40,3 +43,6 @@ read_within sizes (Write file at bytes) len = omega arith
 read_within sizes (Readv file at lens) len = omega arith
 read_within sizes (Writev file at parts) len = omega arith
 read_within sizes (Sync file) len = omega arith
+read_within sizes (ReadHere fd file asked) len = omega arith
+read_within sizes (WriteHere fd file append bytes) len = omega arith
+read_within sizes (Seek fd file seek) len = omega arith

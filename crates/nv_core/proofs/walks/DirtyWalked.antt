@@ -18,9 +18,9 @@ piece_says = (refl, refl)
 pub dirty_read_is_walked : DirtyReadIsWalked
 unfolding group_steps pieces_steps piece_steps data_steps entry_field_steps line_stores durable_store
 dirty_read_is_walked = record {
-  writes = tabled walk_sizes write_core walk_second refl (record { known = omega arith; near = omega arith; short = omega arith; plain = refl; bytes = are_bytes }, tt);
+  writes = tabled walk_sizes write_core walk_second refl (record { known = omega arith; near = omega arith; short = omega arith; plain = refl; named = refl; bytes = are_bytes }, tt);
   is_run = tabled walk_sizes second_core walk_dirty refl (
-    record { known = omega arith; near = omega arith; short = omega arith; plain = refl; bytes = tt },
+    record { known = omega arith; near = omega arith; short = omega arith; plain = refl; named = refl; bytes = tt },
     (
       come walk_sizes 0 _ _ refl (λ none. none) record { due = record { bytes = replicate 64 97; cell = refl; job = refl; says = refl }; ends = tt; leaves = tt; here = refl },
       (

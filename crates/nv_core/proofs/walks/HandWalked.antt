@@ -34,7 +34,7 @@ clean_run = tabled walk_sizes placed_core hand_clean refl (
 
 pub next_run : IsRun walk_sizes cleaned_core hand_next
 unfolding group_steps pieces_steps piece_steps data_steps entry_field_steps line_stores durable_store
-next_run = tabled walk_sizes cleaned_core hand_next refl (record { known = omega arith; near = omega arith; short = omega arith; plain = refl; bytes = are_bytes }, tt)
+next_run = tabled walk_sizes cleaned_core hand_next refl (record { known = omega arith; near = omega arith; short = omega arith; plain = refl; named = refl; bytes = are_bytes }, tt)
 
 late_are_bytes : AreBytes (Write 0 3 late_bytes)
 late_are_bytes zero = omega arith
@@ -44,4 +44,4 @@ late_are_bytes (suc (suc (suc i))) = omega arith
 
 pub late_run : IsRun walk_sizes next_core hand_late
 unfolding group_steps pieces_steps piece_steps data_steps entry_field_steps line_stores durable_store
-late_run = tabled walk_sizes next_core hand_late refl (record { known = omega arith; near = omega arith; short = omega arith; plain = refl; bytes = late_are_bytes }, tt)
+late_run = tabled walk_sizes next_core hand_late refl (record { known = omega arith; near = omega arith; short = omega arith; plain = refl; named = refl; bytes = late_are_bytes }, tt)

@@ -26,23 +26,23 @@ not_taken (inr is) = is
 
 grows_walked : IsShort (opening (short_mount 0)) walk_grows (ORDER ∷ HEAD ∷ LENGTH 0 ∷ SIZE 0 ∷ ENTRY 0 ∷ ENTRY 1 ∷ ENTRY 2 ∷ DIRTY 3 ∷ DIRTY 4 ∷ DIRTY 5 ∷ PAGE 3 ∷ PAGE 6 ∷ []) (1 ∷ 3 ∷ 322 ∷ 0 ∷ 3098 ∷ 4098 ∷ 5122 ∷ 1 ∷ 1 ∷ 1 ∷ 0 ∷ 0 ∷ [])
 unfolding group_steps pieces_steps piece_steps data_steps entry_field_steps line_stores durable_store
-grows_walked = record { is_run = tabled short_sizes (opening (short_mount 0)) walk_grows refl (come short_sizes 0 _ _ refl (λ none. none) record { may = refl; is = refl }, (come short_sizes 0 _ _ refl (λ none. none) record { may = refl; is = refl }, (record { known = omega arith; near = omega arith; short = omega arith; plain = refl; bytes = bytes_of 70 7 (omega arith) }, (record { known = omega arith; near = omega arith; short = omega arith; plain = refl; bytes = bytes_of 1 1 (omega arith) }, tt)))); says = refl }
+grows_walked = record { is_run = tabled short_sizes (opening (short_mount 0)) walk_grows refl (come short_sizes 0 _ _ refl (λ none. none) record { may = refl; is = refl }, (come short_sizes 0 _ _ refl (λ none. none) record { may = refl; is = refl }, (record { known = omega arith; near = omega arith; short = omega arith; plain = refl; named = refl; bytes = bytes_of 70 7 (omega arith) }, (record { known = omega arith; near = omega arith; short = omega arith; plain = refl; named = refl; bytes = bytes_of 1 1 (omega arith) }, tt)))); says = refl }
 
 again_walked : IsShort grown_core walk_again (HEAD ∷ PAGE 0 ∷ PAGE 1 ∷ []) (3 ∷ 0 ∷ 0 ∷ [])
 unfolding group_steps pieces_steps piece_steps data_steps entry_field_steps line_stores durable_store
-again_walked = record { is_run = tabled short_sizes grown_core walk_again refl (record { known = omega arith; near = omega arith; short = omega arith; plain = refl; bytes = bytes_of 8 9 (omega arith) }, tt); says = refl }
+again_walked = record { is_run = tabled short_sizes grown_core walk_again refl (record { known = omega arith; near = omega arith; short = omega arith; plain = refl; named = refl; bytes = bytes_of 8 9 (omega arith) }, tt); says = refl }
 
 spent_walked : IsShort (opening (short_mount (2 ^ 60 - 1))) walk_spent (HEAD ∷ PAGE 0 ∷ PAGE 1 ∷ []) ((2 ^ 60 - 1) ∷ 0 ∷ 0 ∷ [])
 unfolding group_steps pieces_steps piece_steps data_steps entry_field_steps line_stores durable_store
-spent_walked = record { is_run = tabled short_sizes (opening (short_mount (2 ^ 60 - 1))) walk_spent refl (record { known = omega arith; near = omega arith; short = omega arith; plain = refl; bytes = bytes_of 8 9 (omega arith) }, tt); says = refl }
+spent_walked = record { is_run = tabled short_sizes (opening (short_mount (2 ^ 60 - 1))) walk_spent refl (record { known = omega arith; near = omega arith; short = omega arith; plain = refl; named = refl; bytes = bytes_of 8 9 (omega arith) }, tt); says = refl }
 
 raced_walked : IsShort grown_core walk_raced (STOP ∷ ORDER ∷ HEAD ∷ ENTRY 3 ∷ PAGE 0 ∷ PAGE 1 ∷ CLEANER ∷ []) (1 ∷ 1 ∷ 4 ∷ 5 ∷ 0 ∷ 0 ∷ 0 ∷ [])
 unfolding group_steps pieces_steps piece_steps data_steps entry_field_steps line_stores durable_store
-raced_walked = record { is_run = tabled short_sizes grown_core walk_raced refl (record { known = omega arith; near = omega arith; short = omega arith; plain = refl; bytes = bytes_of 1 1 (omega arith) }, (record { known = omega arith; near = omega arith; short = omega arith; plain = refl; bytes = bytes_of 1 1 (omega arith) }, (come short_sizes 0 _ _ refl (λ none. none) record { due = record { row = commit_call 3 64 (1 ∷ []) 0; there = omega arith; at = refl; cell = refl; spares = walk_spares 2; job = refl }; ends = record { never_falls = omega arith; more = omega arith }; leaves = fault_stays 2 (commit_call 3 64 (1 ∷ []) 0).step; here = refl }, (record { known = omega arith; near = omega arith; short = omega arith; plain = refl; bytes = tt }, (record { known = omega arith; near = omega arith; short = omega arith; plain = refl; bytes = tt }, tt))))); says = refl }
+raced_walked = record { is_run = tabled short_sizes grown_core walk_raced refl (record { known = omega arith; near = omega arith; short = omega arith; plain = refl; named = refl; bytes = bytes_of 1 1 (omega arith) }, (record { known = omega arith; near = omega arith; short = omega arith; plain = refl; named = refl; bytes = bytes_of 1 1 (omega arith) }, (come short_sizes 0 _ _ refl (λ none. none) record { due = record { row = commit_call 3 64 (1 ∷ []) 0; there = omega arith; at = refl; cell = refl; spares = walk_spares 2; job = refl }; ends = record { never_falls = omega arith; more = omega arith }; leaves = fault_stays 2 (commit_call 3 64 (1 ∷ []) 0).step; here = refl }, (record { known = omega arith; near = omega arith; short = omega arith; plain = refl; named = refl; bytes = tt }, (record { known = omega arith; near = omega arith; short = omega arith; plain = refl; named = refl; bytes = tt }, tt))))); says = refl }
 
 joins_walked : IsShort grown_core walk_joins (ORDER ∷ LENGTH 0 ∷ SIZE 0 ∷ PAGE 0 ∷ []) (4 ∷ 322 ∷ 0 ∷ 1 ∷ [])
 unfolding group_steps pieces_steps piece_steps data_steps entry_field_steps line_stores durable_store
-joins_walked = record { is_run = tabled short_sizes grown_core walk_joins refl (record { known = omega arith; near = omega arith; short = omega arith; plain = refl; bytes = tt }, (record { known = omega arith; near = omega arith; short = omega arith; plain = refl; bytes = tt }, (record { known = omega arith; near = omega arith; short = omega arith; plain = refl; bytes = tt }, (come short_sizes 0 _ _ refl (λ none. none) record { may = (refl, omega arith, omega arith, λ z. z, λ cell keeps. refl); is = refl }, (record { known = omega arith; near = omega arith; short = omega arith; plain = refl; bytes = tt }, (come short_sizes 2 _ _ refl (λ none. tt) record { may = omega arith; is = refl }, (come short_sizes 0 _ _ refl (λ none. none) record { may = (refl, omega arith, omega arith, not_taken, λ cell keeps. refl); is = refl }, tt))))))); says = refl }
+joins_walked = record { is_run = tabled short_sizes grown_core walk_joins refl (record { known = omega arith; near = omega arith; short = omega arith; plain = refl; named = refl; bytes = tt }, (record { known = omega arith; near = omega arith; short = omega arith; plain = refl; named = refl; bytes = tt }, (record { known = omega arith; near = omega arith; short = omega arith; plain = refl; named = refl; bytes = tt }, (come short_sizes 0 _ _ refl (λ none. none) record { may = (refl, omega arith, omega arith, λ z. z, λ cell keeps. refl); is = refl }, (record { known = omega arith; near = omega arith; short = omega arith; plain = refl; named = refl; bytes = tt }, (come short_sizes 2 _ _ refl (λ none. tt) record { may = omega arith; is = refl }, (come short_sizes 0 _ _ refl (λ none. none) record { may = (refl, omega arith, omega arith, not_taken, λ cell keeps. refl); is = refl }, tt))))))); says = refl }
 
 retires_walked : IsShort grown_core (cleaned_events ++ retires) of_cleaner (0 ∷ 0 ∷ 0 ∷ 0 ∷ 3 ∷ 0 ∷ 0 ∷ 0 ∷ 0 ∷ 0 ∷ 0 ∷ [])
 unfolding group_steps pieces_steps piece_steps data_steps entry_field_steps line_stores durable_store
@@ -50,7 +50,7 @@ retires_walked = record { is_run = tabled short_sizes grown_core (cleaned_events
 
 refuses_walked : IsShort grown_core walk_refuses of_cleaner (0 ∷ 3098 ∷ 4098 ∷ 5122 ∷ 0 ∷ 0 ∷ 0 ∷ 0 ∷ 0 ∷ 0 ∷ 0 ∷ [])
 unfolding group_steps pieces_steps piece_steps data_steps entry_field_steps line_stores durable_store
-refuses_walked = record { is_run = tabled short_sizes grown_core walk_refuses refl (record { known = omega arith; near = omega arith; short = omega arith; plain = refl; bytes = tt }, (come short_sizes 1 _ _ refl (λ none. none) record { due = record { at = 252; bytes = replicate 4 7; cell = refl; job = refl; says = omega arith }; ends = tt; leaves = tt; here = refl }, (come short_sizes 1 _ _ refl (λ none. none) record { due = record { at = 252; bytes = replicate 4 7; left = None; cell = refl; job = refl; says = omega arith }; ends = tt; leaves = refl; here = refl }, tt))); says = refl }
+refuses_walked = record { is_run = tabled short_sizes grown_core walk_refuses refl (record { known = omega arith; near = omega arith; short = omega arith; plain = refl; named = refl; bytes = tt }, (come short_sizes 1 _ _ refl (λ none. none) record { due = record { at = 252; bytes = replicate 4 7; cell = refl; job = refl; says = omega arith }; ends = tt; leaves = tt; here = refl }, (come short_sizes 1 _ _ refl (λ none. none) record { due = record { at = 252; bytes = replicate 4 7; left = None; cell = refl; job = refl; says = omega arith }; ends = tt; leaves = refl; here = refl }, tt))); says = refl }
 
 read_piece_fails_walked : IsShort grown_core walk_read_piece_fails of_cleaner (1 ∷ 3098 ∷ 4098 ∷ 5122 ∷ 0 ∷ 0 ∷ 0 ∷ 0 ∷ 0 ∷ 0 ∷ 0 ∷ [])
 unfolding group_steps pieces_steps piece_steps data_steps entry_field_steps line_stores durable_store
@@ -70,15 +70,15 @@ move_fails_walked = record { is_run = tabled short_sizes grown_core walk_move_fa
 
 stores_held_walked : IsShort grown_core walk_stores_held of_cleaner (0 ∷ 3098 ∷ 4098 ∷ 5122 ∷ 0 ∷ 0 ∷ 0 ∷ 0 ∷ 0 ∷ 0 ∷ 0 ∷ [])
 unfolding group_steps pieces_steps piece_steps data_steps entry_field_steps line_stores durable_store
-stores_held_walked = record { is_run = tabled short_sizes grown_core walk_stores_held refl (record { known = omega arith; near = omega arith; short = omega arith; plain = refl; bytes = tt }, (record { known = omega arith; near = omega arith; short = omega arith; plain = refl; bytes = tt }, (come short_sizes 0 _ _ refl (λ none. none) record { due = record { bytes = replicate 64 97; cell = refl; job = refl; says = refl }; ends = tt; leaves = tt; here = refl }, (record { known = omega arith; near = omega arith; short = omega arith; plain = refl; bytes = tt }, tt)))); says = refl }
+stores_held_walked = record { is_run = tabled short_sizes grown_core walk_stores_held refl (record { known = omega arith; near = omega arith; short = omega arith; plain = refl; named = refl; bytes = tt }, (record { known = omega arith; near = omega arith; short = omega arith; plain = refl; named = refl; bytes = tt }, (come short_sizes 0 _ _ refl (λ none. none) record { due = record { bytes = replicate 64 97; cell = refl; job = refl; says = refl }; ends = tt; leaves = tt; here = refl }, (record { known = omega arith; near = omega arith; short = omega arith; plain = refl; named = refl; bytes = tt }, tt)))); says = refl }
 
 read_fails_walked : IsShort grown_core walk_read_fails of_cleaner (1 ∷ 3098 ∷ 4098 ∷ 5122 ∷ 0 ∷ 0 ∷ 0 ∷ 0 ∷ 0 ∷ 0 ∷ 0 ∷ [])
 unfolding group_steps pieces_steps piece_steps data_steps entry_field_steps line_stores durable_store
-read_fails_walked = record { is_run = tabled short_sizes grown_core walk_read_fails refl (record { known = omega arith; near = omega arith; short = omega arith; plain = refl; bytes = tt }, (come short_sizes 0 _ _ refl (λ none. none) record { due = record { bytes = replicate 64 97; cell = refl; job = refl; says = refl }; ends = record { never_falls = omega arith; more = omega arith }; leaves = tt; here = refl }, tt)); says = refl }
+read_fails_walked = record { is_run = tabled short_sizes grown_core walk_read_fails refl (record { known = omega arith; near = omega arith; short = omega arith; plain = refl; named = refl; bytes = tt }, (come short_sizes 0 _ _ refl (λ none. none) record { due = record { bytes = replicate 64 97; cell = refl; job = refl; says = refl }; ends = record { never_falls = omega arith; more = omega arith }; leaves = tt; here = refl }, tt)); says = refl }
 
 piece_fails_walked : IsShort grown_core walk_piece_fails of_cleaner (1 ∷ 3098 ∷ 4098 ∷ 5122 ∷ 0 ∷ 0 ∷ 0 ∷ 0 ∷ 0 ∷ 0 ∷ 0 ∷ [])
 unfolding group_steps pieces_steps piece_steps data_steps entry_field_steps line_stores durable_store
-piece_fails_walked = record { is_run = tabled short_sizes grown_core walk_piece_fails refl (record { known = omega arith; near = omega arith; short = omega arith; plain = refl; bytes = tt }, (come short_sizes 0 _ _ refl (λ none. none) record { due = record { bytes = replicate 64 97; cell = refl; job = refl; says = refl }; ends = tt; leaves = tt; here = refl }, (come short_sizes 0 _ _ refl (λ none. none) record { due = record { at = 252; bytes = replicate 4 7; cell = refl; job = refl; says = omega arith }; ends = record { never_falls = omega arith; more = omega arith }; leaves = tt; here = refl }, tt))); says = refl }
+piece_fails_walked = record { is_run = tabled short_sizes grown_core walk_piece_fails refl (record { known = omega arith; near = omega arith; short = omega arith; plain = refl; named = refl; bytes = tt }, (come short_sizes 0 _ _ refl (λ none. none) record { due = record { bytes = replicate 64 97; cell = refl; job = refl; says = refl }; ends = tt; leaves = tt; here = refl }, (come short_sizes 0 _ _ refl (λ none. none) record { due = record { at = 252; bytes = replicate 4 7; cell = refl; job = refl; says = omega arith }; ends = record { never_falls = omega arith; more = omega arith }; leaves = tt; here = refl }, tt))); says = refl }
 
 both_joined : (after_run short_sizes grown_core walk_joins).ended ≡ 2 ∷ 1 ∷ []
 unfolding group_steps pieces_steps piece_steps data_steps entry_field_steps line_stores durable_store

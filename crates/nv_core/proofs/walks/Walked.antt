@@ -13,10 +13,10 @@ use Rattle.nv_core.proofs.steps.Tabled.{come, tabled}
 
 -- the calls of the walks may be begun
 abbrev pub read_allowed : IsAllowed walk_sizes (Read 0 0 16)
-read_allowed = record { known = omega arith; near = omega arith; short = omega arith; plain = refl; bytes = tt }
+read_allowed = record { known = omega arith; near = omega arith; short = omega arith; plain = refl; named = refl; bytes = tt }
 
 abbrev pub write_allowed : IsAllowed walk_sizes (Write 0 0 walk_bytes)
-write_allowed = record { known = omega arith; near = omega arith; short = omega arith; plain = refl; bytes = are_bytes }
+write_allowed = record { known = omega arith; near = omega arith; short = omega arith; plain = refl; named = refl; bytes = are_bytes }
 
 pub read_is_walked : ReadIsWalked
 read_is_walked = record {
@@ -65,7 +65,7 @@ search_is_walked = record {
     header = record { there = omega arith; spare = λ line below. (takes_15 mount_layout.header_lines line below).0 };
   };
   is_run = tabled walk_sizes (opening long_mount) walk_search refl (
-    record { known = omega arith; near = omega arith; short = omega arith; plain = refl; bytes = tt },
+    record { known = omega arith; near = omega arith; short = omega arith; plain = refl; named = refl; bytes = tt },
     (come walk_sizes 0 _ _ refl (λ none. none) record { due = record { bytes = replicate 64 97; cell = refl; job = refl; says = refl }; ends = tt; leaves = tt; here = refl }, tt),
   );
   words = refl;
@@ -77,7 +77,7 @@ pub tries_are_walked : TriesAreWalked
 tries_are_walked = record {
   is_run = tabled walk_sizes searched_core walk_tries refl (
     come walk_sizes 0 _ _ refl (λ none. none) record { may = refl; is = refl },
-    (record { known = omega arith; near = omega arith; short = omega arith; plain = refl; bytes = tt }, (record { known = omega arith; near = omega arith; short = omega arith; plain = refl; bytes = tt }, tt)),
+    (record { known = omega arith; near = omega arith; short = omega arith; plain = refl; named = refl; bytes = tt }, (record { known = omega arith; near = omega arith; short = omega arith; plain = refl; named = refl; bytes = tt }, tt)),
   );
   words = refl;
   taken = refl;

@@ -1,13 +1,13 @@
 -- Passes: a thread's view, its call at hand, and where in the order of steps it stands.
-use Rattle.std.specs.Prelude.{◌≡◌, ◌⊎◌, ℕ, ◌+◌, ◌-◌, ◌*◌, ◌/◌, ◌<◌, ◌≤◌, ◌==◌, nat_lt, min, Bool, false, if◌then◌else◌, List, [], ◌∷◌, length, slice_index}
+use Rattle.std.specs.Prelude.{◌≡◌, ◌⊎◌, ℕ, ◌+◌, ◌-◌, ◌*◌, ◌/◌, ◌<◌, ◌≤◌, ◌==◌, nat_lt, min, Bool, true, false, if◌then◌else◌, List, [], ◌∷◌, length, slice_index}
 use Rattle.std.specs.List.{range_with_len}
-use Rattle.nv_plain.specs.Files.{empty_files}
+pub use Rattle.nv_plain.specs.Calls.{file_of}
 use Rattle.nv_plain.specs.Histories.{Answered}
 use Rattle.nv_plain.specs.Layouts.{mount_layout}
-use Rattle.nv_plain.specs.Made.{as_made}
+use Rattle.nv_plain.specs.Made.{made_at}
 use Rattle.nv_plain.specs.Pieces.{pages_touched}
 use Rattle.nv_plain.specs.declared.call.FileCall.{FileCall}
-use Rattle.nv_plain.specs.declared.call.FileCall.TheVariants.{Read, Write, Readv, Writev, Sync}
+use Rattle.nv_plain.specs.declared.call.FileCall.TheVariants.{Read, Write, ReadHere, WriteHere, Seek}
 use Rattle.nv_core.specs.state.Words.{Sizes, Word, same}
 use Rattle.nv_core.specs.state.Cleaner.{Batch, CleanerControl, WriteBack, CleanEntry, RefusedReturnEntry, FailedReturnEntry, SetStop}
 use Rattle.nv_core.specs.state.Cleaner as cleaner
@@ -118,19 +118,22 @@ abbrev pub fetched_bytes : List (ℕ × List ℕ) → (page : ℕ) → List ℕ
 fetched_bytes [] page = []
 fetched_bytes (one ∷ rest) page = if one.0 == page then one.1 else fetched_bytes rest page
 
--- The plain call that a call is made as, which is known when it begins: whatever the files are, it is the same.
+-- whether a call names its bytes itself, and goes by no position
+abbrev pub is_named : FileCall → Bool
+is_named (ReadHere fd file len) = false
+is_named (WriteHere fd file append bytes) = false
+is_named (Seek fd file seek) = false
+is_named call = true
+
+-- The plain call that a call is made as, where it names its bytes: it is known when the call begins, since it is the same whatever the
+-- positions are, and the lengths. A call that goes by a position stays as it is, and no pass begins it so far.
 abbrev pub plain_call : FileCall → FileCall
-plain_call call = as_made (empty_files 0) call
+plain_call (ReadHere fd file len) = ReadHere fd file len
+plain_call (WriteHere fd file append bytes) = WriteHere fd file append bytes
+plain_call (Seek fd file seek) = Seek fd file seek
+plain_call call = made_at call 0 0
 
 -- ---- a call's place among the pages: that of a plain one, since a pass makes no others
-
--- the call's file
-abbrev pub file_of : FileCall → ℕ
-file_of (Read file at len) = file
-file_of (Write file at bytes) = file
-file_of (Readv file at lens) = file
-file_of (Writev file at parts) = file
-file_of (Sync file) = file
 
 -- its offset
 abbrev pub at_of : FileCall → ℕ
@@ -193,10 +196,11 @@ abbrev pub AreBytes : FileCall → Type 0
 AreBytes (Write file at bytes) = (i : ℕ) → slice_index bytes i < 256
 AreBytes call = Unit {0}
 
--- A call that is not refused before its first step: it is a plain one, its file is there, it lies in the file's pages, the log could
--- hold it, and what it writes are bytes.
+-- A call that is not refused before its first step: it is a plain one, which names its bytes, its file is there, it lies in the file's pages, the
+-- log could hold it, and what it writes are bytes.
 pub record IsAllowed (sizes : Sizes) (call : FileCall) : Type 0 where
   pub plain : plain_call call ≡ call
+  pub named : is_named call ≡ true
   pub known : file_of call < sizes.files
   pub near : at_of call + len_of call ≤ sizes.page * sizes.pages
   pub short : page_count sizes call ≤ min mount_layout.group_limit sizes.entries

@@ -12,5 +12,4 @@ returns c = record {
   made = c.calls_are_made_right.ensures.calls;
   made_histories = c.calls_are_made_right.ensures.histories;
   made_on = c.calls_are_made_right.ensures.goes_on;
-  alike = c.calls_are_made_right.ensures.alike;
 }

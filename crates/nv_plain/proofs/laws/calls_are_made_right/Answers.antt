@@ -7,6 +7,11 @@ returns c = record {
   calls = made_right;
   histories = history_made_right;
   goes_on = each_made-push;
-  plain = record { read = λ files file at len. refl; write = λ files file at bytes. refl; sync = λ files file. refl };
+  plain = record {
+    read = λ state file at len. refl;
+    write = λ state file at bytes. refl;
+    sync = λ state file. refl;
+    seek = λ state fd file to. refl;
+  };
   alike = made_alike;
 }
