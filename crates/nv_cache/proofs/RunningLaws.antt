@@ -3,7 +3,7 @@ use Rattle.std.proofs.Common.{◌≡◌, ℕ, nat_lt, List, [], length, refl, sy
 use Rattle.std.specs.Prelude.{Some, None, Result, Ok, Err}
 use Rattle.nv_plain.specs.Made.{reply_from}
 use Rattle.nv_plain.specs.declared.call.FileCall.{FileCall}
-use Rattle.nv_plain.specs.declared.call.FileCall.TheVariants.{Read, Write, Readv, Writev, Sync}
+use Rattle.nv_plain.specs.declared.call.FileCall.TheVariants.{Read, Write, Readv, Writev, Sync, ReadHere, WriteHere, Seek}
 use Rattle.nv_plain.specs.declared.call.Reply.{Reply}
 use Rattle.nv_plain.specs.declared.call.Reply.TheVariants.{Bytes}
 use Rattle.nv_core.specs.invariant.ControlFacts.{IsPage}
@@ -184,6 +184,9 @@ no_bytes (Readv file at lens) file' at' len' reply makes none replies = replies 
 no_bytes (Write file at bytes) file' at' len' reply makes none replies = absurd cc
 no_bytes (Writev file at parts) file' at' len' reply makes none replies = absurd cc
 no_bytes (Sync file) file' at' len' reply makes none replies = absurd cc
+no_bytes (ReadHere fd file asked) file' at' len' reply makes none replies = absurd cc
+no_bytes (WriteHere fd file append bytes) file' at' len' reply makes none replies = absurd cc
+no_bytes (Seek fd file seek) file' at' len' reply makes none replies = absurd cc
 
 no_reply : (asked call : FileCall) (list : List ℕ) (start now : PassState) (place : ℕ) → plain_call asked ≡ call → call ≡ Read (file_of call) (at_of call) (length list) → len_of call ≡ 0 → Told asked (Some place) start now
     → IsListPlaced asked list start.view now.view record { place = place; len = 0 }

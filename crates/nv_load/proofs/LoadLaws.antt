@@ -11,7 +11,7 @@ use Rattle.std.proofs.lemmas.List.Sorted.{IsPermutation-sym, length_permutation,
 use Rattle.std.proofs.lemmas.Nat.{mod_below}
 use Rattle.std.proofs.Math.Nat.{div-add-mod, div-lt_iff_lt-mul, mul-le-mul}
 use Rattle.nv_core.specs.state.Passes.{IsOneOf}
-use Rattle.nv_plain.specs.Calls.{files_after, reply_of}
+use Rattle.nv_plain.specs.Calls.{files_after, reply_on}
 use Rattle.nv_plain.specs.Faults.{saturated}
 use Rattle.nv_plain.specs.Files.{Files}
 use Rattle.nv_plain.specs.Histories.{IsLegal, after}
@@ -27,6 +27,8 @@ use Rattle.nv_runner.specs.Entries.{entries_of_calls, entries_taken}
 use Rattle.nv_runner.specs.Faithful.{Basis, IsAllowedRefusal, IsFaithful, IsLeftOpen, RetiresNothing, WasRefused, after_open, barred, descriptors_in, drawing_calls, file_call, files_shown, history_of, listed_calls, named, is_later, open_calls_of}
 use Rattle.nv_runner.specs.Histories.{ComesBefore, KeepOrder, PlacedCall}
 use Rattle.nv_runner.specs.Reports.{OpenCall, Report, ShownRefusal}
+use Rattle.nv_plain.proofs.StartLemmas.{after-cons, IsLegal-cons}
+use Rattle.nv_runner.proofs.NamedCalls.{named_call}
 use Rattle.nv_runner.proofs.histories.HistoryMembers.{contained, of_each, of_one, one_either, one_left, one_mapped, one_moved, one_right}
 use Rattle.nv_load.specs.declared.load.Load.{Load}
 use Rattle.nv_load.specs.declared.summary.Summary.{Summary}
@@ -144,7 +146,8 @@ after_history : (load : Load) (history : List PlacedCall) (bytes : List ℕ) →
     → after (history_of (opened load) history) (one_file bytes) ≡ one_file (after_calls (calls_in history) bytes)
 after_history load [] bytes shaped = refl
 after_history load (p ∷ history) bytes shaped =
-    ap (λ (files : Files). after (history_of (opened load) history) files) (file_then load p.call bytes (shaped p.call (inl refl)))
+    after-cons (record { caller = p.call.thread; call = file_call (opened load) p.call.call; reply = p.reply }) (history_of (opened load) history) (one_file bytes) (named_call (opened load) p.call.call)
+    ∙ ap (λ (files : Files). after (history_of (opened load) history) files) (file_then load p.call bytes (shaped p.call (inl refl)))
     ∙ after_history load history (after_call p.call.call bytes) (λ call there. shaped call (inr there))
 
 -- the file is whole, or will be before the second round
@@ -154,13 +157,13 @@ IsWholeSoon threads calls bytes = (6144 ≤ length bytes) ⊎ ((one : TracedCall
 whole_read : (bytes : List ℕ) (at len : ℕ) → at + len ≤ 6144 → 6144 ≤ length bytes → length (take len (drop at bytes)) ≡ len
 whole_read bytes at len within whole = let taken = length-take len (drop at bytes) in let left = length-drop at bytes in omega (arith, taken, left, within, whole)
 
-asked_is_read : (load : Load) (p : PlacedCall) (bytes : List ℕ) → HasShape load.threads p.call → p.reply ≡ reply_of (file_call (opened load) p.call.call) (one_file bytes)
+asked_is_read : (load : Load) (p : PlacedCall) (bytes : List ℕ) → HasShape load.threads p.call → p.reply ≡ reply_on (file_call (opened load) p.call.call) (one_file bytes)
     → (IsReadIn p.call → 6144 ≤ length bytes) → bytes_read p.reply ≡ bytes_asked p.call.call
 asked_is_read load p bytes (inl read) reply whole =
-    ap (λ (r : Reply). bytes_read r) (reply ∙ ap (λ (c : TraceCall). reply_of (file_call (opened load) c) (one_file bytes)) read.is)
+    ap (λ (r : Reply). bytes_read r) (reply ∙ ap (λ (c : TraceCall). reply_on (file_call (opened load) c) (one_file bytes)) read.is)
     ∙ whole_read bytes read.at read.len read.within (whole read) ∙ sym (ap (λ (c : TraceCall). bytes_asked c) read.is)
 asked_is_read load p bytes (inr fills) reply whole =
-    ap (λ (r : Reply). bytes_read r) (reply ∙ ap (λ (c : TraceCall). reply_of (file_call (opened load) c) (one_file bytes)) fills.fills.is)
+    ap (λ (r : Reply). bytes_read r) (reply ∙ ap (λ (c : TraceCall). reply_on (file_call (opened load) c) (one_file bytes)) fills.fills.is)
     ∙ sym (ap (λ (c : TraceCall). bytes_asked c) fills.fills.is)
 
 -- where a read comes the file is whole
@@ -185,8 +188,9 @@ all_read : (load : Load) (history : List PlacedCall) (bytes : List ℕ) → ((ca
 all_read load [] bytes shaped keeps soon legal = refl
 all_read load (p ∷ history) bytes shaped keeps soon legal =
     let shape = shaped p.call (inl refl) in
-    let legal_then = subst (IsLegal (history_of (opened load) history)) (file_then load p.call bytes shape) legal.1 in
-    let one = asked_is_read load p bytes shape legal.0 (whole_now load.threads p.call (calls_in history) bytes keeps.0 soon) in
+    let both = (IsLegal-cons (record { caller = p.call.thread; call = file_call (opened load) p.call.call; reply = p.reply }) (history_of (opened load) history) (one_file bytes) (named_call (opened load) p.call.call)).0 legal in
+    let legal_then = subst (IsLegal (history_of (opened load) history)) (file_then load p.call bytes shape) both.1 in
+    let one = asked_is_read load p bytes shape both.0 (whole_now load.threads p.call (calls_in history) bytes keeps.0 soon) in
     let rest = all_read load history (after_call p.call.call bytes) (λ call there. shaped call (inr there)) keeps.1 (whole_then load.threads p.call (calls_in history) bytes shape soon) legal_then in
     let read = sum_by-cons (λ (p : PlacedCall). bytes_read p.reply) p history in
     let asked = sum_by-cons (λ (p : PlacedCall). bytes_asked p.call.call) p history in

@@ -42,8 +42,8 @@ pub fn dry_files<L: Lines, B: Backing>(
     requires parts { HasParts (layout_of head.now.version) head.now.geometry.page head.now.geometry.entries (map L.room parts.old) }
     requires stores { length stores.old ≡ length head.now.names }
     ensures files { (was : List Store) → AreNow (map B.history stores.old) was
-        → IfOk result (λ files. RowTells (map L.history parts.old) (λ told. files ≡ (recovered (row_words told) (files_of was)).files)) }
-    ensures count { IfOk result (λ files. length files.contents ≡ length head.now.names) }
+        → IfOk result (λ files. RowTells (map L.history parts.old) (λ told. files.files ≡ (recovered (row_words told) (files_of was)).files)) }
+    ensures count { IfOk result (λ files. length files.files.contents ≡ length head.now.names) }
     ensures fits { OnOk result (RowTells (map L.history parts.old) (λ told. Fits (layout_in (row_words told)) (row_words told))) }
     ensures bad { (number : ℕ) → result ≡ Err (error.BadEntry number)
         → RowTells (map L.history parts.old) (λ told. IsLeastBad (layout_in (row_words told)) (row_words told) number) }
@@ -70,8 +70,8 @@ fn files_after<L: Lines>(
     requires copies { length copies.old ≡ bounds.now.files }
     requires synced { RowTells (map store_history copies.old) AreQuietStores }
     ensures files { (was : List Store) → AreNow (map store_history copies.old) was
-        → IfOk result (λ files. RowTells (map L.history parts.old) (λ told. files ≡ (recovered (row_words told) (files_of was)).files)) }
-    ensures count { IfOk result (λ files. length files.contents ≡ length copies.old) }
+        → IfOk result (λ files. RowTells (map L.history parts.old) (λ told. files.files ≡ (recovered (row_words told) (files_of was)).files)) }
+    ensures count { IfOk result (λ files. length files.files.contents ≡ length copies.old) }
     ensures fits { OnOk result (RowTells (map L.history parts.old) (λ told. Fits (layout_in (row_words told)) (row_words told))) }
     ensures bad { (number : ℕ) → result ≡ Err (error.BadEntry number)
         → RowTells (map L.history parts.old) (λ told. IsLeastBad (layout_in (row_words told)) (row_words told) number) }

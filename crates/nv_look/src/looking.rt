@@ -88,8 +88,8 @@ fn list_region<L: Lines>(alloc: Global, head: &Head, parts: &mut [L]) -> Result<
 
 // The bytes of each of so many files.
 fn contents(alloc: Global, files: &PlainFiles, count: u64) -> Result<Vec<Bytes>, NoMemory>
-    requires { count ≡ length files.now.contents }
-    ensures { IfOk result (λ contents. contents.items ≡ files.now.contents) }
+    requires { count ≡ length files.now.files.contents }
+    ensures { IfOk result (λ contents. contents.items ≡ files.now.files.contents) }
 {
     let mut contents = Vec::new(alloc);
     for file in 0..count {

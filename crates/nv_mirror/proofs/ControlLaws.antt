@@ -4,7 +4,7 @@ use Rattle.std.specs.Prelude.{Option, Some, None}
 use Rattle.nv_plain.specs.Histories.{Answered}
 use Rattle.nv_plain.specs.Made.{reply_from}
 use Rattle.nv_plain.specs.declared.call.FileCall.{FileCall}
-use Rattle.nv_plain.specs.declared.call.FileCall.TheVariants.{Read, Write, Readv, Writev, Sync}
+use Rattle.nv_plain.specs.declared.call.FileCall.TheVariants.{Read, Write, Readv, Writev, Sync, ReadHere, WriteHere, Seek}
 use Rattle.nv_plain.specs.declared.call.Reply.{Reply}
 use Rattle.nv_core.specs.state.Core.{values_stepped}
 use Rattle.nv_core.specs.steps.Ops.{Op, Place}
@@ -151,6 +151,9 @@ reply_to (Write file at bytes) reply is = is
 reply_to (Readv file at lens) reply is = λ none. ap (reply_from (Readv file at lens)) is
 reply_to (Writev file at parts) reply is = is
 reply_to (Sync file) reply is = is
+reply_to (ReadHere fd file len) reply is = is
+reply_to (WriteHere fd file append bytes) reply is = is
+reply_to (Seek fd file seek) reply is = is
 
 -- and one that takes it
 pub told_placed : (asked call : FileCall) (start now new : PassState) (found : ℕ) → PlaceLaws now.view.opened → IsUnplaced start.view now.view → IsLater start now → now.view.opened ≡ start.view.opened

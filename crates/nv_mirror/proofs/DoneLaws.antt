@@ -2,9 +2,10 @@
 use Rattle.std.proofs.Common.{◌≡◌, ℕ, false, List, [], ◌∷◌, ◌++◌, length, length-append, sym, ap, subst, ◌∙◌, arith}
 use Rattle.std.specs.Prelude.{None}
 use Rattle.nv_plain.specs.Files.{Files}
+use Rattle.nv_plain.specs.Positions.{at_start}
 use Rattle.nv_plain.specs.Calls.{reply_of}
 use Rattle.nv_plain.specs.Made.{reply_from}
-use Rattle.nv_plain.specs.Histories.{Answered, after as files_then, IsLegal, GoesOnLegally}
+use Rattle.nv_plain.specs.Histories.{Answered, state_then, IsLegal, GoesOnLegally}
 use Rattle.nv_plain.specs.declared.call.FileCall.{FileCall}
 use Rattle.nv_plain.specs.declared.call.FileCall.TheVariants.{Sync}
 use Rattle.nv_plain.specs.declared.call.Reply.{Reply}
@@ -83,13 +84,13 @@ module _ (old loaded new : PassState) (call : FileCall) (reply : Reply) (place :
 
   -- its reply is that of plain files
   replied : RunsKeepContent → GoesOnLegally → IsMount (mount_of loaded.view.opened) → (files : Files) (tail : ℕ) → OpensLog (mount_of loaded.view.opened) tail → Opens (mount_of loaded.view.opened) files
-      → answers ≡ reply_of call (files_then before files)
+      → answers ≡ reply_of call (state_then before (at_start files))
   replied content legally mount files tail log opens =
       let nothing : Log = record { group = λ number. record { call = Sync 0; first = 0; entries = 0 }; calls = λ number. 0 } in
       let legal = (content (mount_of loaded.view.opened) files tail nothing (λ number. false) (is.steps.run ++ events loaded.view.number is.works (TakesStep (Place reply) place)) mount log opens is.steps.is_run).legal.legal in
-      ((legally before (answered_by old.view call answers) files).0 (subst (λ h. IsLegal h files) whole_is legal)).1
+      ((legally before (answered_by old.view call answers) (at_start files)).0 (subst (λ h. IsLegal h files) whole_is legal)).1
 
-  pub done_so : ((files : Files) (tail : ℕ) → OpensLog (mount_of old.view.opened) tail → Opens (mount_of old.view.opened) files → answers ≡ reply_of call (files_then before files))
+  pub done_so : ((files : Files) (tail : ℕ) → OpensLog (mount_of old.view.opened) tail → Opens (mount_of old.view.opened) files → answers ≡ reply_of call (state_then before (at_start files)))
       → IsPlacedAs old.view new.view call answers place
   done_so plain = record {
     before = before;
@@ -106,4 +107,4 @@ module _ (old loaded new : PassState) (call : FileCall) (reply : Reply) (place :
   pub done_plainly : RunsKeepContent → GoesOnLegally → IsMount (mount_of loaded.view.opened) → loaded.view.opened ≡ old.view.opened → IsPlacedAs old.view new.view call answers place
   done_plainly content legally mount same =
       done_so
-      (subst (λ (o : Opened). (files : Files) (tail : ℕ) → OpensLog (mount_of o) tail → Opens (mount_of o) files → answers ≡ reply_of call (files_then before files)) same (replied content legally mount))
+      (subst (λ (o : Opened). (files : Files) (tail : ℕ) → OpensLog (mount_of o) tail → Opens (mount_of o) files → answers ≡ reply_of call (state_then before (at_start files))) same (replied content legally mount))

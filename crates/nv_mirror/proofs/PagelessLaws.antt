@@ -2,7 +2,7 @@
 use Rattle.std.proofs.Common.{◌≡◌, ℕ, zero, suc, ◌+◌, ◌==◌, ◌^◌, nat_lt, Bool, true, false, if◌then◌else◌, [], ◌∷◌, refl, sym, ap, subst, ◌∙◌, arith}
 use Rattle.std.specs.Prelude.{Option, Some, None, Err, ◌&&◌}
 use Rattle.nv_plain.specs.declared.call.FileCall.{FileCall}
-use Rattle.nv_plain.specs.declared.call.FileCall.TheVariants.{Read, Write, Readv, Writev, Sync}
+use Rattle.nv_plain.specs.declared.call.FileCall.TheVariants.{Read, Write, Readv, Writev, Sync, ReadHere, WriteHere, Seek}
 use Rattle.nv_core.specs.steps.ControlSteps.{first_control, ordered, giving}
 use Rattle.nv_core.specs.steps.Ops.{Place}
 use Rattle.nv_core.specs.steps.Order.{plain_reply}
@@ -41,6 +41,9 @@ no_page sizes (Write file at (byte ∷ bytes)) none = absurd (omega (arith, none
 no_page sizes (Readv file at lens) none = record { first = refl; next = refl; last = refl; grows = refl }
 no_page sizes (Writev file at parts) none = record { first = refl; next = refl; last = refl; grows = refl }
 no_page sizes (Sync file) none = record { first = refl; next = refl; last = refl; grows = refl }
+no_page sizes (ReadHere fd file len) none = record { first = refl; next = refl; last = refl; grows = refl }
+no_page sizes (WriteHere fd file append bytes) none = record { first = refl; next = refl; last = refl; grows = refl }
+no_page sizes (Seek fd file seek) none = record { first = refl; next = refl; last = refl; grows = refl }
 
 pub pageless_begins : (asked : Asked) (start : PassState) → len_of (call_asked asked) ≡ 0 → IsIdle start → IsInCall asked controls.Begin start start
 pageless_begins asked start none idle =

@@ -5,7 +5,7 @@ use Rattle.std.proofs.lemmas.Bool.{lt-ltb, true≢false}
 use Rattle.nv_plain.specs.Made.{reply_from}
 use Rattle.nv_plain.specs.declared.call.FileCall.{FileCall}
 use Rattle.nv_plain.specs.declared.call.Reply.{Reply}
-use Rattle.nv_plain.specs.declared.call.FileCall.TheVariants.{Read, Write, Readv, Writev, Sync}
+use Rattle.nv_plain.specs.declared.call.FileCall.TheVariants.{Read, Write, Readv, Writev, Sync, ReadHere, WriteHere, Seek}
 use Rattle.nv_plain.specs.declared.call.Reply.TheVariants.{Bytes}
 use Rattle.nv_core.specs.state.Passes.{Pass, Idle, VisitPage, GiveSize, GivePage, first_page, end_read, is_read, page_count, plain_call}
 use Rattle.nv_core.specs.state.Words.{Sizes}
@@ -42,6 +42,9 @@ reply_some (Readv file at lens) file' at' len' reply makes some = λ none. absur
 reply_some (Write file at bytes) file' at' len' reply makes some = absurd cc
 reply_some (Writev file at parts) file' at' len' reply makes some = absurd cc
 reply_some (Sync file) file' at' len' reply makes some = absurd cc
+reply_some (ReadHere fd file asked) file' at' len' reply makes some = absurd cc
+reply_some (WriteHere fd file append bytes) file' at' len' reply makes some = absurd cc
+reply_some (Seek fd file seek) file' at' len' reply makes some = absurd cc
 
 module _ (m : VisitMachine) (list : List ℕ) (start now : PassState) (way : IsInCall m visits.TakePlace list start now) where
   abbrev sizes : Sizes

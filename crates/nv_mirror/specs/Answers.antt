@@ -1,9 +1,10 @@
 -- Answers: what a call tells that has its place in the history, and one that was refused.
 use Rattle.std.specs.Prelude.{◌≡◌, ℕ, List, [], ◌∷◌, ◌++◌, length, Option, Some, None, Result, Ok, Err}
 use Rattle.nv_plain.specs.Files.{Files}
+use Rattle.nv_plain.specs.Positions.{State, at_start}
 use Rattle.nv_plain.specs.Calls.{reply_of}
 use Rattle.nv_plain.specs.Made.{reply_from}
-use Rattle.nv_plain.specs.Histories.{Answered, after}
+use Rattle.nv_plain.specs.Histories.{Answered, state_then}
 use Rattle.nv_plain.specs.declared.call.FileCall.{FileCall}
 use Rattle.nv_plain.specs.declared.call.FileCall.TheVariants.{Read, Sync}
 use Rattle.nv_plain.specs.declared.call.Reply.{Reply}
@@ -28,11 +29,11 @@ pub record IsPlacedAs (old new : PassView) (call : FileCall) (reply : Reply) (pl
   pub at : place ≡ length before
   pub seen : (pass_of new).seen ≡ before ++ answered_by old call reply ∷ []
   pub mine : (pass_of new).mine ≡ (pass_of old).mine ++ answered_by old call reply ∷ []
-  pub plain : (files : Files) (tail : ℕ) → OpensLog (mount_of old.opened) tail → Opens (mount_of old.opened) files → reply ≡ reply_of call (after before files)
+  pub plain : (files : Files) (tail : ℕ) → OpensLog (mount_of old.opened) tail → Opens (mount_of old.opened) files → reply ≡ reply_of call (state_then before (at_start files))
 
 -- A sync of the file, if there is one, has its place, and plain files answer it so whatever they are: over any devices.
 abbrev pub IsSyncPlaced : Option ℕ → (old new : PassView) → (place : ℕ) → Type 0
-IsSyncPlaced (Some file) old new place = IsPlacedAs old new (Sync file) Done place × ((files : Files) → Done ≡ reply_of (Sync file) files)
+IsSyncPlaced (Some file) old new place = IsPlacedAs old new (Sync file) Done place × ((state : State) → Done ≡ reply_of (Sync file) state)
 IsSyncPlaced None old new place = ⊥
 
 -- The call has no place: the pass has seen what it had, and has the calls that it had.

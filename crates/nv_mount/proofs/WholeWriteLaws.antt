@@ -14,7 +14,7 @@ use Rattle.nv_plain.specs.Images.{Entry, Image, entry_at, entry_of, header_of}
 use Rattle.nv_plain.specs.Layouts.{mount_layout}
 use Rattle.nv_plain.specs.Recovered.{recovered}
 use Rattle.nv_plain.specs.declared.call.FileCall.{FileCall}
-use Rattle.nv_plain.specs.declared.call.FileCall.TheVariants.{Read, Write, Readv, Writev, Sync}
+use Rattle.nv_plain.specs.declared.call.FileCall.TheVariants.{Read, Write, Readv, Writev, Sync, ReadHere, WriteHere, Seek}
 use Rattle.nv_header.specs.Regions.{ReadsAs}
 use Rattle.nv_core.specs.state.Words.{Sizes, HEAD, TAIL, PAGE, ENTRY, slot_of_entry}
 use Rattle.nv_core.specs.state.Passes.{Cleaning, Control, Idle, SeizeEntry, CommitGroup, PledgePage, ReadyEntry, TakePlace, SetStopAfterCommit, Fault, Pass, IsOneOf, is_write, first_page, page_count, times, plain_call, pages_of}
@@ -589,6 +589,9 @@ module _ (right : HistoriesAreMadeRight) (sound : RunsAreSound) (tell : OwnEvent
   whole_call (Readv file at lens) n some commits open_ = absurd open_
   whole_call (Writev file at parts) n some commits open_ = absurd open_
   whole_call (Sync file) n some commits open_ = absurd open_
+  whole_call (ReadHere fd file len) n some commits open_ = absurd open_
+  whole_call (WriteHere fd file append bytes) n some commits open_ = absurd open_
+  whole_call (Seek fd file seek) n some commits open_ = absurd open_
 
   group_there : (n : ℕ) → IsOneOf groups n → IsGroupThere n
   group_there n one =
@@ -645,6 +648,9 @@ module _ (right : HistoriesAreMadeRight) (sound : RunsAreSound) (tell : OwnEvent
   whole_commits (Readv file at lens) n whole = absurd whole
   whole_commits (Writev file at parts) n whole = absurd whole
   whole_commits (Sync file) n whole = absurd whole
+  whole_commits (ReadHere fd file len) n whole = absurd whole
+  whole_commits (WriteHere fd file append bytes) n whole = absurd whole
+  whole_commits (Seek fd file seek) n whole = absurd whole
 
   group_where : (n : ℕ) → InWindow core n → first ≤ n → (call : FileCall) → ReadsWhole sizes call n image → IsOneOf groups n
   group_where n inside high call whole =

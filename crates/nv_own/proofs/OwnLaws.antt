@@ -9,8 +9,9 @@ use Rattle.nv_plain.specs.Files.{Files, bytes_at, contents_of}
 use Rattle.nv_plain.specs.Images.{Image}
 use Rattle.nv_plain.specs.Made.{after_calls}
 use Rattle.nv_plain.specs.Recovered.{recovered}
-use Rattle.nv_plain.specs.Calls.{files_after}
-use Rattle.nv_plain.specs.Histories.{Answered, GoesOnFrom, after}
+use Rattle.nv_plain.specs.Positions.{State, at_start}
+use Rattle.nv_plain.specs.Calls.{files_after, state_after}
+use Rattle.nv_plain.specs.Histories.{Answered, GoesOnFrom, state_then, after}
 use Rattle.nv_plain.specs.declared.call.FileCall.{FileCall}
 use Rattle.nv_plain.specs.declared.call.Reply.{Reply}
 use Rattle.nv_plain.specs.declared.call.Reply.TheVariants.{Bytes}
@@ -115,11 +116,13 @@ seen_grows : (old new : PassView) (call : FileCall) (reply : Reply) (place : ℕ
     → (pass_of new).seen ≡ (pass_of old).seen ++ answered_by old call reply ∷ []
 seen_grows old new call reply place was now placed = sym now ∙ placed.mine ∙ ap (λ l. l ++ answered_by old call reply ∷ []) was
 
-files_move : GoesOnFrom → (old new : PassView) (call : FileCall) (reply : Reply) (place : ℕ) → new.opened ≡ old.opened → SeesItsOwn old → SeesItsOwn new → IsPlacedAs old new call reply place
+files_move : GoesOnFrom → (old new : PassView) (call : FileCall) (reply : Reply) (place : ℕ) → ((state : State) → (state_after call state).files ≡ files_after call state.files)
+    → new.opened ≡ old.opened → SeesItsOwn old → SeesItsOwn new → IsPlacedAs old new call reply place
     → files_seen new ≡ files_after call (files_seen old)
-files_move goes_on old new call reply place same was now placed =
+files_move goes_on old new call reply place leaves same was now placed =
     ap₂ (λ seen opened. after seen (opening_files opened)) (seen_grows old new call reply place was now placed) same
-    ∙ goes_on (pass_of old).seen (answered_by old call reply) (opening_files old.opened)
+    ∙ ap (λ (s : State). s.files) (goes_on (pass_of old).seen (answered_by old call reply) (at_start (opening_files old.opened)))
+    ∙ leaves (state_then (pass_of old).seen (at_start (opening_files old.opened)))
 
 pub files_stay : (old new : PassView) → new.opened ≡ old.opened → IsUnplaced old new → files_seen new ≡ files_seen old
 files_stay old new same kept = ap₂ (λ seen opened. after seen (opening_files opened)) kept.seen same
@@ -158,13 +161,13 @@ module _ (goes_on : GoesOnFrom) (fds : List Fd) (fd at : ℕ) (old new : PassVie
 
     pub read_keeps : (result : Result Done Refusal) → IfOk result (λ done. (file : ℕ) × (file_of_fd fds fd ≡ Some file) × IsReadPlaced file at buf old new done) → OnErr result (IsUnplaced old new)
         → files_seen new ≡ files_seen old
-    read_keeps (Ok done) has kept = files_move goes_on old new _ _ _ one.same one.was one.now has.2.placed
+    read_keeps (Ok done) has kept = files_move goes_on old new _ _ _ (λ _. refl) one.same one.was one.now has.2.placed
     read_keeps (Err refusal) has kept = files_stay old new one.same kept
 
   module _ (bytes : List ℕ) where
     pub writes : (result : Result Done Refusal) → IfOk result (λ done. (file : ℕ) × (file_of_fd fds fd ≡ Some file) × IsWritePlaced file at bytes old new done)
         → IfOk result (λ done. HasPut fds fd at bytes (files_seen old) (files_seen new))
-    writes (Ok done) has = record { file = has.0; file_is = has.1; put = files_move goes_on old new _ _ _ one.same one.was one.now has.2.placed }
+    writes (Ok done) has = record { file = has.0; file_is = has.1; put = files_move goes_on old new _ _ _ (λ _. refl) one.same one.was one.now has.2.placed }
     writes (Err refusal) has = tt
 
 pub refused_keeps : (old new : PassView) (result : Result Done Refusal) → new.opened ≡ old.opened → OnErr result (IsUnplaced old new) → OnErr result (files_seen new ≡ files_seen old)

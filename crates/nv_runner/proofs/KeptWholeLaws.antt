@@ -6,7 +6,7 @@ use Rattle.nv_plain.specs.Modes.{can_write}
 use Rattle.nv_plain.specs.Recovered.{recovered}
 use Rattle.nv_plain.specs.Images.{Image}
 use Rattle.nv_plain.specs.declared.call.FileCall.{FileCall}
-use Rattle.nv_plain.specs.declared.call.FileCall.TheVariants.{Read, Write, Readv, Writev, Sync}
+use Rattle.nv_plain.specs.declared.call.FileCall.TheVariants.{Read, Write, Readv, Writev, Sync, ReadHere, WriteHere, Seek}
 use Rattle.nv_entry.specs.Group.{IsWholeGroup}
 use Rattle.nv_core.specs.log.EntryImages.{ReadsWhole}
 use Rattle.nv_core.specs.state.Passes.{Fault, IsOneOf, is_write, plain_call}
@@ -79,6 +79,9 @@ has_write sizes own (Writev file at parts) number image page entries whole =
     subst (λ e. IsWholeGroup own.page number file at (concat parts) (λ i. image (1 + (number + i) % e))) (sym entries)
     (subst (λ p. IsWholeGroup p number file at (concat parts) (λ i. image (1 + (number + i) % sizes.entries))) (sym page) whole)
 has_write sizes own (Sync file) number image page entries whole = whole
+has_write sizes own (ReadHere fd file len) number image page entries whole = whole
+has_write sizes own (WriteHere fd file append bytes) number image page entries whole = whole
+has_write sizes own (Seek fd file seek) number image page entries whole = whole
 
 pub open_calls_are_kept_whole : OpenCallsAreKeptWhole
 open_calls_are_kept_whole basis trace fds plan start zero sorted files names image bytes is out leaves = of_each (IsKeptWhole basis trace image bytes) (map opened_call sorted.open_calls.items) each

@@ -40,4 +40,5 @@ pub mod RunDrawLaws
 pub mod NumberLaws
 pub mod OneThreadLaws
 pub mod LifeLaws
+pub mod NamedCalls
 pub mod streams

@@ -12,7 +12,7 @@ use Rattle.nv_plain.specs.Images.{Image}
 use Rattle.nv_plain.specs.Recovered.{recovered}
 use Rattle.nv_plain.specs.Calls.{files_after}
 use Rattle.nv_plain.specs.declared.call.FileCall.{FileCall}
-use Rattle.nv_plain.specs.declared.call.FileCall.TheVariants.{Read, Write, Readv, Writev, Sync}
+use Rattle.nv_plain.specs.declared.call.FileCall.TheVariants.{Read, Write, Readv, Writev, Sync, ReadHere, WriteHere, Seek}
 use Rattle.nv_plain.specs.Made.{after_calls}
 use Rattle.nv_pmem.specs.Rows.{InEachRowImage, RowTells}
 use Rattle.nv_pmem.specs.Steps.{PartHistory}
@@ -108,6 +108,9 @@ leaves_alike (Write file at bytes) files = refl
 leaves_alike (Readv file at lens) files = refl
 leaves_alike (Writev file at parts) files = refl
 leaves_alike (Sync file) files = refl
+leaves_alike (ReadHere fd file len) files = refl
+leaves_alike (WriteHere fd file append bytes) files = refl
+leaves_alike (Seek fd file seek) files = refl
 
 after_made : {X : Type 0} (call_of : X → FileCall) (xs : List X) (files : Files) → after_calls (map (λ x. plain_call (call_of x)) xs) files ≡ after_calls (map call_of xs) files
 after_made call_of [] files = refl

@@ -3,7 +3,7 @@ use Rattle.std.proofs.Common.{◌≡◌, ◌≢◌, ◌⊎◌, ℕ, ◌+◌, ◌
 use Rattle.std.specs.Prelude.{Option, Some, None}
 use Rattle.std.proofs.lemmas.Bool.{and_parts, ltb-false, leb-false, true≢false}
 use Rattle.nv_plain.specs.declared.call.FileCall.{FileCall}
-use Rattle.nv_plain.specs.declared.call.FileCall.TheVariants.{Read, Write, Readv, Writev, Sync}
+use Rattle.nv_plain.specs.declared.call.FileCall.TheVariants.{Read, Write, Readv, Writev, Sync, ReadHere, WriteHere, Seek}
 use Rattle.nv_core.specs.state.Words.{Sizes, Word, STOP, ORDER, HEAD, TAIL, PAGE, place}
 use Rattle.nv_core.specs.state.Passes.{IsOneOf, Pass, page_count, is_write, plain_call}
 use Rattle.nv_core.specs.steps.Events.{CallsDevice, Event}
@@ -74,9 +74,15 @@ draws_write (Read file at len) (Some refusal) own = absurd (cc)
 draws_write (Readv file at lens) None own = absurd (cc)
 draws_write (Writev file at parts) None own = absurd (cc)
 draws_write (Sync file) None own = absurd (cc)
+draws_write (ReadHere fd file len) None own = absurd (cc)
+draws_write (WriteHere fd file append bytes) None own = absurd (cc)
+draws_write (Seek fd file seek) None own = absurd (cc)
 draws_write (Readv file at lens) (Some refusal) own = absurd (cc)
 draws_write (Writev file at parts) (Some refusal) own = absurd (cc)
 draws_write (Sync file) (Some refusal) own = absurd (cc)
+draws_write (ReadHere fd file len) (Some refusal) own = absurd (cc)
+draws_write (WriteHere fd file append bytes) (Some refusal) own = absurd (cc)
+draws_write (Seek fd file seek) (Some refusal) own = absurd (cc)
 
 -- a device fault
 fault_shows : (sizes : Sizes) (call : FileCall) (now : PassState) (fault : Option Refusal) → IsFault fault → ((one : Refusal) → fault ≡ Some one → MetFault now one) → Shows sizes call now fault

@@ -5,7 +5,7 @@ use Rattle.std.specs.Borrow.{Bor}
 use Rattle.std.proofs.lemmas.Bool.{lt-ltb}
 use Rattle.nv_plain.specs.Histories.{Answered}
 use Rattle.nv_plain.specs.declared.call.FileCall.{FileCall}
-use Rattle.nv_plain.specs.declared.call.FileCall.TheVariants.{Read, Write, Readv, Writev, Sync}
+use Rattle.nv_plain.specs.declared.call.FileCall.TheVariants.{Read, Write, Readv, Writev, Sync, ReadHere, WriteHere, Seek}
 use Rattle.nv_plain.specs.Pieces.{pages_touched}
 use Rattle.nv_plain.specs.declared.call.Reply.{Reply}
 use Rattle.nv_mount.specs.declared.fds.Fd.{Fd}
@@ -193,6 +193,9 @@ one_lost sizes (Write file at (byte ∷ bytes)) first before later none =
 one_lost sizes (Readv file at lens) first before later none = (let is = later none in omega (arith, is))
 one_lost sizes (Writev file at parts) first before later none = (let is = later none in omega (arith, is))
 one_lost sizes (Sync file) first before later none = (let is = later none in omega (arith, is))
+one_lost sizes (ReadHere fd file len) first before later none = (let is = later none in omega (arith, is))
+one_lost sizes (WriteHere fd file append bytes) first before later none = (let is = later none in omega (arith, is))
+one_lost sizes (Seek fd file seek) first before later none = (let is = later none in omega (arith, is))
 
 none_lost : (sizes : Sizes) (faults : List Fault) → lost_of faults ≡ None → faulted_entries sizes faults ≡ 0
 none_lost sizes [] none = refl
@@ -226,6 +229,9 @@ empty_takes_none sizes (Write file at (byte ∷ bytes)) none = absurd (omega (ar
 empty_takes_none sizes (Readv file at lens) none = refl
 empty_takes_none sizes (Writev file at parts) none = refl
 empty_takes_none sizes (Sync file) none = refl
+empty_takes_none sizes (ReadHere fd file len) none = refl
+empty_takes_none sizes (WriteHere fd file append bytes) none = refl
+empty_takes_none sizes (Seek fd file seek) none = refl
 
 some_or_none : (sizes : Sizes) (call : FileCall) → (is_write call ≡ true) ⊎ (entries_of sizes call ≡ 0)
 some_or_none sizes (Read file at len) = inr refl
@@ -234,6 +240,9 @@ some_or_none sizes (Write file at (byte ∷ bytes)) = inl (lt-ltb 0 (length (byt
 some_or_none sizes (Readv file at lens) = inr refl
 some_or_none sizes (Writev file at parts) = inr refl
 some_or_none sizes (Sync file) = inr refl
+some_or_none sizes (ReadHere fd file len) = inr refl
+some_or_none sizes (WriteHere fd file append bytes) = inr refl
+some_or_none sizes (Seek fd file seek) = inr refl
 
 -- what a call is told as
 abbrev pub told_by : Option Answer → (entries : ℕ) → ℕ

@@ -171,7 +171,7 @@ type DryRun = Result<PlainFiles, RecoverError>;
 
 // And the files that a recovery of it would leave, one at least. An error also where the stores aren't as many as the header says.
 fn dried(alloc: Global, parts: &mut [MemPart], stores: &mut [MemStore]) -> Result<DryRun, Fail>
-    ensures { IfOk result (λ answer. IfOk answer (λ plain. 0 < length plain.contents)) }
+    ensures { IfOk result (λ answer. IfOk answer (λ plain. 0 < length plain.files.contents)) }
 {
     lose_power(parts, stores, Pick::New);
     let head = read_head(alloc, parts)?;

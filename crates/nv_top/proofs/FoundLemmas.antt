@@ -8,18 +8,20 @@ use Rattle.std.proofs.lemmas.List.Elements.{All-append, All-cons, All-head, All-
 use Rattle.std.proofs.lemmas.List.Sorted.{All-permutation, IsPermutation-sym}
 use Rattle.nv_open.specs.Refusals.{head_image}
 use Rattle.nv_plain.specs.declared.call.FileCall.{FileCall}
-use Rattle.nv_plain.specs.declared.call.FileCall.TheVariants.{Read, Write, Readv, Writev, Sync}
+use Rattle.nv_plain.specs.declared.call.FileCall.TheVariants.{Read, Write, Readv, Writev, Sync, ReadHere, WriteHere, Seek}
 use Rattle.nv_plain.specs.declared.call.Reply.TheVariants.{Bytes, Parts, Count}
 use Rattle.nv_plain.specs.declared.mode.Mode.TheVariants.{R}
-use Rattle.nv_plain.specs.Calls.{filled, files_after, reply_of}
+use Rattle.nv_plain.specs.Calls.{filled, files_after, reply_on}
 use Rattle.nv_plain.specs.Files.{Files, bytes_at, contents_of, overwritten, with_contents}
 use Rattle.nv_plain.specs.Histories.{Answered, IsLegal, after}
+use Rattle.nv_plain.specs.Made.{goes_here, NameOffsets}
 use Rattle.nv_plain.specs.Images.{Image, header_of, version_in}
 use Rattle.nv_plain.specs.Layouts.{layout_of, mount_version}
 use Rattle.nv_plain.specs.declared.limits.Version.{Version}
 use Rattle.nv_open.proofs.Versions.{empty_names}
 use Rattle.nv_plain.specs.Recovered.{recovered, region_files}
-use Rattle.nv_plain.proofs.HistoryLemmas.{IsLegal-append, after-append, length-after, length-files_after}
+use Rattle.nv_plain.proofs.StartLemmas.{IsLegal-cons, after-cons, IsLegal-append, after-append, length-after, length-files_after}
+use Rattle.nv_runner.proofs.NamedCalls.{named_both, named_history}
 use Rattle.nv_pmem.specs.Part.{Part}
 use Rattle.nv_pmem.specs.Rows.{row_words}
 use Rattle.nv_pmem.proofs.ImageLaws.{image_of_now}
@@ -241,16 +243,40 @@ IsThere count (Write file at bytes) = file < count
 IsThere count (Readv file at lens) = file < count
 IsThere count (Writev file at parts) = file < count
 IsThere count (Sync file) = file < count
+IsThere count (ReadHere fd file len) = ⊥
+IsThere count (WriteHere fd file append bytes) = ⊥
+IsThere count (Seek fd file seek) = ⊥
 
 abbrev AreThere : ℕ → List Answered → Type 0
 AreThere count history = All (λ (answered : Answered). IsThere count answered.call) history
 
-same_reply : (call : FileCall) (files : Files) (more : List (List ℕ)) → IsThere (length files.contents) call → reply_of call (joined files more) ≡ reply_of call files
+same_reply : (call : FileCall) (files : Files) (more : List (List ℕ)) → IsThere (length files.contents) call → reply_on call (joined files more) ≡ reply_on call files
 same_reply (Read file at len) files more there = ap (λ bytes. Bytes (bytes_at bytes at len)) (get_or-append files.contents more [] file there)
 same_reply (Write file at bytes) files more there = refl
 same_reply (Readv file at lens) files more there = ap (λ bytes. Parts (filled lens (bytes_at bytes at (sum lens)))) (get_or-append files.contents more [] file there)
 same_reply (Writev file at parts) files more there = refl
 same_reply (Sync file) files more there = refl
+same_reply (ReadHere fd file len) files more there = absurd there
+same_reply (WriteHere fd file append bytes) files more there = absurd there
+same_reply (Seek fd file seek) files more there = absurd there
+
+-- such calls name their offsets
+there_named : (count : ℕ) (call : FileCall) → IsThere count call → goes_here call ≡ false
+there_named count (Read file at len) there = refl
+there_named count (Write file at bytes) there = refl
+there_named count (Readv file at lens) there = refl
+there_named count (Writev file at parts) there = refl
+there_named count (Sync file) there = refl
+there_named count (ReadHere fd file len) there = absurd there
+there_named count (WriteHere fd file append bytes) there = absurd there
+there_named count (Seek fd file seek) there = absurd there
+
+are_named : (count : ℕ) (history : List Answered) → AreThere count history → NameOffsets history
+are_named count [] there = tt
+are_named count (first ∷ later) there = (
+  there_named count first.call (All-head (λ (answered : Answered). IsThere count answered.call) first later there),
+  are_named count later (All-tail (λ (answered : Answered). IsThere count answered.call) first later there),
+)
 
 written_joined : (file at : ℕ) (source : List ℕ) (files : Files) (more : List (List ℕ)) → file < length files.contents
     → files_after (Write file at source) (joined files more) ≡ joined (files_after (Write file at source) files) more
@@ -265,6 +291,9 @@ joined_after (Write file at source) files more there = written_joined file at so
 joined_after (Readv file at lens) files more there = refl
 joined_after (Writev file at parts) files more there = written_joined file at (concat parts) files more there
 joined_after (Sync file) files more there = refl
+joined_after (ReadHere fd file len) files more there = absurd there
+joined_after (WriteHere fd file append bytes) files more there = absurd there
+joined_after (Seek fd file seek) files more there = absurd there
 
 still_there : (first : Answered) (later : List Answered) (files : Files) → AreThere (length files.contents) (first ∷ later) → AreThere (length (files_after first.call files).contents) later
 still_there first later files there =
@@ -273,16 +302,23 @@ still_there first later files there =
 legal_joined : (history : List Answered) (files : Files) (more : List (List ℕ)) → AreThere (length files.contents) history → IsLegal history files → IsLegal history (joined files more)
 legal_joined [] files more there legal = tt
 legal_joined (first ∷ later) files more there legal =
-    let here = All-head (λ (answered : Answered). IsThere (length files.contents) answered.call) first later there in (
-      legal.0 ∙ sym (same_reply first.call files more here),
-      subst (IsLegal later) (sym (joined_after first.call files more here)) (legal_joined later (files_after first.call files) more (still_there first later files there) legal.1),
+    let here = All-head (λ (answered : Answered). IsThere (length files.contents) answered.call) first later there in
+    let named = there_named (length files.contents) first.call here in
+    let both = (IsLegal-cons first later files named).0 legal in
+    (IsLegal-cons first later (joined files more) named).1 (
+      both.0 ∙ sym (same_reply first.call files more here),
+      subst (IsLegal later) (sym (joined_after first.call files more here)) (legal_joined later (files_after first.call files) more (still_there first later files there) both.1),
     )
 
 after_joined : (history : List Answered) (files : Files) (more : List (List ℕ)) → AreThere (length files.contents) history → after history (joined files more) ≡ joined (after history files) more
 after_joined [] files more there = refl
 after_joined (first ∷ later) files more there =
-    ap (after later) (joined_after first.call files more (All-head (λ (answered : Answered). IsThere (length files.contents) answered.call) first later there))
+    let here = All-head (λ (answered : Answered). IsThere (length files.contents) answered.call) first later there in
+    let named = there_named (length files.contents) first.call here in
+    after-cons first later (joined files more) named
+    ∙ ap (after later) (joined_after first.call files more here)
     ∙ after_joined later (files_after first.call files) more (still_there first later files there)
+    ∙ ap (λ files. joined files more) (sym (after-cons first later files named))
 
 -- ---- the calls of a run are on its files
 
@@ -377,6 +413,13 @@ write_after descriptors thread (Preadv fd at lens) files = refl
 write_after descriptors thread (Pwritev fd at parts) files = refl
 write_after descriptors thread (Fsync fd) files = refl
 
+named_write : (descriptors : List Descriptor) (thread : ℕ) (call : TraceCall) → NameOffsets (done_write descriptors thread call)
+named_write descriptors thread (Pread fd at len) = tt
+named_write descriptors thread (Pwrite fd at bytes) = (refl, tt)
+named_write descriptors thread (Preadv fd at lens) = tt
+named_write descriptors thread (Pwritev fd at parts) = (refl, tt)
+named_write descriptors thread (Fsync fd) = tt
+
 -- the open writes that were kept leave the files that are shown
 kept_after : (descriptors : List Descriptor) (calls : List OpenCall) (files : Files) → after (kept_calls descriptors calls) files ≡ after_open descriptors calls files
 kept_after descriptors [] files = refl
@@ -385,7 +428,7 @@ kept_after descriptors (o ∷ later) files = by o.fate (λ files. kept_after des
     by : (fate : Fate) → ((files : Files) → after (kept_calls descriptors later) files ≡ after_open descriptors later files)
         → after (done_so descriptors o fate ++ kept_calls descriptors later) files ≡ after_open descriptors later (after_fate (file_call descriptors o.call.call) files fate)
     by Kept rest =
-        after-append (done_write descriptors o.call.thread o.call.call) (kept_calls descriptors later) files
+        after-append (done_write descriptors o.call.thread o.call.call) (kept_calls descriptors later) files (named_write descriptors o.call.thread o.call.call)
         ∙ ap (after (kept_calls descriptors later)) (write_after descriptors o.call.thread o.call.call files)
         ∙ rest (files_after (file_call descriptors o.call.call) files)
     by Lost rest = rest files
@@ -406,7 +449,7 @@ kept_legal descriptors (o ∷ later) files = by o.fate (λ files. kept_legal des
     by : (fate : Fate) → ((files : Files) → IsLegal (kept_calls descriptors later) files) → IsLegal (done_so descriptors o fate ++ kept_calls descriptors later) files
     by Kept legal =
         let write = done_write descriptors o.call.thread o.call.call in
-        IsLegal-append write (kept_calls descriptors later) files (write_legal descriptors o.call.thread o.call.call files) (legal (after write files))
+        IsLegal-append write (kept_calls descriptors later) files (named_write descriptors o.call.thread o.call.call) (write_legal descriptors o.call.thread o.call.call files) (legal (after write files))
     by Lost legal = legal files
     by Unanswered legal = legal files
 
@@ -418,12 +461,27 @@ module _ (worker : Bool) (basis : Basis) (trace : Traced) (report : Report) (rep
   pub done_legal : IsLegal (done_by basis trace report) basis.files
   done_legal =
       let history = history_of descriptors report.history in
-      IsLegal-append history (kept_calls descriptors report.open_calls) basis.files (reported_legal worker basis trace report reported) (kept_legal descriptors report.open_calls (after history basis.files))
+      IsLegal-append history (kept_calls descriptors report.open_calls) basis.files (named_history descriptors report.history) (reported_legal worker basis trace report reported) (kept_legal descriptors report.open_calls (after history basis.files))
 
   pub done_after : after (done_by basis trace report) basis.files ≡ files_shown basis trace report
   done_after =
       let history = history_of descriptors report.history in
-      after-append history (kept_calls descriptors report.open_calls) basis.files ∙ kept_after descriptors report.open_calls (after history basis.files)
+      after-append history (kept_calls descriptors report.open_calls) basis.files (named_history descriptors report.history) ∙ kept_after descriptors report.open_calls (after history basis.files)
+
+-- what a run did names its offsets
+pub done_named : (basis : Basis) (trace : Traced) (report : Report) → NameOffsets (done_by basis trace report)
+done_named basis trace report =
+    let descriptors = descriptors_in basis.names trace in
+    named_both (history_of descriptors report.history) (kept_calls descriptors report.open_calls) (named_history descriptors report.history) (kept descriptors report.open_calls)
+  where
+    kept : (descriptors : List Descriptor) (calls : List OpenCall) → NameOffsets (kept_calls descriptors calls)
+    kept descriptors [] = tt
+    kept descriptors (o ∷ later) = by o.fate
+      where
+        by : (fate : Fate) → NameOffsets (done_so descriptors o fate ++ kept_calls descriptors later)
+        by Kept = named_both (done_write descriptors o.call.thread o.call.call) (kept_calls descriptors later) (named_write descriptors o.call.thread o.call.call) (kept descriptors later)
+        by Lost = kept descriptors later
+        by Unanswered = kept descriptors later
 
 pub runs_have_one_history : RunsHaveOneHistory
 runs_have_one_history options asked holding now trace next first second report last begun reported formed finds begun_last reported_last =
@@ -436,6 +494,6 @@ runs_have_one_history options asked holding now trace next first second report l
     let there = done_there options.worker options holding first trace report begun reported formed in
     let goes_on : second.files ≡ after one all =
     begins.files_are ∙ ap (λ files. joined files more) (sym (done_after options.worker first trace report reported)) ∙ sym (after_joined one first.files more there) in (
-      IsLegal-append one other all (legal_joined one first.files more there (done_legal options.worker first trace report reported)) (subst (IsLegal other) goes_on (done_legal asked.worker second next last reported_last)),
-      sym (done_after asked.worker second next last reported_last) ∙ ap (after other) goes_on ∙ sym (after-append one other all),
+      IsLegal-append one other all (done_named first trace report) (legal_joined one first.files more there (done_legal options.worker first trace report reported)) (subst (IsLegal other) goes_on (done_legal asked.worker second next last reported_last)),
+      sym (done_after asked.worker second next last reported_last) ∙ ap (after other) goes_on ∙ sym (after-append one other all (done_named first trace report)),
     )

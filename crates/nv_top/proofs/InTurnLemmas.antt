@@ -28,7 +28,8 @@ use Rattle.nv_top.specs.Headline.{HasStopped, IsLeftBy, IsShown, IsShownOf}
 use Rattle.nv_top.specs.LifeRows.{HaveEnded, ShowsLives, trace_of, with_pick}
 use Rattle.nv_trace.specs.Lives.{TracedLife}
 use Rattle.nv_trace.specs.declared.trace_call.TracedCall.{TracedCall}
-use Rattle.nv_plain.proofs.HistoryLemmas.{IsLegal-append, after-append}
+use Rattle.nv_plain.proofs.StartLemmas.{IsLegal-append, after-append}
+use Rattle.nv_runner.proofs.NamedCalls.{named_both}
 use Rattle.nv_top.proofs.RowNameLemmas.{none_new, same_names}
 use Rattle.nv_top.specs.InTurn.{EachHasALife, GoesOn, IsLifeOf, IsShownLife, Life, LivesGoOnInTurn, done_by_ended, done_by_lives, files_into}
 use Rattle.nv_top.specs.Loads.{load_options}
@@ -40,7 +41,7 @@ use Rattle.nv_top.specs.declared.show.Show.TheVariants as shows
 use Rattle.nv_words.specs.declared.words.Command.{Command}
 use Rattle.nv_words.specs.declared.words.Command.TheVariants.{Run, Sched, Recover, Look, Gen}
 use Rattle.nv_words.specs.declared.words.RunOptions.{RunOptions}
-use Rattle.nv_top.proofs.FoundLemmas.{done_after, done_legal, next_finds_looked, next_finds_recovered, next_finds_run, next_finds_shown, next_finds_stopped, some_is}
+use Rattle.nv_top.proofs.FoundLemmas.{done_after, done_legal, done_named, next_finds_looked, next_finds_recovered, next_finds_run, next_finds_shown, next_finds_stopped, some_is}
 
 -- what a command comes to on such a bench
 abbrev HasLife : Command → (input : Option (List ℕ)) → (old new : BenchState) → (text : List ℕ) → (was now : Holding) → Type 0
@@ -57,6 +58,7 @@ goes_on : (names : List (List ℕ)) (files : Files) (was now : Holding) (worker 
 goes_on names files was now worker basis trace report reported begins found =
     let done = done_by basis trace report in record {
       legal = subst (IsLegal done) begins.files_are (done_legal worker basis trace report reported);
+      named = done_named basis trace report;
       finds =
           subst (λ (these : List (List ℕ)). FindsFiles these (after done (files_behind files (new_names names trace.names) was.stores)) now) begins.names_are
           (subst (λ (shown : Files). FindsFiles basis.names shown now) (sym (done_after worker basis trace report reported) ∙ ap (after done) begins.files_are) found);
@@ -136,6 +138,7 @@ idle = record { wanted = []; done = [] }
 stays : (names : List (List ℕ)) (files : Files) (was now : Holding) → FindsFiles names files now → GoesOn names files was idle now
 stays names files was now found = record {
   legal = tt;
+  named = tt;
   finds =
       subst (λ names. FindsFiles names (files_behind files [] was.stores) now) (sym (append-nil names))
       (subst (λ (contents : List (List ℕ)). let files : Files = record { contents = contents } in FindsFiles names files now) (sym (append-nil files.contents)) found);
@@ -189,9 +192,10 @@ both names files was mid now wanted one other first second =
     let same : files_behind here (new_names (all_names names wanted) wanted) mid.stores ≡ here =
     ap (λ new. files_behind here new mid.stores) (none_new names wanted) ∙ ap (λ (contents : List (List ℕ)). let files : Files = record { contents = contents } in files) (append-nil here.contents) in
     record {
-      legal = IsLegal-append one other begun first.legal (subst (IsLegal other) same then_.legal);
+      legal = IsLegal-append one other begun first.named first.legal (subst (IsLegal other) same then_.legal);
+      named = named_both one other first.named then_.named;
       finds = subst (λ names. FindsFiles names (after (one ++ other) begun) now) (same_names names wanted)
-          (subst (λ files. FindsFiles (all_names (all_names names wanted) wanted) files now) (ap (after other) same ∙ sym (after-append one other begun)) then_.finds);
+          (subst (λ files. FindsFiles (all_names (all_names names wanted) wanted) files now) (ap (after other) same ∙ sym (after-append one other begun first.named)) then_.finds);
     }
 
 -- one of them

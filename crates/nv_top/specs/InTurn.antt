@@ -3,6 +3,7 @@ use Rattle.std.specs.Prelude.{◌≡◌, ℕ, List, [], ◌∷◌, ◌++◌, Opt
 use Rattle.std.specs.List.{AllZip}
 use Rattle.nv_plain.specs.Files.{Files}
 use Rattle.nv_plain.specs.Histories.{Answered, IsLegal, after}
+use Rattle.nv_plain.specs.Made.{NameOffsets}
 use Rattle.nv_bench.specs.Benches.{BenchState}
 use Rattle.nv_bench.specs.Holding.{Holding}
 use Rattle.nv_open.specs.Adding.{all_names, new_names}
@@ -111,9 +112,10 @@ AreLegalInTurn names files (one ∷ others) (life ∷ later) =
     × AreLegalInTurn (all_names names life.wanted) (after life.done (files_into names files one.was life)) others later
 AreLegalInTurn names files others later = Unit {0}
 
--- A bench that stood for files under these names goes on to stand for those after a life, which was legal.
+-- A bench that stood for files under these names goes on to stand for those after a life, which was legal, and whose calls name their offsets.
 pub record GoesOn (names : List (List ℕ)) (files : Files) (was : Holding) (life : Life) (now : Holding) : Type 0 where
   pub legal : IsLegal life.done (files_into names files was life)
+  pub named : NameOffsets life.done
   pub finds : FindsFiles (all_names names life.wanted) (after life.done (files_into names files was life)) now
 
 -- Each command has a life, and with it a bench goes on to stand for files, whatever those were that it stood for.

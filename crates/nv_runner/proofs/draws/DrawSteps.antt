@@ -3,7 +3,7 @@ use Rattle.std.proofs.Common.{◌≡◌, ◌⊎◌, ℕ, ◌+◌, ◌<◌, ◌�
 use Rattle.std.proofs.lemmas.Bool.{cases_eq, cases_lt, eqb-false, lt-ltb}
 use Rattle.nv_plain.specs.Histories.{Answered}
 use Rattle.nv_plain.specs.declared.call.FileCall.{FileCall}
-use Rattle.nv_plain.specs.declared.call.FileCall.TheVariants.{Read, Write, Readv, Writev, Sync}
+use Rattle.nv_plain.specs.declared.call.FileCall.TheVariants.{Read, Write, Readv, Writev, Sync, ReadHere, WriteHere, Seek}
 use Rattle.nv_core.specs.state.Words.{Sizes, HEAD}
 use Rattle.nv_core.specs.state.Passes.{Fault, Idle, Pass, is_write, page_count, plain_call}
 use Rattle.nv_core.specs.state.Core.{Core, changed_pass, worked, after_begin, after_step}
@@ -41,6 +41,9 @@ unwritten sizes (Read file at len) none = refl
 unwritten sizes (Readv file at lens) none = refl
 unwritten sizes (Writev file at parts) none = refl
 unwritten sizes (Sync file) none = refl
+unwritten sizes (ReadHere fd file len) none = refl
+unwritten sizes (WriteHere fd file append bytes) none = refl
+unwritten sizes (Seek fd file seek) none = refl
 
 -- what faulted calls have drawn their writes have
 pub faulted_are_opened : (sizes : Sizes) (faults : List Fault) → faulted_entries sizes faults ≡ opened_entries sizes (open_in faults)

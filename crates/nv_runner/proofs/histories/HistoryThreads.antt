@@ -5,9 +5,10 @@ use Rattle.std.specs.List.{AllZip, slice_get}
 use Rattle.std.proofs.lemmas.List.{get_or-map, length-map}
 use Rattle.std.proofs.lemmas.Option.{get_or_from_slice_get, slice_get-map, slice_get_within}
 use Rattle.std.proofs.lemmas.Slice.Zip.{AllZip-long}
-use Rattle.nv_plain.specs.Calls.{files_after, reply_of}
+use Rattle.nv_plain.specs.Calls.{reply_of, state_after}
 use Rattle.nv_plain.specs.Files.{Files}
-use Rattle.nv_plain.specs.Histories.{Answered, IsLegal, after}
+use Rattle.nv_plain.specs.Positions.{State, at_start}
+use Rattle.nv_plain.specs.Histories.{Answered, state_then, IsLegalFrom, IsLegal, after}
 use Rattle.nv_plain.specs.declared.call.FileCall.{FileCall}
 use Rattle.nv_plain.specs.declared.call.FileCall.TheVariants.{Read, Write, Readv, Writev, Sync}
 use Rattle.nv_plain.specs.declared.mode.Mode.TheVariants.{R}
@@ -24,21 +25,27 @@ use Rattle.nv_runner.specs.Histories.{CallsOnFiles, PlacedCall, StandsAs, Thread
 abbrev pub IsSameCall : Answered → Answered → Type 0
 IsSameCall one other = (one.call ≡ other.call) × (one.reply ≡ other.reply)
 
-pub same_is_legal : (one other : List Answered) (files : Files) → AllZip IsSameCall one other → IsLegal other files → IsLegal one files
-same_is_legal [] [] files same legal = tt
-same_is_legal [] (b ∷ others) files same legal = absurd same
-same_is_legal (a ∷ ones) [] files same legal = absurd same
-same_is_legal (a ∷ ones) (b ∷ others) files same legal = (
-  same.0.1 ∙ legal.0 ∙ ap (λ (call : FileCall). reply_of call files) (sym same.0.0),
-  same_is_legal ones others (files_after a.call files) same.1 (subst (λ (call : FileCall). IsLegal others (files_after call files)) (sym same.0.0) legal.1),
+legal_from : (one other : List Answered) (state : State) → AllZip IsSameCall one other → IsLegalFrom other state → IsLegalFrom one state
+legal_from [] [] state same legal = tt
+legal_from [] (b ∷ others) state same legal = absurd same
+legal_from (a ∷ ones) [] state same legal = absurd same
+legal_from (a ∷ ones) (b ∷ others) state same legal = (
+  same.0.1 ∙ legal.0 ∙ ap (λ (call : FileCall). reply_of call state) (sym same.0.0),
+  legal_from ones others (state_after a.call state) same.1 (subst (λ (call : FileCall). IsLegalFrom others (state_after call state)) (sym same.0.0) legal.1),
 )
 
+same_then : (one other : List Answered) (state : State) → AllZip IsSameCall one other → state_then one state ≡ state_then other state
+same_then [] [] state same = refl
+same_then [] (b ∷ others) state same = absurd same
+same_then (a ∷ ones) [] state same = absurd same
+same_then (a ∷ ones) (b ∷ others) state same =
+    same_then ones others (state_after a.call state) same.1 ∙ ap (λ (call : FileCall). state_then others (state_after call state)) same.0.0
+
+pub same_is_legal : (one other : List Answered) (files : Files) → AllZip IsSameCall one other → IsLegal other files → IsLegal one files
+same_is_legal one other files = legal_from one other (at_start files)
+
 pub same_after : (one other : List Answered) (files : Files) → AllZip IsSameCall one other → after one files ≡ after other files
-same_after [] [] files same = refl
-same_after [] (b ∷ others) files same = absurd same
-same_after (a ∷ ones) [] files same = absurd same
-same_after (a ∷ ones) (b ∷ others) files same =
-    same_after ones others (files_after a.call files) same.1 ∙ ap (λ (call : FileCall). after others (files_after call files)) same.0.0
+same_after one other files same = ap (λ (s : State). s.files) (same_then one other (at_start files) same)
 
 same_calls : (fds : List Fd) (on_file : TraceCall → FileCall) (placed : List PlacedCall) (history : List Answered) → CallsOnFiles fds on_file → AllZip (StandsAs fds) placed history
     → AllZip IsSameCall (history_of_threads on_file placed) history

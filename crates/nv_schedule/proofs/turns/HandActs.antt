@@ -59,14 +59,14 @@ two_may_come = (
         made = omega arith;
         there = λ one. one;
         staying = refl;
-        act = (record { idle = refl; allowed = record { known = omega arith; near = omega arith; short = omega arith; plain = refl; bytes = one_byte 7 (omega arith) } }, record { may = inl refl; is = refl });
+        act = (record { idle = refl; allowed = record { known = omega arith; near = omega arith; short = omega arith; plain = refl; named = refl; bytes = one_byte 7 (omega arith) } }, record { may = inl refl; is = refl });
       },
       (
         record {
           made = omega arith;
           there = λ one. one;
           staying = refl;
-          act = (record { idle = refl; allowed = record { known = omega arith; near = omega arith; short = omega arith; plain = refl; bytes = one_byte 8 (omega arith) } }, record { may = inl refl; is = refl });
+          act = (record { idle = refl; allowed = record { known = omega arith; near = omega arith; short = omega arith; plain = refl; named = refl; bytes = one_byte 8 (omega arith) } }, record { may = inl refl; is = refl });
         },
         tt,
       ),
@@ -82,7 +82,7 @@ sync_may_come = (
       made = omega arith;
       there = λ one. one;
       staying = refl;
-      act = (record { idle = refl; allowed = record { known = omega arith; near = omega arith; short = omega arith; plain = refl; bytes = tt } }, record { may = inl refl; is = refl });
+      act = (record { idle = refl; allowed = record { known = omega arith; near = omega arith; short = omega arith; plain = refl; named = refl; bytes = tt } }, record { may = inl refl; is = refl });
     },
     (
       record { made = omega arith; there = λ one. one; staying = refl; act = record { may = inl refl; is = refl } },

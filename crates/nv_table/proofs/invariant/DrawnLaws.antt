@@ -4,7 +4,7 @@ use Rattle.std.proofs.lemmas.Bool.{cases_eq}
 use Rattle.std.specs.Prelude.{Option, Some, None}
 use Rattle.nv_plain.specs.Histories.{Answered}
 use Rattle.nv_plain.specs.declared.call.FileCall.{FileCall}
-use Rattle.nv_plain.specs.declared.call.FileCall.TheVariants.{Read, Write, Readv, Writev, Sync}
+use Rattle.nv_plain.specs.declared.call.FileCall.TheVariants.{Read, Write, Readv, Writev, Sync, ReadHere, WriteHere, Seek}
 use Rattle.nv_core.specs.state.Words.{Sizes, Word, STOP, ORDER, HEAD, TAIL, SIZE, LENGTH, STORE, ENTRY, HINT, PAGE, DIRTY, CLEANUP, ready, is_entry_of, slot_of_entry}
 use Rattle.nv_core.specs.state.Values.{CallEnding, Made, Failed, Refused}
 use Rattle.nv_core.specs.state.Passes.{Control, Idle, TakePage, LoadLength, TakeSize, LoadStop, LoadOrder, VisitPage, TakeCleanup, TakeStore, ReadStore, GiveStore, Searching, WriteLoadHead, WriteLoadTail, DrawNumbers, SeizeEntry, CommitGroup, PledgePage, ReadyEntry, TakePlace, GrowLength, GiveSize, GivePage, GiveBack, SetStopAfterRead, SetStopAfterPiece, SetStopAfterCommit, BreakEntry, ReadLoadHead, LoadEntry, HoldEntry, ReadPiece, GiveCleanup, Cleaning, Pass, is_read, is_write, page_count, first_page, end_page, without, plain_call}
@@ -179,6 +179,9 @@ no_write (Write file at bytes) read = absurd cc
 no_write (Readv file at lens) read = refl
 no_write (Writev file at parts) read = refl
 no_write (Sync file) read = refl
+no_write (ReadHere fd file len) read = refl
+no_write (WriteHere fd file append bytes) read = refl
+no_write (Seek fd file seek) read = refl
 
 module _ (sizes : Sizes) (values : Values) (number : ℕ) (history : List Answered) (found : ℕ) (change : Change) (pass : Pass) (stands : ControlFacts sizes pass) where
   abbrev Comes : Op → Type 0

@@ -43,5 +43,5 @@ returns-clause-files g c = λ was are.
     let seen : map (λ (store : Store). store.seen) states ≡ map (λ (store : Store). store.seen) was =
     copies_seen slice ∙ ap (map (λ (bytes : Held). bytes.items)) c.deref.ensures.value ∙ c.in_ok-held.ensures.bytes was are in
     let same : files_of states ≡ files_of was = ap (λ contents. record { contents = contents }) seen in
-    let Is : Files → Type 0 = λ these. IfOk c.files_after.result (λ files. RowTells (map g.L.Lines.history c.args.parts.now) (λ told. files ≡ (recovered (row_words told) these).files)) in
+    let Is : Files → Type 0 = λ these. IfOk c.files_after.result (λ files. RowTells (map g.L.Lines.history c.args.parts.now) (λ told. files.files ≡ (recovered (row_words told) these).files)) in
     subst Is same (c.files_after.ensures.files states (subst Now (sym row) (copies_now slice)))

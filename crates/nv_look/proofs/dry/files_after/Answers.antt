@@ -1,4 +1,5 @@
 use Rattle.std.proofs.Common.{◌≡◌, List, map, ap, ◌∙◌}
+use Rattle.nv_plain.specs.Positions.{Kept}
 use Rattle.nv_plain.specs.Recovered.{recovered}
 use Rattle.nv_pmem.specs.RowStates.{row_tells_at}
 use Rattle.nv_pmem.specs.Rows.{RowTells, row_words}
@@ -15,9 +16,9 @@ returns-clause-files g c = λ was are.
     let old : List StoreHistory = map store_history c.args.copies.now in
     let new : List StoreHistory = map store_history c.replay.new.copies in
     let states = presents new (c.replay.ensures.tells (presents_tell old was are)) in
-    let files : c.from_vec.result ≡ files_of states.states = c.from_vec.ensures ∙ ap (λ contents. record { contents = contents }) (c.in_ok-contents.ensures.bytes states.states states.are) in
+    let files : c.from_vec.result.files ≡ files_of states.states = ap (λ (k : Kept). k.files) c.from_vec.ensures ∙ ap (λ contents. record { contents = contents }) (c.in_ok-contents.ensures.bytes states.states states.are) in
     row_tells_more (map g.L.Lines.history c.args.parts.now) (λ parts. RowTells old (λ was. RowTells new (λ now. HoldRecovered (row_words parts) was now)))
-    (λ parts. c.from_vec.result ≡ (recovered (row_words parts) (files_of was)).files)
+    (λ parts. c.from_vec.result.files ≡ (recovered (row_words parts) (files_of was)).files)
     (λ parts told.
     let held : HoldRecovered (row_words parts) was states.states =
     row_tells_at new (λ now. HoldRecovered (row_words parts) was now) states.states states.are

@@ -33,8 +33,8 @@ returns-clause-text g c = λ was are.
     let Lists : List PartHistory → Type 0 = λ row. RowTells row (λ told. IsListing (row_words told) rows) in
     let listed = subst Lists c.in_ok-files.ensures.read.histories c.in_ok-listing.ensures.listing in
     row_tells_from row (λ told. IsLookText head (row_words told) (recovered (row_words told) (files_of was)).files.contents c.in_ok-show.field-0) (λ told now.
-    let same : c.in_ok-files.files ≡ (recovered (row_words told) (files_of was)).files =
-    row_tells_at row (λ told. c.in_ok-files.files ≡ (recovered (row_words told) (files_of was)).files) told now (c.in_ok-files.ensures.files was are) in
+    let same : c.in_ok-files.files.files ≡ (recovered (row_words told) (files_of was)).files =
+    row_tells_at row (λ told. c.in_ok-files.files.files ≡ (recovered (row_words told) (files_of was)).files) told now (c.in_ok-files.ensures.files was are) in
     record {
       rows = rows;
       listing = row_tells_at row (λ told. IsListing (row_words told) rows) told now listed;
