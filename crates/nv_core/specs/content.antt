@@ -4,6 +4,7 @@ pub mod PagesAfter
 pub mod StorePages
 pub mod Legal
 pub mod Lengths
+pub mod Positions
 pub mod ValidBuffers
 pub mod PatchedPages
 pub mod PatchedReads

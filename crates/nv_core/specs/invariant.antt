@@ -26,3 +26,4 @@ pub mod GoingBack
 pub mod Shapes
 pub mod Draws
 pub mod LaterHistories
+pub mod Knowing

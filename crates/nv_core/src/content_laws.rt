@@ -1,7 +1,9 @@
 //! Laws of what the files have.
 ghost use Rattle.nv_core.specs.content.Content.{EventsKeepContent, OpeningHasContent, RunsKeepContent};
 ghost use Rattle.nv_core.specs.content.PatchedPages.{PagesArePatched};
+ghost use Rattle.nv_core.specs.content.Positions.{PositionsAreKnown, PositionsFollowTheHistory};
 
+use crate::invariant_laws::runs_are_sound;
 use crate::laws_below::{files_follow_calls, parts_follow_calls};
 
 /// The content of files is right at opening, every event keeps it, and so it is right after every run: the history is legal, and
@@ -23,4 +25,15 @@ pub fn pages_are_patched()
     ensures { PagesArePatched }
 {
     files_follow_calls();
+}
+
+/// After every run from the opening each POS is the position of its descriptor after the history, but between a call's place and
+/// its `setpos`, while this call holds POSLOCK. So what a call finds at POS, and at LENGTH before it, are the position and the length
+/// after the history that it knows then, whether it fits there or not.
+pub fn positions_follow_the_history()
+    ensures runs { PositionsFollowTheHistory }
+    ensures known { PositionsAreKnown }
+{
+    files_follow_calls();
+    runs_are_sound();
 }

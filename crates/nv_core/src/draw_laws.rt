@@ -1,5 +1,6 @@
 //! Laws of how far HEAD and ORDER come.
-ghost use Rattle.nv_core.specs.invariant.Draws.{DrawsGrow, EventsCountDraws, HeadsAreBounded, IdlePassesHaveDrawn, OnlyOwnEventsDraw, RunsCountDraws, UnmadeHaveDrawnNothing};
+ghost use Rattle.nv_core.specs.invariant.Draws.{DrawsGrow, EventsCountDraws, HeadsAreBounded, IdlePassesHaveDrawn, OnlyOwnEventsDraw, PlacedDrawsAreOfCalls, RunsCountDraws, UnmadeHaveDrawnNothing};
+ghost use Rattle.nv_core.specs.invariant.Knowing.{LoadsUnderLocksAreKnown, NewcomersKnow};
 ghost use Rattle.nv_core.specs.invariant.LaterHistories.{HistoriesGoOn};
 
 use crate::invariant_laws::runs_are_sound;
@@ -16,6 +17,7 @@ pub fn heads_count_draws()
     ensures grow { DrawsGrow }
     ensures own { OnlyOwnEventsDraw }
     ensures bound { HeadsAreBounded }
+    ensures placed { PlacedDrawsAreOfCalls }
 {
     runs_are_sound();
 }
@@ -23,6 +25,15 @@ pub fn heads_count_draws()
 /// A history is a first part of each later one, and so an ORDER that a pass finds is at most the length of any later history.
 pub fn histories_go_on()
     ensures { HistoriesGoOn }
+{
+    runs_are_sound();
+}
+
+/// At a load of POS, or of LENGTH under SIZE, a pass knows the history of that moment, which begins with what it has seen, and with what
+/// it knew before. A new pass knows what it has seen.
+pub fn loads_under_locks_are_known()
+    ensures loads { LoadsUnderLocksAreKnown }
+    ensures newcomers { NewcomersKnow }
 {
     runs_are_sound();
 }

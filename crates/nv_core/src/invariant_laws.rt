@@ -5,7 +5,7 @@ ghost use Rattle.nv_core.specs.walks.BatchWalks.{BatchIsWalked};
 ghost use Rattle.nv_core.specs.invariant.Flights.{FlightsAreNumbered, InFlightCommute, NoEntryAboveInFlight, NoTwoInFlightOfALength, NoTwoInFlightOfAPage};
 ghost use Rattle.nv_core.specs.invariant.GoingBack.{CallsHoldNothingBroken};
 ghost use Rattle.nv_core.specs.content.Lengths.{LengthsFollowTheHistory};
-ghost use Rattle.nv_core.specs.invariant.ForbiddenSteps.{NoPlaceBeforeTheFence, NoPageBeforeThePlace, StoppedAfterAFault, NoLeaderBeforeAFollower, NoGrowthBeforeThePlace, NoTwoWritesOfAPage, NoStopWithoutAFault, NoSeizureOfAHeldEntry, NoHoldOfAnUnreadyEntry, NoEntryHeldTwice, NoOtherCleanup, NoVictimOfTheCall, NoDrawPastTheEnd, NoDirtyAboveTheLog, WritesInFlightCommute, NoBreakBeforeStop, NoBrokenBeforeStop, NoBatchPastItsBound, GroupsArePassedByTheBound};
+ghost use Rattle.nv_core.specs.invariant.ForbiddenSteps.{NoPlaceBeforeTheFence, NoPageBeforeThePlace, StoppedAfterAFault, NoLeaderBeforeAFollower, NoGrowthBeforeThePlace, NoPositionBeforeThePlace, NoPositionOfNamedCalls, NoTwoWritesOfAPage, NoStopWithoutAFault, NoSeizureOfAHeldEntry, NoHoldOfAnUnreadyEntry, NoEntryHeldTwice, NoOtherCleanup, NoVictimOfTheCall, NoDrawPastTheEnd, NoDirtyAboveTheLog, WritesInFlightCommute, NoBreakBeforeStop, NoBrokenBeforeStop, NoBatchPastItsBound, GroupsArePassedByTheBound};
 ghost use Rattle.nv_core.specs.state.Spares.{SparesKeepSteps, SparesTell};
 ghost use Rattle.nv_core.specs.walks.Walks.{WalkBegins, FirstPageIsWord30, OpeningWordsByHand, ReadIsWalked, WriteIsWalked, FaultIsWalked, SearchIsWalked, TriesAreWalked};
 ghost use Rattle.nv_core.specs.state.Words.{PlacesDiffer};
@@ -35,6 +35,8 @@ pub fn no_sound_state_allows()
     ensures fault { StoppedAfterAFault }
     ensures leader { NoLeaderBeforeAFollower }
     ensures growth { NoGrowthBeforeThePlace }
+    ensures position { NoPositionBeforeThePlace }
+    ensures named_position { NoPositionOfNamedCalls }
     ensures writes { NoTwoWritesOfAPage }
     ensures apart { WritesInFlightCommute }
     ensures breaks { NoBreakBeforeStop }

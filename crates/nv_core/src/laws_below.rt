@@ -5,7 +5,8 @@ ghost use Rattle.nv_core.specs.log.LogLaws.{LogLaws};
 use nv_entry::groups_follow_steps;
 use nv_header::the_tail_follows_steps;
 use nv_plain::{
-    calls_are_made_right, history_goes_on, write_is_its_pieces, write_leaves_its_bytes,
+    calls_are_made_right, calls_move_positions, history_goes_on, write_is_its_pieces,
+    write_leaves_its_bytes,
 };
 use nv_pmem::{images_follow_calls, loads_follow_calls};
 
@@ -17,6 +18,7 @@ pub(crate) fn files_follow_calls()
     write_is_its_pieces();
     history_goes_on();
     calls_are_made_right();
+    calls_move_positions();
 }
 
 /// Of those of parts, of the header's tail and of groups: what images have at each moment of their device calls.

@@ -14,11 +14,11 @@ mod log_laws;
 mod order_laws;
 mod shape_laws;
 
-pub use content_laws::{pages_are_patched, runs_keep_content};
+pub use content_laws::{pages_are_patched, positions_follow_the_history, runs_keep_content};
 pub use crash_laws::{
     crashes_leave_whole_writes, empty_logs_rest, images_by_hand, regions_at_rest_open,
 };
-pub use draw_laws::{heads_count_draws, histories_go_on};
+pub use draw_laws::{heads_count_draws, histories_go_on, loads_under_locks_are_known};
 pub use fitting_laws::{held_pieces_fit, ready_pieces_fit};
 pub use frame_laws::passes_are_left_alone;
 pub use invariant_laws::{

@@ -1,6 +1,6 @@
 //! Laws of the order of steps.
 ghost use Rattle.nv_core.specs.steps.OrderLaws.{NextStepsMayCome, NoStepBesideADeviceCall, NoTwoSteps, StepsAreNext};
-ghost use Rattle.nv_core.specs.steps.Refusals.{BatchesAreExact, LastTakenFirst, LengthsAreExact, LoadsAreKept, RefusalsAreExact, SearchesEnd};
+ghost use Rattle.nv_core.specs.steps.Refusals.{BatchesAreExact, LastTakenFirst, LengthsAreExact, LoadsAreKept, MisfitsAreExact, RefusalsAreExact, SearchesEnd};
 ghost use Rattle.nv_core.specs.walks.ShortWalks.{ShortWalks};
 
 /// The order of steps is one table, of the step that is next by where a pass stands. It is the same as the order by the kinds of step: a
@@ -13,13 +13,16 @@ pub fn steps_follow_one_table()
     ensures alone { NoStepBesideADeviceCall }
 {}
 
-/// The numbers that the order of steps goes by. A call is refused exactly where a lock is shut that is no victim's, where STOP is set, where
+/// The numbers that the order of steps goes by. A call is refused exactly where a lock is shut that is no victim's, where it doesn't fit at its
+/// descriptor's position, as a seek that leads before its file's start or above its limit, as a read or a write that passes the limit, or that
+/// touches more pages than a group or the log holds; where STOP is set, where
 /// ORDER or the numbers to be drawn come past 2^60, where the log has no room for them, by HEAD and TAIL as loaded, or where HEAD is
 /// another one at the draw. Then, and after a fault, what was taken last is given back first. SIZE is taken, and a file grows, exactly where
 /// the call reaches past LENGTH as loaded. A search makes two tries for each buffer, and no more. A cleaner passes its first group, and
 /// further ones as far as its batch has entries.
 pub fn refusals_go_by_their_numbers()
     ensures refusals { RefusalsAreExact }
+    ensures misfits { MisfitsAreExact }
     ensures loads { LoadsAreKept }
     ensures back { LastTakenFirst }
     ensures lengths { LengthsAreExact }

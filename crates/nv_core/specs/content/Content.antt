@@ -11,6 +11,7 @@ use Rattle.nv_core.specs.invariant.Sound.{Sound}
 use Rattle.nv_core.specs.content.StorePages.{HasFiles}
 use Rattle.nv_core.specs.content.Legal.{Legal}
 use Rattle.nv_core.specs.content.Lengths.{Lengths}
+use Rattle.nv_core.specs.content.Positions.{Positions}
 use Rattle.nv_core.specs.content.ValidBuffers.{ValidBuffers}
 use Rattle.nv_core.specs.log.Groups.{Log, log_after}
 use Rattle.nv_core.specs.content.PatchedReads.{PatchedReads}
@@ -21,6 +22,7 @@ use Rattle.nv_core.specs.log.LogContent.{LogContent, OpensLog, log_after_run}
 pub record Content (sizes : Sizes) (opening : Files) (log : Log) (core : Core) : Type 0 where
   pub legal : Legal opening core
   pub lengths : Lengths sizes opening core
+  pub positions : Positions sizes opening core
   pub buffers : ValidBuffers sizes opening core
   pub patched : PatchedReads sizes log opening core
 

@@ -1,12 +1,13 @@
 -- Control facts: what is so of a pass by where it stands in the order of steps.
-use Rattle.std.specs.Prelude.{◌≡◌, ◌≢◌, ℕ, zero, suc, ◌+◌, ◌^◌, ◌<◌, ◌≤◌, Bool, true, false, List, [], length}
+use Rattle.std.specs.Prelude.{◌≡◌, ◌≢◌, ℕ, zero, suc, ◌+◌, ◌^◌, ◌<◌, ◌≤◌, Bool, true, false, not, List, [], length}
 use Rattle.nv_header.specs.HeaderSteps.{tail_steps}
+use Rattle.nv_plain.specs.Made.{goes_here}
 use Rattle.nv_plain.specs.declared.call.FileCall.{FileCall}
 use Rattle.nv_core.specs.state.Words.{Sizes, Word}
 use Rattle.nv_core.specs.state.Cleaner.{Batch, CleanerControl, TakeHeader, LoadTail, LoadHead, WriteBack, CleanEntry, SubtractDirty, RefusedReturnEntry, FailedReturnEntry, RefusedGiveCleanup, SyncStores, MoveHeaderTail, FreeEntry, AdvanceTail, GiveStores, SetStop}
 use Rattle.nv_core.specs.state.Cleaner as cleaner
 use Rattle.nv_core.specs.steps.ControlSteps.{exceeds}
-use Rattle.nv_core.specs.state.Passes.{Control, Idle, TakePage, TakeSize, VisitPage, TakeCleanup, TakeStore, ReadStore, GiveStore, Search, TakeVictim, GiveVictim, Searching, ReadLoadHead, ReadLoadTail, LoadEntry, HoldEntry, ReadPiece, ReturnEntry, GiveCleanup, WriteLoadHead, WriteLoadTail, DrawNumbers, SeizeEntry, CommitGroup, PledgePage, ReadyEntry, GrowLength, GiveSize, GivePage, GiveBack, SetStopAfterRead, SetStopAfterPiece, SetStopAfterCommit, BreakEntry, Pass, IsAllowed, IsAmong, is_read, is_write, page_count, first_page, end_page, nth_of, first_pages, pages_of, Cleaning}
+use Rattle.nv_core.specs.state.Passes.{Control, Idle, TakePosition, TakeEnd, LoadEnd, LoadPosition, TakePage, TakeSize, VisitPage, TakeCleanup, TakeStore, ReadStore, GiveStore, Search, TakeVictim, GiveVictim, Searching, ReadLoadHead, ReadLoadTail, LoadEntry, HoldEntry, ReadPiece, ReturnEntry, GiveCleanup, WriteLoadHead, WriteLoadTail, DrawNumbers, SeizeEntry, CommitGroup, PledgePage, ReadyEntry, SetPosition, GrowLength, GiveSize, GivePage, GivePosition, GiveBack, SetStopAfterRead, SetStopAfterPiece, SetStopAfterCommit, BreakEntry, Pass, IsAllowed, MayBeAsked, IsAmong, is_read, is_write, needs_end, page_count, first_page, end_page, nth_of, first_pages, pages_of, Cleaning}
 use Rattle.nv_core.specs.invariant.CleanerOwnership.{count_in}
 
 -- a page of a call
@@ -65,10 +66,20 @@ CleanerFactsAt batch owned (SetStop held) = held ≤ length batch.pages
 CleanerFactsAt batch owned cleaner.GiveBack = owned ≢ []
 CleanerFactsAt batch owned inner = Unit {0}
 
+-- its call goes by a position
+abbrev pub GoesHere : Pass → Type 0
+GoesHere pass = goes_here pass.asked ≡ true
+
 -- what it needs to stand where it does
 abbrev pub FactsAt : Sizes → Pass → Control → Type 0
-FactsAt sizes pass (TakePage page) = IsPage sizes pass.call page × (pass.sized ≡ false)
+FactsAt sizes pass TakePosition = GoesHere pass × (pass.sized ≡ false)
+FactsAt sizes pass TakeEnd = GoesHere pass × (needs_end pass.asked ≡ true) × (pass.sized ≡ false)
+FactsAt sizes pass LoadEnd = GoesHere pass × (needs_end pass.asked ≡ true) × (pass.sized ≡ true)
+FactsAt sizes pass LoadPosition = GoesHere pass × (pass.sized ≡ needs_end pass.asked)
+FactsAt sizes pass (TakePage page) = IsPage sizes pass.call page × (pass.sized ≡ needs_end pass.asked)
 FactsAt sizes pass TakeSize = pass.sized ≡ false
+FactsAt sizes pass SetPosition = GoesHere pass
+FactsAt sizes pass GivePosition = GoesHere pass
 FactsAt sizes pass (VisitPage page) = (is_read pass.call ≡ true) × (first_page sizes pass.call ≤ page)
 FactsAt sizes pass (TakeCleanup page) = ReadsPage sizes pass page
 FactsAt sizes pass (TakeStore page dirty) = ReadsPage sizes pass page
@@ -104,6 +115,10 @@ FactsAt sizes pass control = Unit {0}
 abbrev pub PagesAt : Sizes → Pass → Control → Type 0
 PagesAt sizes pass Idle = Unit {0}
 PagesAt sizes pass (Cleaning batch inner) = Unit {0}
+PagesAt sizes pass TakePosition = pass.pages ≡ []
+PagesAt sizes pass TakeEnd = pass.pages ≡ []
+PagesAt sizes pass LoadEnd = pass.pages ≡ []
+PagesAt sizes pass LoadPosition = pass.pages ≡ []
 PagesAt sizes pass (TakePage page) = pass.pages ≡ first_pages sizes pass.call (nth_of sizes pass.call page)
 PagesAt sizes pass GiveBack = (count : ℕ) × (count ≤ page_count sizes pass.call) × (pass.pages ≡ first_pages sizes pass.call count)
 PagesAt sizes pass control = pass.pages ≡ pages_of sizes pass.call
@@ -114,8 +129,19 @@ has_call Idle = false
 has_call (Cleaning batch inner) = false
 has_call control = true
 
--- A pass stands so, with these pages, and its call, if it has one, is one that may be begun.
+-- Whether its call has its place in its file: a call that goes by a position has it from its load of POS on. One that goes back may have been
+-- refused there.
+abbrev pub has_place : Pass → Control → Bool
+has_place pass TakePosition = false
+has_place pass TakeEnd = false
+has_place pass LoadEnd = false
+has_place pass LoadPosition = false
+has_place pass GiveBack = not (goes_here pass.asked)
+has_place pass control = has_call control
+
+-- A pass stands so, with these pages. Its call, if it has one, is one that may be asked for, and once it has its place, one that is allowed.
 pub record ControlFacts (sizes : Sizes) (pass : Pass) : Type 0 where
   pub at : FactsAt sizes pass pass.control
   pub pages : PagesAt sizes pass pass.control
-  pub allowed : has_call pass.control ≡ true → IsAllowed sizes pass.call
+  pub asked : has_call pass.control ≡ true → MayBeAsked sizes pass.asked
+  pub allowed : has_place pass pass.control ≡ true → IsAllowed sizes pass.call

@@ -1,6 +1,7 @@
 -- Draws: how many numbers of the log each pass has drawn. HEAD counts them, whatever the devices tell.
 use Rattle.std.specs.Prelude.{◌≡◌, ℕ, ◌+◌, ◌<◌, ◌≤◌, ◌==◌, if◌then◌else◌, List, [], ◌∷◌, ◌++◌, length}
 use Rattle.nv_plain.specs.Histories.{Answered}
+use Rattle.nv_plain.specs.Made.{NameOffsets}
 use Rattle.nv_plain.specs.Pieces.{pages_touched}
 use Rattle.nv_plain.specs.declared.call.FileCall.{FileCall}
 use Rattle.nv_plain.specs.declared.call.FileCall.TheVariants.{Write}
@@ -20,7 +21,7 @@ abbrev pub entries_of : Sizes → FileCall → ℕ
 entries_of sizes (Write file at bytes) = pages_touched at (length bytes) sizes.page
 entries_of sizes call = 0
 
--- the entries of the calls that have their place
+-- the entries of some calls that go by no position
 abbrev pub placed_entries : Sizes → List Answered → ℕ
 placed_entries sizes [] = 0
 placed_entries sizes (answered ∷ rest) = entries_of sizes (plain_call answered.call) + placed_entries sizes rest
@@ -42,7 +43,7 @@ open_entries sizes call control = 0
 
 -- what a pass has drawn
 abbrev pub drawn_of : Sizes → Pass → ℕ
-drawn_of sizes pass = placed_entries sizes pass.mine + faulted_entries sizes pass.faulted + open_entries sizes pass.call pass.control
+drawn_of sizes pass = pass.placed + faulted_entries sizes pass.faulted + open_entries sizes pass.call pass.control
 
 -- what all passes have drawn
 abbrev pub drawn_by_all : Sizes → Core → ℕ
@@ -74,6 +75,13 @@ abbrev pub RunsCountDraws : Type 0
 RunsCountDraws =
     (mount : Mount) (run : List Event)
     → IsMount mount → IsRun mount.sizes (opening mount) run → CountsDraws mount.sizes mount.next (after_run mount.sizes (opening mount) run)
+
+-- A pass whose own calls go by no position has drawn for them what these ask for: it is known from the calls alone.
+abbrev pub PlacedDrawsAreOfCalls : Type 0
+PlacedDrawsAreOfCalls =
+    (mount : Mount) (number : ℕ) (run : List Event)
+    → IsMount mount → IsRun mount.sizes (opening mount) run → NameOffsets ((after_run mount.sizes (opening mount) run).passes number).mine
+    → ((after_run mount.sizes (opening mount) run).passes number).placed ≡ placed_entries mount.sizes ((after_run mount.sizes (opening mount) run).passes number).mine
 
 -- ---- draws only grow
 

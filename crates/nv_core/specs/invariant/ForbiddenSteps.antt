@@ -1,12 +1,13 @@
 -- Forbidden steps: those that no sound state allows, and what a step that is allowed has before it.
-use Rattle.std.specs.Prelude.{◌≡◌, ◌≢◌, ◌⊎◌, ◌↔◌, ℕ, ◌+◌, ◌≤◌, List, [], true}
+use Rattle.std.specs.Prelude.{◌≡◌, ◌≢◌, ◌⊎◌, ◌↔◌, ℕ, ◌+◌, ◌≤◌, List, [], true, false}
+use Rattle.nv_plain.specs.Made.{goes_here}
 use Rattle.nv_plain.specs.declared.call.Reply.{Reply}
 use Rattle.nv_core.specs.state.Words.{Sizes, Word, STOP, HEAD, TAIL, ENTRY, CLEANUP, DIRTY, free, ready, kind_of, broken, slot_of_entry}
 use Rattle.nv_core.specs.state.Cleaner.{Batch, CleanerControl}
 use Rattle.nv_core.specs.state.Cleaner as cleaner
 use Rattle.nv_core.specs.steps.CleanerSteps.{after_cleaner_op, surveyed, batch_with_page, count_of}
 use Rattle.nv_core.specs.state.Passes.{Control, Cleaning, TakeVictim, GiveVictim, Searching, SeizeEntry, CommitGroup, PledgePage, ReadyEntry, TakePlace, SetStopAfterCommit, Pass, IsHeldEntry, times, is_write}
-use Rattle.nv_core.specs.steps.Ops.{Give, Place, Stop, Draw, Seize, Ready, Grow, Hold, Break}
+use Rattle.nv_core.specs.steps.Ops.{Give, Place, Stop, Draw, Seize, Ready, Settle, Grow, Hold, Break}
 use Rattle.nv_core.specs.steps.Order.{Values, Enabled}
 use Rattle.nv_core.specs.state.Core.{Core, after_step}
 use Rattle.nv_core.specs.crash.CommutingWrites.{Commute}
@@ -56,6 +57,15 @@ NoLeaderBeforeAFollower =
 -- A length grows after its write has its place.
 abbrev pub NoGrowthBeforeThePlace : Type 0
 NoGrowthBeforeThePlace = (sizes : Sizes) (values : Values) (pass : Pass) → IsInFlight pass.control → Enabled sizes values pass Grow → ⊥
+
+-- A position moves after its call has its place, and only by a call that goes by it.
+abbrev pub NoPositionBeforeThePlace : Type 0
+NoPositionBeforeThePlace = (sizes : Sizes) (values : Values) (pass : Pass) → IsInFlight pass.control → Enabled sizes values pass Settle → ⊥
+
+abbrev pub NoPositionOfNamedCalls : Type 0
+NoPositionOfNamedCalls =
+    (sizes : Sizes) (first : Values) (core : Core) (by : ℕ)
+    → Sound sizes first core → goes_here (core.passes by).asked ≡ false → Enabled sizes core.values (core.passes by) Settle → ⊥
 
 -- No page has two writes in flight.
 abbrev pub NoTwoWritesOfAPage : Type 0

@@ -29,10 +29,12 @@ abbrev pub open_count : (made : ℕ) → (ℕ → Pass) → ℕ
 open_count made passes = total (made + 1) (λ number. open_calls (passes number))
 
 -- ORDER is the number of placed calls, and stays small with those that may still take a place. What a pass has seen is the first part of
--- the history, some pass has seen all of it, and a pass's own calls are its calls of the history in their order.
+-- the history, some pass has seen all of it, and a pass's own calls are its calls of the history in their order. What a pass knows is a first part
+-- of the history too.
 pub record OneHistory (core : Core) : Type 0 where
   pub order : core.words ORDER ≡ length core.history
   pub few : core.words ORDER + open_count core.made core.passes ≤ 2 ^ 60 + core.made
   pub seen : (number : ℕ) → IsPrefix (core.passes number).seen core.history
+  pub known : (number : ℕ) → IsPrefix (core.passes number).known core.history
   pub whole : (number : ℕ) × (number ≤ core.made) × ((core.passes number).seen ≡ core.history)
   pub mine : (number : ℕ) → (core.passes number).mine ≡ calls_by number core.history

@@ -1,7 +1,8 @@
 -- Ownership: which cells a pass owns, by where it stands.
 use Rattle.std.specs.Prelude.{◌≡◌, ◌≢◌, ℕ, ◌+◌, ◌==◌, ◌&&◌, nat_le, nat_lt, Bool, if◌then◌else◌, drop, List}
-use Rattle.nv_core.specs.state.Words.{Sizes, Word, SIZE, STORE, ENTRY, PAGE, CLEANUP, CLEANER, HEADER, slot_of_entry}
-use Rattle.nv_core.specs.state.Passes.{Control, Idle, TakeStore, ReadStore, GiveStore, Search, GiveVictim, Searching, ReadLoadHead, ReadLoadTail, LoadEntry, HoldEntry, ReadPiece, ReturnEntry, GiveCleanup, GivePage, GiveBack, SetStopAfterRead, SetStopAfterPiece, Pass, IsFilling, IsHeldEntry, file_of, nth_of, times, Cleaning, page_named}
+use Rattle.nv_plain.specs.Made.{goes_here}
+use Rattle.nv_core.specs.state.Words.{Sizes, Word, SIZE, STORE, ENTRY, PAGE, CLEANUP, CLEANER, HEADER, POSLOCK, slot_of_entry}
+use Rattle.nv_core.specs.state.Passes.{Control, Idle, TakePosition, TakeStore, ReadStore, GiveStore, Search, GiveVictim, Searching, ReadLoadHead, ReadLoadTail, LoadEntry, HoldEntry, ReadPiece, ReturnEntry, GiveCleanup, GivePage, GivePosition, GiveBack, SetStopAfterRead, SetStopAfterPiece, Pass, IsFilling, IsHeldEntry, file_of, fd_of, nth_of, times, Cleaning, page_named}
 use Rattle.nv_core.specs.state.Cleaner as cleaner
 use Rattle.nv_core.specs.invariant.CleanerOwnership.{count_in, of_cleaner_header, of_cleaner_store, of_cleaner_cleanup}
 
@@ -22,6 +23,7 @@ with_victim search page own = own
 abbrev pub page_held : Sizes → Pass → Control → (page : ℕ) → ℕ
 page_held sizes pass Idle page = 0
 page_held sizes pass (Cleaning batch inner) page = 0
+page_held sizes pass GivePosition page = 0
 page_held sizes pass (GivePage next) page = count_in (drop (nth_of sizes pass.call next) pass.pages) page
 page_held sizes pass (Searching missed tries search) page = with_victim search page (count_in pass.pages page)
 page_held sizes pass control page = count_in pass.pages page
@@ -31,7 +33,15 @@ abbrev pub size_held : Pass → Control → ℕ
 size_held pass Idle = 0
 size_held pass (Cleaning batch inner) = 0
 size_held pass (GivePage next) = 0
+size_held pass GivePosition = 0
 size_held pass control = one_if pass.sized
+
+-- POSLOCK of a call that goes by a position, from its take to the end
+abbrev pub position_held : Pass → Control → ℕ
+position_held pass Idle = 0
+position_held pass (Cleaning batch inner) = 0
+position_held pass TakePosition = 0
+position_held pass control = one_if (goes_here pass.asked)
 
 -- STORE while it reads it
 abbrev pub store_held : Control → ℕ
@@ -79,6 +89,7 @@ lock_held sizes pass control (STORE file) = store_times pass control file
 lock_held sizes pass control CLEANER = cleaner_held control
 lock_held sizes pass control HEADER = header_held control
 lock_held sizes pass control (CLEANUP page) = cleanup_held pass.pages control page
+lock_held sizes pass control (POSLOCK fd) = if fd == fd_of pass.asked then position_held pass control else 0
 lock_held sizes pass control cell = 0
 
 -- its locks are those, but for a call on its way out, which gives them back one by one

@@ -106,9 +106,22 @@ with_seen pass other = record pass {
   seen = longer pass.seen other.seen;
 }
 
--- a pass that has no call yet
+-- a pass that has no call yet; what it knows is what it has seen
 abbrev pub fresh : Pass → Pass
-fresh pass = record pass { control = Idle; owned = []; pages = []; sized = false; first = 0; entries = 0; fetched = []; faulted = []; mine = []; left = [] }
+fresh pass = record pass {
+  control = Idle;
+  owned = [];
+  pages = [];
+  sized = false;
+  first = 0;
+  entries = 0;
+  fetched = [];
+  faulted = [];
+  known = pass.seen;
+  mine = [];
+  placed = 0;
+  left = [];
+}
 
 abbrev pub newcomer : Core → Pass
 newcomer core = fresh (fold (λ pass number. with_seen pass (core.passes number)) (core.passes 0) core.ended)

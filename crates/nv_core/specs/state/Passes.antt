@@ -1,13 +1,16 @@
 -- Passes: a thread's view, its call at hand, and where in the order of steps it stands.
-use Rattle.std.specs.Prelude.{◌≡◌, ◌⊎◌, ℕ, ◌+◌, ◌-◌, ◌*◌, ◌/◌, ◌<◌, ◌≤◌, ◌==◌, nat_lt, min, Bool, true, false, if◌then◌else◌, List, [], ◌∷◌, length, slice_index}
+use Rattle.std.specs.Prelude.{◌≡◌, ◌⊎◌, ℕ, ◌+◌, ◌-◌, ◌*◌, ◌/◌, ◌<◌, ◌≤◌, ◌==◌, nat_lt, nat_le, min, Bool, true, false, ◌&&◌, if◌then◌else◌, List, [], ◌∷◌, length, slice_index, pos, int_le, unsigned_abs}
 use Rattle.std.specs.List.{range_with_len}
-pub use Rattle.nv_plain.specs.Calls.{file_of}
+pub use Rattle.nv_plain.specs.Calls.{file_of, fd_of}
+use Rattle.nv_plain.specs.Positions.{seek_to}
 use Rattle.nv_plain.specs.Histories.{Answered}
 use Rattle.nv_plain.specs.Layouts.{mount_layout}
-use Rattle.nv_plain.specs.Made.{made_at}
+use Rattle.nv_plain.specs.Made.{goes_here, made_at}
 use Rattle.nv_plain.specs.Pieces.{pages_touched}
 use Rattle.nv_plain.specs.declared.call.FileCall.{FileCall}
-use Rattle.nv_plain.specs.declared.call.FileCall.TheVariants.{Read, Write, ReadHere, WriteHere, Seek}
+use Rattle.nv_plain.specs.declared.call.FileCall.TheVariants.{Read, Write, WriteHere, Seek}
+use Rattle.nv_plain.specs.declared.seek.Whence.{Whence}
+use Rattle.nv_plain.specs.declared.seek.Whence.TheVariants.{End}
 use Rattle.nv_core.specs.state.Words.{Sizes, Word, same}
 use Rattle.nv_core.specs.state.Cleaner.{Batch, CleanerControl, WriteBack, CleanEntry, RefusedReturnEntry, FailedReturnEntry, SetStop}
 use Rattle.nv_core.specs.state.Cleaner as cleaner
@@ -26,6 +29,11 @@ pub data Search : Type 0 where
 pub data Control : Type 0 where
   -- no call is open
   Idle : Control
+  -- a call that goes by its descriptor's position, before all that: POSLOCK; for an append, or a seek from the end, SIZE and LENGTH; POS
+  TakePosition : Control
+  TakeEnd : Control
+  LoadEnd : Control
+  LoadPosition : Control
   -- every call: the PAGE of this page, LENGTH, SIZE, STOP, ORDER
   TakePage : (page : ℕ) → Control
   LoadLength : Control
@@ -57,11 +65,13 @@ pub data Control : Type 0 where
   CommitGroup : (calls : ℕ) → Control
   PledgePage : (page : ℕ) → Control
   ReadyEntry : (number : ℕ) → Control
-  -- the place in the history, the new length, and what is given back: SIZE, the pages
+  -- the place in the history, the new position, the new length, and what is given back: SIZE, the pages, POSLOCK
   TakePlace : Control
+  SetPosition : Control
   GrowLength : Control
   GiveSize : Control
   GivePage : (page : ℕ) → Control
+  GivePosition : Control
   -- a refusal gives back in the reverse order of taking; a fault first sets STOP, and breaks the entries of a write, or returns the one
   -- whose piece was read
   GiveBack : Control
@@ -85,6 +95,9 @@ pub record Pass : Type 0 where
   -- what was asked, and the plain call that it is made as: the history has the first; pages, entries and bytes are those of the second
   pub asked : FileCall
   pub call : FileCall
+  -- POS as it loaded it in this call, and LENGTH as it loaded it before POS: what a call that goes by a position is made by
+  pub position : ℕ
+  pub end : ℕ
   pub owned : List Word
   -- the pages of its call that it has taken, in their order
   pub pages : List ℕ
@@ -103,9 +116,12 @@ pub record Pass : Type 0 where
   pub fetched : List (ℕ × List ℕ)
   -- the calls that ended by a fault
   pub faulted : List Fault
-  -- the history as it last saw it, and its own calls
+  -- the history as it last saw it, the one that was at its last load of POS or LENGTH under its own lock, and its own calls
   pub seen : List Answered
+  pub known : List Answered
   pub mine : List Answered
+  -- how many numbers it drew for the calls of its own that have their place
+  pub placed : ℕ
   -- what it has put back of what its cells keep, on its way into pass 0, or, as pass 0, when the mount is closed
   pub left : List Word
 
@@ -118,27 +134,27 @@ abbrev pub fetched_bytes : List (ℕ × List ℕ) → (page : ℕ) → List ℕ
 fetched_bytes [] page = []
 fetched_bytes (one ∷ rest) page = if one.0 == page then one.1 else fetched_bytes rest page
 
--- whether a call names its bytes itself, and goes by no position
-abbrev pub is_named : FileCall → Bool
-is_named (ReadHere fd file len) = false
-is_named (WriteHere fd file append bytes) = false
-is_named (Seek fd file seek) = false
-is_named call = true
-
--- The plain call that a call is made as, where it names its bytes: it is known when the call begins, since it is the same whatever the
--- positions are, and the lengths. A call that goes by a position stays as it is, and no pass begins it so far.
+-- The plain call that a call is made as before its pass has loaded anything: that of a call that goes by no position stays so.
 abbrev pub plain_call : FileCall → FileCall
-plain_call (ReadHere fd file len) = ReadHere fd file len
-plain_call (WriteHere fd file append bytes) = WriteHere fd file append bytes
-plain_call (Seek fd file seek) = Seek fd file seek
 plain_call call = made_at call 0 0
+
+abbrev pub is_end : Whence → Bool
+is_end End = true
+is_end whence = false
+
+-- whether a call needs its file's end to know its place: an append, and a seek from the end
+abbrev pub needs_end : FileCall → Bool
+needs_end (WriteHere fd file append bytes) = append && nat_lt 0 (length bytes)
+needs_end (Seek fd file seek) = is_end seek.whence
+needs_end call = false
 
 -- ---- a call's place among the pages: that of a plain one, since a pass makes no others
 
--- its offset
+-- its offset; of a seek, where it leads
 abbrev pub at_of : FileCall → ℕ
 at_of (Read file at len) = at
 at_of (Write file at bytes) = at
+at_of (Seek fd file seek) = unsigned_abs seek.by
 at_of _ = 0
 
 -- how many bytes it asks for
@@ -155,6 +171,11 @@ is_write _ = false
 abbrev pub is_read : FileCall → Bool
 is_read (Read file at len) = nat_lt 0 len
 is_read _ = false
+
+-- whether it is a seek
+abbrev pub is_seek : FileCall → Bool
+is_seek (Seek fd file seek) = true
+is_seek call = false
 
 -- how many pages it touches
 abbrev pub page_count : Sizes → FileCall → ℕ
@@ -196,15 +217,37 @@ abbrev pub AreBytes : FileCall → Type 0
 AreBytes (Write file at bytes) = (i : ℕ) → slice_index bytes i < 256
 AreBytes call = Unit {0}
 
--- A call that is not refused before its first step: it is a plain one, which names its bytes, its file is there, it lies in the file's pages, the
--- log could hold it, and what it writes are bytes.
+-- A call that is not refused before its first step of a page: it is a plain one, its file is there, it lies in the file's pages, the log could
+-- hold it, and what it writes are bytes.
 pub record IsAllowed (sizes : Sizes) (call : FileCall) : Type 0 where
   pub plain : plain_call call ≡ call
-  pub named : is_named call ≡ true
   pub known : file_of call < sizes.files
   pub near : at_of call + len_of call ≤ sizes.page * sizes.pages
   pub short : page_count sizes call ≤ min mount_layout.group_limit sizes.entries
   pub bytes : AreBytes call
+
+-- A call that may be asked for: its file is there, and its descriptor, where it goes by a position; what it writes are bytes; and where it goes
+-- by none it is allowed as it is made.
+pub record MayBeAsked (sizes : Sizes) (call : FileCall) : Type 0 where
+  pub known : file_of call < sizes.files
+  pub descriptor : goes_here call ≡ true → fd_of call < sizes.descriptors
+  pub bytes : AreBytes (plain_call call)
+  pub named : goes_here call ≡ false → IsAllowed sizes (plain_call call)
+
+-- ---- a call at its place
+
+-- Whether a call that goes by a position lies in its file's pages, where its descriptor and its file's end are so: a seek, where it leads.
+abbrev pub is_near_here : Sizes → FileCall → (position end : ℕ) → Bool
+is_near_here sizes (Seek fd file seek) position end =
+    int_le (pos 0) (seek_to seek position end) && int_le (seek_to seek position end) (pos (sizes.page * sizes.pages))
+is_near_here sizes call position end = nat_le (at_of (made_at call position end) + len_of (made_at call position end)) (sizes.page * sizes.pages)
+
+-- and whether the log could hold it there
+abbrev pub is_short_here : Sizes → FileCall → (position end : ℕ) → Bool
+is_short_here sizes call position end = nat_le (page_count sizes (made_at call position end)) (min mount_layout.group_limit sizes.entries)
+
+abbrev pub fits_here : Sizes → FileCall → (position end : ℕ) → Bool
+fits_here sizes call position end = is_near_here sizes call position end && is_short_here sizes call position end
 
 -- ---- owned cells
 

@@ -1,15 +1,16 @@
 -- Words: the shared words by name, and where each of them stands.
 use Rattle.std.specs.Prelude.{◌≡◌, ℕ, ◌+◌, ◌*◌, ◌/◌, ◌%◌, ◌<◌, ◌==◌, ◌&&◌, nat_le, Bool, true, false, if◌then◌else◌}
 
--- The sizes of a mount: bytes of a page, files, pages of a file, entries of the log, and buffers.
+-- The sizes of a mount: bytes of a page, files, pages of a file, entries of the log, buffers, and descriptors.
 pub record Sizes : Type 0 where
   pub page : ℕ
   pub files : ℕ
   pub pages : ℕ
   pub entries : ℕ
   pub buffers : ℕ
+  pub descriptors : ℕ
 
--- A shared word. Those that end the line of a family are counted: a file's, an entry's, a hint's, a page's.
+-- A shared word. Those that end the line of a family are counted: a file's, an entry's, a hint's, a page's, a descriptor's.
 pub data Word : Type 0 where
   STOP : Word
   ORDER : Word
@@ -26,6 +27,8 @@ pub data Word : Type 0 where
   PAGE : (page : ℕ) → Word
   CLEANUP : (page : ℕ) → Word
   DIRTY : (page : ℕ) → Word
+  POSLOCK : (fd : ℕ) → Word
+  POS : (fd : ℕ) → Word
 
 -- which family a word is of
 abbrev pub family : Word → ℕ
@@ -44,6 +47,8 @@ family (HINT buffer) = 11
 family (PAGE page) = 12
 family (CLEANUP page) = 13
 family (DIRTY page) = 14
+family (POSLOCK fd) = 15
+family (POS fd) = 16
 
 -- and which one of them it is
 abbrev pub index : Word → ℕ
@@ -55,6 +60,8 @@ index (HINT buffer) = buffer
 index (PAGE page) = page
 index (CLEANUP page) = page
 index (DIRTY page) = page
+index (POSLOCK fd) = fd
+index (POS fd) = fd
 index _ = 0
 
 -- whether two words are one
@@ -69,7 +76,12 @@ page_total sizes = sizes.files * sizes.pages
 abbrev pub first_page_word : Sizes → ℕ
 first_page_word sizes = 7 + 3 * sizes.files + sizes.entries + sizes.buffers
 
--- Where a word stands: seven single ones, three for each file, one for each entry and each buffer, and three for each page.
+-- and of the first descriptor
+abbrev pub first_position_word : Sizes → ℕ
+first_position_word sizes = first_page_word sizes + 3 * page_total sizes
+
+-- Where a word stands: seven single ones, three for each file, one for each entry and each buffer, three for each page, and two for each
+-- descriptor.
 abbrev pub place : Sizes → Word → ℕ
 place sizes STOP = 0
 place sizes ORDER = 1
@@ -86,6 +98,8 @@ place sizes (HINT buffer) = 7 + 3 * sizes.files + sizes.entries + buffer
 place sizes (PAGE page) = first_page_word sizes + 3 * page
 place sizes (CLEANUP page) = first_page_word sizes + 3 * page + 1
 place sizes (DIRTY page) = first_page_word sizes + 3 * page + 2
+place sizes (POSLOCK fd) = first_position_word sizes + 2 * fd
+place sizes (POS fd) = first_position_word sizes + 2 * fd + 1
 
 -- a word that a mount of these sizes has
 abbrev pub IsWord : Sizes → Word → Type 0
@@ -97,6 +111,8 @@ IsWord sizes (HINT buffer) = buffer < sizes.buffers
 IsWord sizes (PAGE page) = page < page_total sizes
 IsWord sizes (CLEANUP page) = page < page_total sizes
 IsWord sizes (DIRTY page) = page < page_total sizes
+IsWord sizes (POSLOCK fd) = fd < sizes.descriptors
+IsWord sizes (POS fd) = fd < sizes.descriptors
 IsWord sizes _ = Unit {0}
 
 -- Words of a mount that stand at one place are one.
@@ -157,6 +173,7 @@ is_lock (SIZE file) = true
 is_lock (STORE file) = true
 is_lock (PAGE page) = true
 is_lock (CLEANUP page) = true
+is_lock (POSLOCK fd) = true
 is_lock _ = false
 
 -- whether a cell keeps something, as a lock of its own right does not

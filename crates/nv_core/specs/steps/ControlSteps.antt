@@ -1,9 +1,10 @@
 -- Control states: where a pass stands after a step of each kind.
 use Rattle.std.specs.Prelude.{ℕ, ◌+◌, ◌%◌, ◌^◌, ◌==◌, nat_lt, nat_le, Bool, true, false, not, ◌&&◌, if◌then◌else◌, List, [], ◌∷◌}
+use Rattle.nv_plain.specs.Made.{goes_here, made_at}
 use Rattle.nv_plain.specs.declared.call.FileCall.{FileCall}
-use Rattle.nv_core.specs.state.Words.{Sizes, Word, STOP, ORDER, HEAD, TAIL, LENGTH, SIZE, STORE, ENTRY, HINT, PAGE, CLEANUP, DIRTY, ready, is_entry_of, slot_of_entry}
-use Rattle.nv_core.specs.state.Passes.{Control, Idle, TakePage, LoadLength, TakeSize, LoadStop, LoadOrder, VisitPage, TakeCleanup, Search, LoadHint, TakeVictim, GiveVictim, VictimGiven, NotFound, HintSet, Searching, TakeStore, ReadStore, GiveStore, ReadLoadHead, ReadLoadTail, LoadEntry, HoldEntry, ReadPiece, ReturnEntry, GiveCleanup, WriteLoadHead, WriteLoadTail, DrawNumbers, SeizeEntry, CommitGroup, PledgePage, ReadyEntry, TakePlace, GrowLength, GiveSize, GivePage, GiveBack, SetStopAfterPiece, SetStopAfterCommit, BreakEntry, Pass, at_of, len_of, is_write, is_read, page_count, first_page, end_page, without, Cleaning}
-use Rattle.nv_core.specs.steps.Ops.{Op, Load, Take, Give, Place, Stop, Draw, Seize, Pledge, Ready, Grow, Break, Turn, Hint, Hold, Return, moved, cleaner_move, ByCleaner}
+use Rattle.nv_core.specs.state.Words.{Sizes, Word, STOP, ORDER, HEAD, TAIL, LENGTH, SIZE, STORE, ENTRY, HINT, PAGE, CLEANUP, DIRTY, POSLOCK, POS, ready, is_entry_of, slot_of_entry}
+use Rattle.nv_core.specs.state.Passes.{Control, Idle, TakePosition, TakeEnd, LoadEnd, LoadPosition, TakePage, LoadLength, TakeSize, LoadStop, LoadOrder, VisitPage, TakeCleanup, Search, LoadHint, TakeVictim, GiveVictim, VictimGiven, NotFound, HintSet, Searching, TakeStore, ReadStore, GiveStore, ReadLoadHead, ReadLoadTail, LoadEntry, HoldEntry, ReadPiece, ReturnEntry, GiveCleanup, WriteLoadHead, WriteLoadTail, DrawNumbers, SeizeEntry, CommitGroup, PledgePage, ReadyEntry, TakePlace, SetPosition, GrowLength, GiveSize, GivePage, GivePosition, GiveBack, SetStopAfterPiece, SetStopAfterCommit, BreakEntry, Pass, at_of, len_of, is_write, is_read, needs_end, fits_here, page_count, first_page, end_page, without, Cleaning}
+use Rattle.nv_core.specs.steps.Ops.{Op, Load, Take, Give, Place, Stop, Draw, Seize, Pledge, Ready, Settle, Grow, Break, Turn, Hint, Hold, Return, moved, cleaner_move, ByCleaner}
 use Rattle.nv_core.specs.invariant.CleanerOwnership.{count_in}
 use Rattle.nv_core.specs.state.Cleaner.{CleanerOp, TakeCleaner, TakeHeader}
 use Rattle.nv_core.specs.steps.CleanerSteps.{new_batch, after_cleaner_op}
@@ -13,42 +14,54 @@ abbrev pub IsSo : Bool → Type 0
 IsSo true = Unit {0}
 IsSo false = ⊥
 
--- How far a pass is in its call. No call is open, or one goes back; it is at its pages; at LENGTH; at STOP; at ORDER; from there to its place in
--- the history; at its new length; at what it gives back then.
+-- How far a pass is in its call. No call is open, or one goes back; it is at its position; at its pages; at LENGTH; at STOP; at ORDER; from there
+-- to its place in the history; at its new position; at its new length; at what it gives back then.
 abbrev pub out_of_call : ℕ
 out_of_call = 0
 
+abbrev pub at_position : ℕ
+at_position = 1
+
 abbrev pub at_pages : ℕ
-at_pages = 1
+at_pages = 2
 
 abbrev pub at_length : ℕ
-at_length = 2
+at_length = 3
 
 abbrev pub at_stop : ℕ
-at_stop = 3
+at_stop = 4
 
 abbrev pub at_order : ℕ
-at_order = 4
+at_order = 5
 
 abbrev pub before_place : ℕ
-before_place = 5
+before_place = 6
+
+abbrev pub at_settling : ℕ
+at_settling = 7
 
 abbrev pub at_growth : ℕ
-at_growth = 6
+at_growth = 8
 
 abbrev pub at_end : ℕ
-at_end = 7
+at_end = 9
 
 abbrev pub phase : Control → ℕ
 phase Idle = out_of_call
+phase TakePosition = at_position
+phase TakeEnd = at_position
+phase LoadEnd = at_position
+phase LoadPosition = at_position
 phase (TakePage page) = at_pages
 phase LoadLength = at_length
 phase TakeSize = at_length
 phase LoadStop = at_stop
 phase LoadOrder = at_order
+phase SetPosition = at_settling
 phase GrowLength = at_growth
 phase GiveSize = at_end
 phase (GivePage page) = at_end
+phase GivePosition = at_end
 phase GiveBack = out_of_call
 phase (BreakEntry number) = out_of_call
 phase (ReturnEntry page number true) = out_of_call
@@ -64,20 +77,45 @@ abbrev pub leaving : List Word → Control
 leaving [] = Idle
 leaving (cell ∷ rest) = GiveBack
 
--- a call that has its place gives back SIZE, and then the pages
-abbrev pub giving : Sizes → FileCall → Control
-giving sizes call = if page_count sizes call == 0 then Idle else GivePage (first_page sizes call)
-
-abbrev pub ending : Sizes → Pass → Control
-ending sizes pass = if pass.sized then GiveSize else giving sizes pass.call
-
 -- a call of at least one byte reaches past a length
 abbrev pub exceeds : Pass → (len : ℕ) → Bool
 exceeds pass len = nat_lt 0 (len_of pass.call) && nat_lt len (at_of pass.call + len_of pass.call)
 
+-- a call that has its place gives back SIZE, then the pages, and POSLOCK last
+abbrev pub closing : FileCall → Control
+closing asked = if goes_here asked then GivePosition else Idle
+
+abbrev pub giving : Sizes → Pass → Control
+giving sizes pass = if page_count sizes pass.call == 0 then closing pass.asked else GivePage (first_page sizes pass.call)
+
+abbrev pub ending : Sizes → Pass → Control
+ending sizes pass = if pass.sized then GiveSize else giving sizes pass
+
+-- a write that extends its file sets LENGTH first
+abbrev pub settled : Sizes → Pass → Control
+settled sizes pass = if is_write pass.call && exceeds pass pass.length then GrowLength else ending sizes pass
+
 -- where a call begins: at its first page, or at STOP where it has none
 abbrev pub first_control : Sizes → FileCall → Control
 first_control sizes call = if page_count sizes call == 0 then LoadStop else TakePage (first_page sizes call)
+
+-- after POS: a seek goes on with STOP, a read or a write with its pages, and a call that doesn't fit at its place goes back
+abbrev pub positioned : Sizes → Pass → (found : ℕ) → Control
+positioned sizes pass found =
+    if fits_here sizes pass.asked found pass.end then first_control sizes (made_at pass.asked found pass.end) else leaving pass.owned
+
+-- after POSLOCK: the end of the file, where it is needed
+abbrev pub locked : FileCall → Control
+locked asked = if needs_end asked then TakeEnd else LoadPosition
+
+-- after SIZE, and after LENGTH, in these turns and behind the pages
+abbrev pub after_size : Control → Control
+after_size TakeEnd = LoadEnd
+after_size control = LoadLength
+
+abbrev pub after_length : Pass → (found : ℕ) → Control → Control
+after_length pass found LoadEnd = LoadPosition
+after_length pass found control = if exceeds pass found && not pass.sized then TakeSize else LoadStop
 
 -- after ORDER: a write goes on with HEAD, a read with its first page
 abbrev pub ordered : Sizes → FileCall → Control
@@ -109,7 +147,8 @@ hinted pages buffer victim (Searching page tries search) = Searching page tries 
 hinted pages buffer victim control = control
 
 abbrev pub after_load : Sizes → Pass → Word → (found : ℕ) → Control
-after_load sizes pass (LENGTH file) found = if exceeds pass found && not pass.sized then TakeSize else LoadStop
+after_load sizes pass (LENGTH file) found = after_length pass found pass.control
+after_load sizes pass (POS fd) found = positioned sizes pass found
 after_load sizes pass STOP found = if found == 0 then LoadOrder else leaving pass.owned
 after_load sizes pass ORDER found = if nat_lt found (2 ^ 60) then ordered sizes pass.call else leaving pass.owned
 after_load sizes pass HEAD found = after_head sizes pass found pass.control
@@ -138,7 +177,8 @@ after_page sizes call page control = if page + 1 == end_page sizes call then Loa
 -- what follows a lock that was taken
 abbrev pub after_take : Sizes → Pass → Word → Control
 after_take sizes pass (PAGE page) = after_page sizes pass.call page pass.control
-after_take sizes pass (SIZE file) = LoadLength
+after_take sizes pass (SIZE file) = after_size pass.control
+after_take sizes pass (POSLOCK fd) = locked pass.asked
 after_take sizes pass (STORE file) = copying pass.control
 after_take sizes pass (CLEANUP page) = TakeStore page true
 after_take sizes pass word = pass.control
@@ -151,8 +191,9 @@ refused owned cell control = leaving owned
 -- what a call that gives back stands at next
 abbrev pub after_give : Sizes → Pass → Word → Control → Control
 after_give sizes pass cell GiveBack = leaving (without cell pass.owned)
-after_give sizes pass cell GiveSize = giving sizes pass.call
-after_give sizes pass cell (GivePage page) = if page + 1 == end_page sizes pass.call then Idle else GivePage (page + 1)
+after_give sizes pass cell GiveSize = giving sizes pass
+after_give sizes pass cell (GivePage page) = if page + 1 == end_page sizes pass.call then closing pass.asked else GivePage (page + 1)
+after_give sizes pass cell GivePosition = Idle
 after_give sizes pass cell (GiveStore page dirty) = if dirty then ReadLoadHead page else VisitPage (page + 1)
 after_give sizes pass cell (GiveCleanup page) = VisitPage (page + 1)
 after_give sizes pass cell (Searching page tries search) = Searching page tries (pursued search)
@@ -190,7 +231,7 @@ abbrev pub control_after : Sizes → Pass → Op → (found : ℕ) → Control
 control_after sizes pass (Load word) found = after_load sizes pass word found
 control_after sizes pass (Take cell) found = if found == 0 then after_take sizes pass cell else refused pass.owned cell pass.control
 control_after sizes pass (Give cell) found = after_give sizes pass cell pass.control
-control_after sizes pass (Place reply) found = if is_write pass.call && exceeds pass pass.length then GrowLength else ending sizes pass
+control_after sizes pass (Place reply) found = if goes_here pass.asked then SetPosition else settled sizes pass
 control_after sizes pass Stop found = after_stop pass pass.control
 control_after sizes pass Draw found = if found == pass.head then SeizeEntry found else leaving pass.owned
 control_after sizes pass (Seize number) found = if number + 1 == pass.first + pass.entries then CommitGroup 0 else SeizeEntry (number + 1)
@@ -198,6 +239,7 @@ control_after sizes pass (Pledge page) found =
     if page + 1 == end_page sizes pass.call then ReadyEntry (if pass.entries == 1 then pass.first else pass.first + 1) else PledgePage (page + 1)
 control_after sizes pass (Ready number) found =
     if number == pass.first then TakePlace else ReadyEntry (if number + 1 == pass.first + pass.entries then pass.first else number + 1)
+control_after sizes pass Settle found = settled sizes pass
 control_after sizes pass Grow found = ending sizes pass
 control_after sizes pass (Break number) found =
     if number + 1 == pass.first + pass.entries then leaving (without (ENTRY (slot_of_entry sizes number)) pass.owned) else BreakEntry (number + 1)

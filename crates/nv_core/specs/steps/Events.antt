@@ -2,7 +2,7 @@
 use Rattle.std.specs.Prelude.{◌≡◌, ◌≢◌, ℕ, ◌≤◌, ◌==◌, true, List, [], ◌∷◌, filter}
 use Rattle.nv_plain.specs.declared.call.FileCall.{FileCall}
 use Rattle.nv_core.specs.state.Words.{Sizes, Word, keeps_something}
-use Rattle.nv_core.specs.state.Passes.{IsOneOf, Idle, Pass, IsAllowed, plain_call, times}
+use Rattle.nv_core.specs.state.Passes.{IsOneOf, Idle, Pass, MayBeAsked, times}
 use Rattle.nv_core.specs.steps.Ops.{Op, Split, PutBack, Join, word_of}
 use Rattle.nv_core.specs.steps.Order.{Work, Enabled, CallEnabled}
 use Rattle.nv_core.specs.state.Core.{Core, after_step, after_work, after_begin}
@@ -44,10 +44,10 @@ pub record FoundEnabled (sizes : Sizes) (by : ℕ) (core : Core) (op : Op) (foun
   pub may : StepEnabled sizes by core op
   pub is : core.words (word_of sizes (core.passes by) op) ≡ found
 
--- a pass with no call at hand may begin one, where what it is made as may be
+-- a pass with no call at hand may begin one that may be asked for
 pub record CallMayBegin (sizes : Sizes) (call : FileCall) (pass : Pass) : Type 0 where
   pub idle : pass.control ≡ Idle
-  pub allowed : IsAllowed sizes (plain_call call)
+  pub asked : MayBeAsked sizes call
 
 -- an act may come
 abbrev pub ActEnabled : Sizes → (by : ℕ) → Core → Act → Type 0

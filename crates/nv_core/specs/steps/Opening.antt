@@ -15,7 +15,7 @@ pub record Mount : Type 0 where
   pub lengths : ℕ → ℕ
   pub values : Values
 
--- the words at opening: HEAD and TAIL are the next number, the lengths are the stores', hint j is of page j, and all others are 0
+-- the words at opening: HEAD and TAIL are the next number, the lengths are the stores', hint j is of page j, and all others are 0, the positions too
 abbrev pub opening_word : Mount → Word → ℕ
 opening_word mount HEAD = mount.next
 opening_word mount TAIL = mount.next
@@ -29,6 +29,8 @@ opening_pass mount = record {
   control = Idle;
   asked = Sync 0;
   call = Sync 0;
+  position = 0;
+  end = 0;
   owned = [];
   pages = [];
   sized = false;
@@ -41,7 +43,9 @@ opening_pass mount = record {
   fetched = [];
   faulted = [];
   seen = [];
+  known = [];
   mine = [];
+  placed = 0;
   left = [];
 }
 

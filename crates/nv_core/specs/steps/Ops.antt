@@ -5,12 +5,12 @@ use Rattle.nv_plain.specs.Pieces.{piece_of, piece_bytes}
 use Rattle.nv_plain.specs.declared.call.FileCall.{FileCall}
 use Rattle.nv_plain.specs.declared.call.FileCall.TheVariants.{Write}
 use Rattle.nv_plain.specs.declared.call.Reply.{Reply}
-use Rattle.nv_core.specs.state.Words.{Sizes, Word, STOP, ORDER, HEAD, HAND, LENGTH, ENTRY, HINT, DIRTY, filling, ready, broken, entry_word, CLEANER, slot_of_entry}
+use Rattle.nv_core.specs.state.Words.{Sizes, Word, STOP, ORDER, HEAD, HAND, LENGTH, ENTRY, HINT, DIRTY, POS, filling, ready, broken, entry_word, CLEANER, slot_of_entry}
 use Rattle.nv_core.specs.state.Values.{Value, patched}
 use Rattle.nv_core.specs.state.Cleaner.{CleanerOp, TakeCleaner, Clean}
 use Rattle.nv_core.specs.state.Cleaner as cleaner
 use Rattle.nv_core.specs.steps.CleanerSteps.{cleaner_word, cleaner_value}
-use Rattle.nv_core.specs.state.Passes.{Pass, file_of, at_of, len_of, page_count, first_page, without}
+use Rattle.nv_core.specs.state.Passes.{Pass, file_of, fd_of, at_of, len_of, covered, page_count, first_page, without}
 
 -- A kind of step with what it is made on. An entry is named by its number, a page by its number of all pages.
 pub data Op : Type 0 where
@@ -32,6 +32,8 @@ pub data Op : Type 0 where
   Pledge : (page : ℕ) → Op
   -- the entry is ready, and its part is back
   Ready : (number : ℕ) → Op
+  -- POS is behind the bytes that the call read or wrote, or where its seek leads: the kind `setpos`
+  Settle : Op
   -- LENGTH is the end of the write
   Grow : Op
   -- the entry is broken, and its part is back
@@ -67,6 +69,7 @@ word_of sizes pass Draw = HEAD
 word_of sizes pass (Seize number) = ENTRY (slot_of_entry sizes number)
 word_of sizes pass (Pledge page) = DIRTY page
 word_of sizes pass (Ready number) = ENTRY (slot_of_entry sizes number)
+word_of sizes pass Settle = POS (fd_of pass.asked)
 word_of sizes pass Grow = LENGTH (file_of pass.call)
 word_of sizes pass (Break number) = ENTRY (slot_of_entry sizes number)
 word_of sizes pass (ByCleaner cleaner_op) = cleaner_word sizes cleaner_op
@@ -80,6 +83,10 @@ word_of sizes pass op = STOP
 abbrev pub ready_word : Sizes → Pass → (number : ℕ) → ℕ
 ready_word sizes pass number = entry_word ready (if number == pass.first then pass.entries else 0) (page_at sizes pass number)
 
+-- where a call leaves its descriptor: behind the bytes that it has of its file, or wrote, or where its seek leads
+abbrev pub position_left : Pass → ℕ
+position_left pass = at_of pass.call + covered pass.call pass.length
+
 -- the value of that word after the step, where it was found
 abbrev pub value_after : Sizes → Pass → Op → (found : ℕ) → ℕ
 value_after sizes pass (Take word) found = 1
@@ -90,6 +97,7 @@ value_after sizes pass Draw found = if found == pass.head then found + page_coun
 value_after sizes pass (Seize number) found = filling
 value_after sizes pass (Pledge page) found = found + 1
 value_after sizes pass (Ready number) found = ready_word sizes pass number
+value_after sizes pass Settle found = position_left pass
 value_after sizes pass Grow found = at_of pass.call + len_of pass.call
 value_after sizes pass (Break number) found = broken
 value_after sizes pass (ByCleaner cleaner_op) found = cleaner_value cleaner_op found

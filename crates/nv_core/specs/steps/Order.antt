@@ -1,12 +1,12 @@
 -- The order of steps: when a step or a device call of a pass may come.
-use Rattle.std.specs.Prelude.{◌≡◌, ◌⊎◌, ℕ, ◌+◌, ◌-◌, ◌*◌, ◌%◌, ◌<◌, ◌≤◌, ◌==◌, Bool, true, false, if◌then◌else◌, List, [], ◌∷◌, length, slice_index_or, Option, Some, None, option_map, zero, suc, nat_lt, ◌&&◌}
+use Rattle.std.specs.Prelude.{◌≡◌, ◌⊎◌, ℕ, ◌+◌, ◌-◌, ◌*◌, ◌%◌, ◌<◌, ◌≤◌, ◌==◌, Bool, true, false, if◌then◌else◌, List, [], ◌∷◌, length, slice_index_or, Option, Some, None, option_map, zero, suc, nat_lt, ◌&&◌, unsigned_abs}
 use Rattle.std.specs.List.{flat_map, range_with_len}
 use Rattle.nv_plain.specs.Faults.{Rose}
 use Rattle.nv_plain.specs.Files.{bytes_at, padded}
 use Rattle.nv_plain.specs.Images.{entry_of, data_of}
 use Rattle.nv_plain.specs.Pieces.{piece_of}
 use Rattle.nv_plain.specs.declared.call.FileCall.{FileCall}
-use Rattle.nv_plain.specs.declared.call.FileCall.TheVariants.{Read, Write}
+use Rattle.nv_plain.specs.declared.call.FileCall.TheVariants.{Read, Write, Seek}
 use Rattle.nv_plain.specs.declared.call.Reply.{Reply}
 use Rattle.nv_plain.specs.declared.call.Reply.TheVariants.{Bytes, Count, Done}
 use Rattle.nv_pmem.specs.Part.{Part, part_word}
@@ -17,11 +17,11 @@ use Rattle.nv_store.specs.Store.{Store}
 use Rattle.nv_store.specs.Steps.{Write as StoreWrite, after_store_step}
 use Rattle.nv_store.specs.Torn.{IsTorn}
 use Rattle.nv_entry.specs.Group.{group_steps}
-use Rattle.nv_core.specs.state.Words.{Sizes, Word, STOP, ORDER, HEAD, TAIL, LENGTH, SIZE, STORE, ENTRY, HINT, PAGE, CLEANUP, DIRTY, HEADER, slot_of_entry}
+use Rattle.nv_core.specs.state.Words.{Sizes, Word, STOP, ORDER, HEAD, TAIL, LENGTH, SIZE, STORE, ENTRY, HINT, PAGE, CLEANUP, DIRTY, POSLOCK, POS, HEADER, slot_of_entry}
 use Rattle.nv_core.specs.state.Spares.{Spares, room_of_spares}
 use Rattle.nv_core.specs.state.Values.{Value, APart, AStore, Job, PartStep, PageRead, PieceRead, CallEnding, Made, Failed, lacks_buffer, is_valid, bytes_in, PieceWrite, StoreSync, Refused}
-use Rattle.nv_core.specs.state.Passes.{Control, TakePage, LoadLength, TakeSize, LoadStop, LoadOrder, VisitPage, TakeCleanup, TakeStore, ReadStore, GiveStore, Search, LoadHint, TakeVictim, GiveVictim, VictimGiven, Searching, ReadLoadHead, ReadLoadTail, LoadEntry, HoldEntry, ReadPiece, ReturnEntry, GiveCleanup, WriteLoadHead, WriteLoadTail, DrawNumbers, SeizeEntry, CommitGroup, PledgePage, ReadyEntry, TakePlace, GrowLength, GiveSize, GivePage, GiveBack, SetStopAfterRead, SetStopAfterPiece, SetStopAfterCommit, BreakEntry, Pass, file_of, at_of, covered, end_read, first_page, times, Idle, Cleaning}
-use Rattle.nv_core.specs.steps.Ops.{Op, Load, Take, Give, Place, Stop, Draw, Seize, Pledge, Ready, Grow, Break, Turn, Hint, Hold, Return, ByCleaner}
+use Rattle.nv_core.specs.state.Passes.{Control, TakePosition, TakeEnd, LoadEnd, LoadPosition, TakePage, LoadLength, TakeSize, LoadStop, LoadOrder, VisitPage, TakeCleanup, TakeStore, ReadStore, GiveStore, Search, LoadHint, TakeVictim, GiveVictim, VictimGiven, Searching, ReadLoadHead, ReadLoadTail, LoadEntry, HoldEntry, ReadPiece, ReturnEntry, GiveCleanup, WriteLoadHead, WriteLoadTail, DrawNumbers, SeizeEntry, CommitGroup, PledgePage, ReadyEntry, TakePlace, SetPosition, GrowLength, GiveSize, GivePage, GivePosition, GiveBack, SetStopAfterRead, SetStopAfterPiece, SetStopAfterCommit, BreakEntry, Pass, file_of, fd_of, at_of, covered, end_read, first_page, times, Idle, Cleaning}
+use Rattle.nv_core.specs.steps.Ops.{Op, Load, Take, Give, Place, Stop, Draw, Seize, Pledge, Ready, Settle, Grow, Break, Turn, Hint, Hold, Return, ByCleaner}
 use Rattle.nv_header.specs.HeaderSteps.{tail_steps}
 use Rattle.nv_core.specs.state.Cleaner.{Batch, CleanerControl, WriteBack, SyncStores, MoveHeaderTail, TakeCleaner}
 use Rattle.nv_core.specs.state.Cleaner as cleaner
@@ -46,10 +46,11 @@ gathered sizes values pass =
     bytes_at (page_bytes pass.fetched values (first_page sizes pass.call + i)) (piece.at % sizes.page) piece.size)
     (range_with_len 0 (end_read sizes pass.call pass.length - first_page sizes pass.call))
 
--- what a call that reads no page is answered
+-- what a plain call that reads no page is answered
 abbrev pub plain_reply : FileCall → Reply
 plain_reply (Read file at len) = Bytes []
 plain_reply (Write file at bytes) = Count (length bytes)
+plain_reply (Seek fd file seek) = Count (unsigned_abs seek.by)
 plain_reply _ = Done
 
 -- ---- steps
@@ -77,6 +78,7 @@ is_of_calls (SIZE file) = true
 is_of_calls (STORE file) = true
 is_of_calls (PAGE page) = true
 is_of_calls (CLEANUP page) = true
+is_of_calls (POSLOCK fd) = true
 is_of_calls cell = false
 
 abbrev pub give_last : (owned : List Word) → Option Op
@@ -85,6 +87,10 @@ give_last (cell ∷ rest) = if is_of_calls cell then Some (Give cell) else None
 
 -- The step of a pass that stands so; none where a device call is next, or where it is idle.
 abbrev pub step_at : Sizes → Values → Pass → Control → Option Op
+step_at sizes values pass TakePosition = Some (Take (POSLOCK (fd_of pass.asked)))
+step_at sizes values pass TakeEnd = Some (Take (SIZE (file_of pass.call)))
+step_at sizes values pass LoadEnd = Some (Load (LENGTH (file_of pass.call)))
+step_at sizes values pass LoadPosition = Some (Load (POS (fd_of pass.asked)))
 step_at sizes values pass (TakePage page) = Some (Take (PAGE page))
 step_at sizes values pass LoadLength = Some (Load (LENGTH (file_of pass.call)))
 step_at sizes values pass TakeSize = Some (Take (SIZE (file_of pass.call)))
@@ -108,9 +114,11 @@ step_at sizes values pass (SeizeEntry number) = Some (Seize number)
 step_at sizes values pass (PledgePage page) = Some (Pledge page)
 step_at sizes values pass (ReadyEntry number) = Some (Ready number)
 step_at sizes values pass TakePlace = Some (Place (plain_reply pass.call))
+step_at sizes values pass SetPosition = Some Settle
 step_at sizes values pass GrowLength = Some Grow
 step_at sizes values pass GiveSize = Some (Give (SIZE (file_of pass.call)))
 step_at sizes values pass (GivePage page) = Some (Give (PAGE page))
+step_at sizes values pass GivePosition = Some (Give (POSLOCK (fd_of pass.asked)))
 step_at sizes values pass GiveBack = give_last pass.owned
 step_at sizes values pass (SetStopAfterRead page dirty) = Some Stop
 step_at sizes values pass (SetStopAfterPiece page number) = Some Stop

@@ -1,11 +1,11 @@
 -- Pass steps: the pass after a step of each kind, and with a call that it begins.
-use Rattle.std.specs.Prelude.{ℕ, ◌==◌, Bool, true, false, if◌then◌else◌, List, [], ◌∷◌, ◌++◌}
+use Rattle.std.specs.Prelude.{ℕ, ◌+◌, ◌==◌, Bool, true, false, if◌then◌else◌, List, [], ◌∷◌, ◌++◌}
 use Rattle.nv_plain.specs.Histories.{Answered}
-use Rattle.nv_plain.specs.Made.{reply_from}
+use Rattle.nv_plain.specs.Made.{goes_here, made_at, reply_from}
 use Rattle.nv_plain.specs.declared.call.FileCall.{FileCall}
 use Rattle.nv_plain.specs.declared.call.Reply.{Reply}
-use Rattle.nv_core.specs.state.Words.{Sizes, Word, STOP, HEAD, TAIL, LENGTH, SIZE, PAGE}
-use Rattle.nv_core.specs.state.Passes.{Control, TakePage, Fault, Pass, page_count, plain_call}
+use Rattle.nv_core.specs.state.Words.{Sizes, Word, STOP, HEAD, TAIL, LENGTH, SIZE, PAGE, POS}
+use Rattle.nv_core.specs.state.Passes.{Control, TakePosition, LoadEnd, TakePage, Fault, Pass, page_count, plain_call}
 use Rattle.nv_core.specs.state.Cleaner.{MoveTail}
 use Rattle.nv_core.specs.state.Cleaner as cleaner
 use Rattle.nv_core.specs.steps.Ops.{Op, ByCleaner, value_after, move_of, moved, Load, Take, Place, Stop, Draw, PutBack}
@@ -20,6 +20,21 @@ pages_after pass _ found control = pass.pages
 abbrev pub sized_after : Pass → Op → (found : ℕ) → Bool
 sized_after pass (Take (SIZE file)) found = if found == 0 then true else pass.sized
 sized_after pass _ found = pass.sized
+
+-- POS as it loaded it, and LENGTH as it loaded it before
+abbrev pub position_after : Pass → Op → (found : ℕ) → ℕ
+position_after pass (Load (POS fd)) found = found
+position_after pass _ found = pass.position
+
+abbrev pub end_after : Pass → Op → (found : ℕ) → Control → ℕ
+end_after pass (Load (LENGTH file)) found LoadEnd = found
+end_after pass _ found control = pass.end
+
+-- the plain call that it makes: the place of one that goes by a position follows from these two
+abbrev pub call_after : Pass → Op → (found : ℕ) → Control → FileCall
+call_after pass (Load (POS fd)) found control = made_at pass.asked found pass.end
+call_after pass (Load (LENGTH file)) found LoadEnd = made_at pass.asked pass.position found
+call_after pass _ found control = pass.call
 
 -- LENGTH as it loaded it
 abbrev pub length_after : Pass → Op → (found : ℕ) → ℕ
@@ -83,6 +98,17 @@ abbrev pub seen_after : (number : ℕ) → List Answered → Pass → Op → Lis
 seen_after number history pass (Place reply) = history ++ added number pass (Place reply)
 seen_after number history pass _ = pass.seen
 
+-- the one that was at its last load of POS, or of LENGTH under SIZE
+abbrev pub known_after : List Answered → Pass → Op → List Answered
+known_after history pass (Load (POS fd)) = history
+known_after history pass (Load (LENGTH file)) = if pass.sized then history else pass.known
+known_after history pass _ = pass.known
+
+-- how many numbers its placed calls drew
+abbrev pub placed_after : Pass → Op → ℕ
+placed_after pass (Place reply) = pass.placed + pass.entries
+placed_after pass _ = pass.placed
+
 -- and its own calls
 abbrev pub mine_after : (number : ℕ) → Pass → Op → List Answered
 mine_after number pass (Place reply) = pass.mine ++ added number pass (Place reply)
@@ -93,7 +119,9 @@ abbrev pub stepped : Sizes → (number : ℕ) → List Answered → Op → (foun
 stepped sizes number history op found pass = record {
   control = control_after sizes pass op found;
   asked = pass.asked;
-  call = pass.call;
+  call = call_after pass op found pass.control;
+  position = position_after pass op found;
+  end = end_after pass op found pass.control;
   owned = moved (move_of sizes op found) pass.owned;
   pages = pages_after pass op found pass.control;
   sized = sized_after pass op found;
@@ -106,16 +134,20 @@ stepped sizes number history op found pass = record {
   fetched = pass.fetched;
   faulted = faulted_after pass op;
   seen = seen_after number history pass op;
+  known = known_after history pass op;
   mine = mine_after number pass op;
+  placed = placed_after pass op;
   left = left_after pass op;
 }
 
 -- the pass with a call at hand that it begins
 abbrev pub begun : Sizes → FileCall → Pass → Pass
 begun sizes call pass = record pass {
-  control = first_control sizes (plain_call call);
+  control = if goes_here call then TakePosition else first_control sizes (plain_call call);
   asked = call;
   call = plain_call call;
+  position = 0;
+  end = 0;
   pages = [];
   sized = false;
   length = 0;

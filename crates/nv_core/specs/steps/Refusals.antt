@@ -1,15 +1,21 @@
 -- Refusals: by which numbers a call is refused, takes SIZE, grows its file, turns the cache's hand and ends its search, and a batch passes a group.
-use Rattle.std.specs.Prelude.{◌≡◌, ◌≢◌, ◌⊎◌, ℕ, ◌+◌, ◌*◌, ◌%◌, ◌^◌, ◌<◌, ◌≤◌, true, false, List, ◌∷◌}
+use Rattle.std.specs.Prelude.{◌≡◌, ◌≢◌, ◌⊎◌, ℕ, ◌+◌, ◌*◌, ◌%◌, ◌^◌, ◌<◌, ◌≤◌, min, true, false, List, ◌∷◌, pos, ◌<ℤ◌}
 use Rattle.nv_plain.specs.Histories.{Answered}
+use Rattle.nv_plain.specs.Layouts.{mount_layout}
+use Rattle.nv_plain.specs.Made.{goes_here, made_at}
+use Rattle.nv_plain.specs.Positions.{seek_to}
+use Rattle.nv_plain.specs.declared.seek.Seek.{Seek}
+use Rattle.nv_plain.specs.declared.call.FileCall.{FileCall}
+use Rattle.nv_plain.specs.declared.call.FileCall.TheVariants.{Seek as SeekCall}
 use Rattle.nv_plain.specs.declared.call.Reply.{Reply}
-use Rattle.nv_core.specs.state.Words.{Sizes, Word, STOP, ORDER, HEAD, TAIL, LENGTH, PAGE, DIRTY, kind_of, ready}
+use Rattle.nv_core.specs.state.Words.{Sizes, Word, STOP, ORDER, HEAD, TAIL, LENGTH, PAGE, DIRTY, POS, kind_of, ready}
 use Rattle.nv_core.specs.state.Values.{lacks_buffer}
-use Rattle.nv_core.specs.state.Passes.{Control, TakeSize, LoadStop, Searching, LoadHint, WriteLoadHead, WriteLoadTail, GrowLength, GiveBack, Cleaning, Pass, at_of, len_of, is_write, page_count}
+use Rattle.nv_core.specs.state.Passes.{Control, TakeSize, LoadLength, LoadStop, SetPosition, Searching, LoadHint, WriteLoadHead, WriteLoadTail, GrowLength, GiveBack, Cleaning, Pass, at_of, len_of, is_write, is_seek, fits_here, page_count}
 use Rattle.nv_core.specs.state.Cleaner.{Batch}
 use Rattle.nv_core.specs.state.Cleaner as cleaner
 use Rattle.nv_core.specs.steps.CleanerSteps.{count_of, after_cleaner_op, finishing, surveyed, batch_with_page}
 use Rattle.nv_core.specs.steps.Ops.{Op, Load, Take, Give, Place, Draw, Turn, ByCleaner, Comes, moved, value_after}
-use Rattle.nv_core.specs.steps.ControlSteps.{out_of_call, phase, leaving, ending, tries_of, control_after}
+use Rattle.nv_core.specs.steps.ControlSteps.{out_of_call, phase, leaving, ending, settled, tries_of, control_after}
 use Rattle.nv_core.specs.steps.PassSteps.{stepped}
 use Rattle.nv_core.specs.steps.Order.{Values, Enabled}
 
@@ -20,16 +26,35 @@ abbrev pub IsSearching : Control → Type 0
 IsSearching (Searching page tries search) = Unit {0}
 IsSearching control = ⊥
 
--- Why a step refuses its call, by what its word was found at: a lock that is shut and no victim's; STOP set; ORDER, or the numbers that
--- it would draw, past 2^60; no room in the log, from HEAD and TAIL as it loaded them; another number at the draw than HEAD as it loaded it.
+-- Why a step refuses its call, by what its word was found at: a lock that is shut and no victim's; a position at which the call doesn't fit;
+-- STOP set; ORDER, or the numbers that it would draw, past 2^60; no room in the log, from HEAD and TAIL as it loaded them; another number at
+-- the draw than HEAD as it loaded it.
 abbrev pub IsRefusal : Sizes → Pass → Op → (found : ℕ) → Type 0
 IsRefusal sizes pass (Take cell) found = (IsSearching pass.control → ⊥) × (found ≢ 0)
+IsRefusal sizes pass (Load (POS fd)) found = fits_here sizes pass.asked found pass.end ≡ false
 IsRefusal sizes pass (Load STOP) found = found ≢ 0
 IsRefusal sizes pass (Load ORDER) found = 2 ^ 60 ≤ found
 IsRefusal sizes pass (Load HEAD) found = (pass.control ≡ WriteLoadHead) × (2 ^ 60 < found + page_count sizes pass.call)
 IsRefusal sizes pass (Load TAIL) found = (pass.control ≡ WriteLoadTail) × (found + sizes.entries < pass.head + page_count sizes pass.call)
 IsRefusal sizes pass Draw found = found ≢ pass.head
 IsRefusal sizes pass op found = ⊥
+
+-- Why a call doesn't fit at its place: a seek leads before the file's start, or above its limit; a read or a write passes the limit; or it
+-- touches more pages than the log, or a group, holds. A seek that leads nowhere has no place at all, and is none of the other two.
+pub data MisfitsHere (sizes : Sizes) (asked : FileCall) (position end : ℕ) : Type 0 where
+  BadSeek : (fd file : ℕ) (seek : Seek) → asked ≡ SeekCall fd file seek
+      → (seek_to seek position end <ℤ pos 0) ⊎ (pos (sizes.page * sizes.pages) <ℤ seek_to seek position end) → MisfitsHere sizes asked position end
+  FarHere : is_seek asked ≡ false → sizes.page * sizes.pages < at_of (made_at asked position end) + len_of (made_at asked position end)
+      → MisfitsHere sizes asked position end
+  LongHere : is_seek asked ≡ false → at_of (made_at asked position end) + len_of (made_at asked position end) ≤ sizes.page * sizes.pages
+      → min mount_layout.group_limit sizes.entries < page_count sizes (made_at asked position end) → MisfitsHere sizes asked position end
+
+-- That is exactly then.
+abbrev pub MisfitsAreExact : Type 0
+MisfitsAreExact =
+    (sizes : Sizes) (asked : FileCall) (position end : ℕ)
+    → (fits_here sizes asked position end ≡ false → MisfitsHere sizes asked position end)
+    × (MisfitsHere sizes asked position end → fits_here sizes asked position end ≡ false)
 
 -- the steps that a call may be refused by
 abbrev pub IsAsking : Op → Type 0
@@ -74,13 +99,15 @@ pub record LastTakenFirst : Type 0 where
 abbrev pub ReachesPast : Pass → (len : ℕ) → Type 0
 ReachesPast pass len = (0 < len_of pass.call) × (len < at_of pass.call + len_of pass.call)
 
--- A call takes SIZE exactly where it reaches past LENGTH as it finds it, and hasn't taken it; and a write grows its file exactly where it
--- reaches past LENGTH as it loaded it.
+-- A call takes SIZE behind its pages exactly where it reaches past LENGTH as it finds it there, and hasn't taken it; one that goes by a position
+-- sets it, and no other does; and a write grows its file exactly where it reaches past LENGTH as it loaded it.
 pub record GrowsExactly (sizes : Sizes) (pass : Pass) (file found : ℕ) (reply : Reply) : Type 0 where
-  pub sizing : ReachesPast pass found → pass.sized ≡ false → control_after sizes pass (Load (LENGTH file)) found ≡ TakeSize
-  pub enough : (ReachesPast pass found → ⊥) ⊎ (pass.sized ≡ true) → control_after sizes pass (Load (LENGTH file)) found ≡ LoadStop
-  pub growing : is_write pass.call ≡ true → ReachesPast pass pass.length → control_after sizes pass (Place reply) found ≡ GrowLength
-  pub ending : (is_write pass.call ≡ false) ⊎ (ReachesPast pass pass.length → ⊥) → control_after sizes pass (Place reply) found ≡ ending sizes pass
+  pub sizing : pass.control ≡ LoadLength → ReachesPast pass found → pass.sized ≡ false → control_after sizes pass (Load (LENGTH file)) found ≡ TakeSize
+  pub enough : pass.control ≡ LoadLength → (ReachesPast pass found → ⊥) ⊎ (pass.sized ≡ true) → control_after sizes pass (Load (LENGTH file)) found ≡ LoadStop
+  pub settling : goes_here pass.asked ≡ true → control_after sizes pass (Place reply) found ≡ SetPosition
+  pub placed : goes_here pass.asked ≡ false → control_after sizes pass (Place reply) found ≡ settled sizes pass
+  pub growing : is_write pass.call ≡ true → ReachesPast pass pass.length → settled sizes pass ≡ GrowLength
+  pub ending : (is_write pass.call ≡ false) ⊎ (ReachesPast pass pass.length → ⊥) → settled sizes pass ≡ ending sizes pass
 
 abbrev pub LengthsAreExact : Type 0
 LengthsAreExact = (sizes : Sizes) (pass : Pass) (file found : ℕ) (reply : Reply) → GrowsExactly sizes pass file found reply

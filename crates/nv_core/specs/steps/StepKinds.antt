@@ -2,10 +2,10 @@
 use Rattle.std.specs.Prelude.{◌≡◌, ◌⊎◌, ℕ, ◌*◌, ◌<◌, ◌≤◌, Bool, true, false, Some}
 use Rattle.nv_plain.specs.declared.call.Reply.{Reply}
 use Rattle.nv_plain.specs.declared.call.Reply.TheVariants.{Bytes}
-use Rattle.nv_core.specs.state.Words.{Sizes, Word, STOP, ORDER, HEAD, TAIL, LENGTH, SIZE, STORE, ENTRY, HINT, PAGE, CLEANUP, DIRTY, slot_of_entry}
+use Rattle.nv_core.specs.state.Words.{Sizes, Word, STOP, ORDER, HEAD, TAIL, LENGTH, SIZE, STORE, ENTRY, HINT, PAGE, CLEANUP, DIRTY, POSLOCK, POS, slot_of_entry}
 use Rattle.nv_core.specs.state.Values.{Value, lacks_buffer, is_valid}
-use Rattle.nv_core.specs.state.Passes.{Control, TakePage, LoadLength, TakeSize, LoadStop, LoadOrder, VisitPage, TakeCleanup, TakeStore, GiveStore, Search, LoadHint, TakeVictim, GiveVictim, VictimGiven, NotFound, HintSet, Searching, ReadLoadHead, ReadLoadTail, LoadEntry, HoldEntry, ReturnEntry, GiveCleanup, WriteLoadHead, WriteLoadTail, DrawNumbers, SeizeEntry, PledgePage, ReadyEntry, TakePlace, GrowLength, GiveSize, GivePage, GiveBack, BreakEntry, Pass, file_of, end_read, IsLastTaken, Idle, Cleaning}
-use Rattle.nv_core.specs.steps.Ops.{Op, Load, Take, Give, Place, Stop, Draw, Seize, Pledge, Ready, Grow, Break, Turn, Hint, Hold, Return, ByCleaner}
+use Rattle.nv_core.specs.state.Passes.{Control, TakePosition, TakeEnd, LoadEnd, LoadPosition, TakePage, LoadLength, TakeSize, LoadStop, LoadOrder, VisitPage, TakeCleanup, TakeStore, GiveStore, Search, LoadHint, TakeVictim, GiveVictim, VictimGiven, NotFound, HintSet, Searching, ReadLoadHead, ReadLoadTail, LoadEntry, HoldEntry, ReturnEntry, GiveCleanup, WriteLoadHead, WriteLoadTail, DrawNumbers, SeizeEntry, PledgePage, ReadyEntry, TakePlace, SetPosition, GrowLength, GiveSize, GivePage, GivePosition, GiveBack, BreakEntry, Pass, file_of, fd_of, end_read, IsLastTaken, Idle, Cleaning}
+use Rattle.nv_core.specs.steps.Ops.{Op, Load, Take, Give, Place, Stop, Draw, Seize, Pledge, Ready, Settle, Grow, Break, Turn, Hint, Hold, Return, ByCleaner}
 use Rattle.nv_core.specs.state.Cleaner.{CleanerOp, TakeCleaner}
 use Rattle.nv_core.specs.steps.CleanerSteps.{next_cleaner_op}
 use Rattle.nv_core.specs.steps.Order.{Values, gathered, plain_reply, IsFailing}
@@ -77,7 +77,8 @@ pub record MayHint (values : Values) (control : Control) (buffer page : ℕ) : T
 
 -- a word may be loaded
 abbrev pub MayLoad : Sizes → Values → Pass → Word → Type 0
-MayLoad sizes values pass (LENGTH file) = (pass.control ≡ LoadLength) × (file ≡ file_of pass.call)
+MayLoad sizes values pass (LENGTH file) = ((pass.control ≡ LoadLength) ⊎ (pass.control ≡ LoadEnd)) × (file ≡ file_of pass.call)
+MayLoad sizes values pass (POS fd) = (pass.control ≡ LoadPosition) × (fd ≡ fd_of pass.asked)
 MayLoad sizes values pass STOP = pass.control ≡ LoadStop
 MayLoad sizes values pass ORDER = pass.control ≡ LoadOrder
 MayLoad sizes values pass HEAD = (pass.control ≡ WriteLoadHead) ⊎ ((page : ℕ) × (pass.control ≡ ReadLoadHead page))
@@ -90,7 +91,8 @@ MayLoad sizes values pass word = ⊥
 -- a lock may be tried: a page also as a victim
 abbrev pub MayTake : Pass → Word → Type 0
 MayTake pass (PAGE page) = (pass.control ≡ TakePage page) ⊎ IsSeeking pass.control page
-MayTake pass (SIZE file) = (pass.control ≡ TakeSize) × (file ≡ file_of pass.call)
+MayTake pass (SIZE file) = ((pass.control ≡ TakeSize) ⊎ (pass.control ≡ TakeEnd)) × (file ≡ file_of pass.call)
+MayTake pass (POSLOCK fd) = (pass.control ≡ TakePosition) × (fd ≡ fd_of pass.asked)
 MayTake pass (STORE file) = (page : ℕ) × (dirty : Bool) × (pass.control ≡ TakeStore page dirty) × (file ≡ file_of pass.call)
 MayTake pass (CLEANUP page) = pass.control ≡ TakeCleanup page
 MayTake pass word = ⊥
@@ -102,11 +104,13 @@ MayGive pass (SIZE file) GiveSize = file ≡ file_of pass.call
 MayGive pass (PAGE page) (GivePage next) = page ≡ next
 MayGive pass (STORE file) (GiveStore page dirty) = file ≡ file_of pass.call
 MayGive pass (CLEANUP page) (GiveCleanup next) = page ≡ next
+MayGive pass (POSLOCK fd) GivePosition = fd ≡ fd_of pass.asked
 MayGive pass (PAGE page) (Searching missed tries (GiveVictim buffer victim)) = page ≡ victim
 MayGive pass (SIZE file) GiveBack = IsLastTaken (SIZE file) pass.owned
 MayGive pass (PAGE page) GiveBack = IsLastTaken (PAGE page) pass.owned
 MayGive pass (STORE file) GiveBack = IsLastTaken (STORE file) pass.owned
 MayGive pass (CLEANUP page) GiveBack = IsLastTaken (CLEANUP page) pass.owned
+MayGive pass (POSLOCK fd) GiveBack = IsLastTaken (POSLOCK fd) pass.owned
 MayGive pass word control = ⊥
 
 -- a cleaner may make this step: an idle pass may begin a batch, and one that is at its batch makes the step that is next
@@ -126,6 +130,7 @@ EnabledByKind sizes values pass Draw = pass.control ≡ DrawNumbers
 EnabledByKind sizes values pass (Seize number) = pass.control ≡ SeizeEntry number
 EnabledByKind sizes values pass (Pledge page) = pass.control ≡ PledgePage page
 EnabledByKind sizes values pass (Ready number) = pass.control ≡ ReadyEntry number
+EnabledByKind sizes values pass Settle = pass.control ≡ SetPosition
 EnabledByKind sizes values pass Grow = pass.control ≡ GrowLength
 EnabledByKind sizes values pass (Break number) = pass.control ≡ BreakEntry number
 EnabledByKind sizes values pass (ByCleaner cleaner_op) = CleanerEnabled sizes pass cleaner_op pass.control

@@ -22,7 +22,7 @@ use Rattle.nv_core.specs.steps.Opening.{Mount, IsMount, opening}
 
 -- one file of 64 pages of 64 bytes, 16 entries and 4 buffers
 abbrev pub walk_sizes : Sizes
-walk_sizes = record { page = 64; files = 1; pages = 64; entries = 16; buffers = 4 }
+walk_sizes = record { page = 64; files = 1; pages = 64; entries = 16; buffers = 4; descriptors = 1 }
 
 -- what a part of so many lines can take: each line 15 stores
 abbrev pub walk_spares : (lines : ℕ) → Spares

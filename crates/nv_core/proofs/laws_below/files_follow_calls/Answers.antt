@@ -12,4 +12,5 @@ returns c = record {
   made = c.calls_are_made_right.ensures.calls;
   made_histories = c.calls_are_made_right.ensures.histories;
   made_on = c.calls_are_made_right.ensures.goes_on;
+  moves = c.calls_move_positions.ensures.moves;
 }
