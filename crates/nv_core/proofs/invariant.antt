@@ -1,6 +1,7 @@
 -- The invariant: each event keeps each part of it.
 pub mod LockLaws
 pub mod PageLists
+pub mod IndexLaws
 pub mod PageSteps
 pub mod ControlFactLaws
 pub mod ClearLaws

@@ -18,6 +18,7 @@ pub mod FaultedLengths
 pub mod Devices
 pub mod Searches
 pub mod Rooms
+pub mod Index
 pub mod Sound
 pub mod InvariantLaws
 pub mod ForbiddenSteps

@@ -179,11 +179,11 @@ IsUnpatched (ReadyEntry number) = ⊥
 IsUnpatched TakePlace = ⊥
 IsUnpatched control = Unit {0}
 
-pub unpatched : (sizes : Sizes) (call : FileCall) (pages : List ℕ) (control : Control) (page : ℕ) (old : List ℕ) → IsUnpatched control → patched_page sizes call pages control page old ≡ old
-unpatched sizes call pages (PledgePage next) page old un = absurd un
-unpatched sizes call pages (ReadyEntry number) page old un = absurd un
-unpatched sizes call pages TakePlace page old un = absurd un
-unpatched sizes call pages control page old un = refl
+pub unpatched : (sizes : Sizes) (call : FileCall) (pages : List ℕ) (control : Control) (unit page : ℕ) (old : List ℕ) → IsUnpatched control → patched_page sizes call pages control unit page old ≡ old
+unpatched sizes call pages (PledgePage next) unit page old un = absurd un
+unpatched sizes call pages (ReadyEntry number) unit page old un = absurd un
+unpatched sizes call pages TakePlace unit page old un = absurd un
+unpatched sizes call pages control unit page old un = refl
 
 pub giving_back : (control : Control) → IsGivingBack control → IsUnpatched control
 giving_back GiveBack back = tt
@@ -258,92 +258,92 @@ plain_before sizes values pass (Hint buffer page) mild may = hinted_at IsUnpatch
 plain_before sizes values pass (ByCleaner cleaner_op) mild may = tended (λ _ s. IsUnpatched s) sizes pass cleaner_op pass.control may (λ _. tt) (λ _ _ _. tt)
 plain_before sizes values pass op mild may = absurd may
 
-module _ (sizes : Sizes) (values : Values) (pass : Pass) (page : ℕ) (old : List ℕ) where
-  old_leaving : (owned : List Word) → patched_page sizes pass.call pass.pages (leaving owned) page old ≡ old
-  old_leaving owned = leaving_both (λ s. patched_page sizes pass.call pass.pages s page old ≡ old) owned (λ _. refl) (λ _. refl)
+module _ (sizes : Sizes) (values : Values) (pass : Pass) (unit page : ℕ) (old : List ℕ) where
+  old_leaving : (owned : List Word) → patched_page sizes pass.call pass.pages (leaving owned) unit page old ≡ old
+  old_leaving owned = leaving_both (λ s. patched_page sizes pass.call pass.pages s unit page old ≡ old) owned (λ _. refl) (λ _. refl)
 
-  old_giving : patched_page sizes pass.call pass.pages (giving sizes pass.call) page old ≡ old
-  old_giving = if_both (λ s. patched_page sizes pass.call pass.pages s page old ≡ old) (page_count sizes pass.call == 0) Idle (GivePage (first_page sizes pass.call)) (λ _. refl) (λ _. refl)
+  old_giving : patched_page sizes pass.call pass.pages (giving sizes pass.call) unit page old ≡ old
+  old_giving = if_both (λ s. patched_page sizes pass.call pass.pages s unit page old ≡ old) (page_count sizes pass.call == 0) Idle (GivePage (first_page sizes pass.call)) (λ _. refl) (λ _. refl)
 
-  pub old_ending : patched_page sizes pass.call pass.pages (ending sizes pass) page old ≡ old
-  old_ending = if_both (λ s. patched_page sizes pass.call pass.pages s page old ≡ old) pass.sized GiveSize (giving sizes pass.call) (λ _. refl) (λ _. old_giving)
+  pub old_ending : patched_page sizes pass.call pass.pages (ending sizes pass) unit page old ≡ old
+  old_ending = if_both (λ s. patched_page sizes pass.call pass.pages s unit page old ≡ old) pass.sized GiveSize (giving sizes pass.call) (λ _. refl) (λ _. old_giving)
 
-  old_scanning : (next number : ℕ) → patched_page sizes pass.call pass.pages (scanning pass next number) page old ≡ old
-  old_scanning next number = if_both (λ s. patched_page sizes pass.call pass.pages s page old ≡ old) (nat_lt number pass.head) (LoadEntry next number) (GiveCleanup next) (λ _. refl) (λ _. refl)
+  old_scanning : (next number : ℕ) → patched_page sizes pass.call pass.pages (scanning pass next number) unit page old ≡ old
+  old_scanning next number = if_both (λ s. patched_page sizes pass.call pass.pages s unit page old ≡ old) (nat_lt number pass.head) (LoadEntry next number) (GiveCleanup next) (λ _. refl) (λ _. refl)
 
-  old_load : (word : Word) (found : ℕ) → MayLoad sizes values pass word → patched_page sizes pass.call pass.pages (after_load sizes pass word found) page old ≡ old
-  old_load (LENGTH file) found may = if_both (λ s. patched_page sizes pass.call pass.pages s page old ≡ old) (exceeds pass found && not pass.sized) TakeSize LoadStop (λ _. refl) (λ _. refl)
-  old_load STOP found may = if_both (λ s. patched_page sizes pass.call pass.pages s page old ≡ old) (found == 0) LoadOrder (leaving pass.owned) (λ _. refl) (λ _. old_leaving pass.owned)
-  old_load ORDER found may = if_both (λ s. patched_page sizes pass.call pass.pages s page old ≡ old) (nat_lt found (2 ^ 60)) (ordered sizes pass.call) (leaving pass.owned)
-      (λ _. if_both (λ s. patched_page sizes pass.call pass.pages s page old ≡ old) (is_write pass.call) WriteLoadHead (if is_read pass.call then VisitPage (first_page sizes pass.call) else TakePlace) (λ _. refl)
-      (λ other. if_both (λ s. patched_page sizes pass.call pass.pages s page old ≡ old) (is_read pass.call) (VisitPage (first_page sizes pass.call)) TakePlace (λ _. refl) (λ _. own_none sizes pass.call page old other)))
+  old_load : (word : Word) (found : ℕ) → MayLoad sizes values pass word → patched_page sizes pass.call pass.pages (after_load sizes pass word found) unit page old ≡ old
+  old_load (LENGTH file) found may = if_both (λ s. patched_page sizes pass.call pass.pages s unit page old ≡ old) (exceeds pass found && not pass.sized) TakeSize LoadStop (λ _. refl) (λ _. refl)
+  old_load STOP found may = if_both (λ s. patched_page sizes pass.call pass.pages s unit page old ≡ old) (found == 0) LoadOrder (leaving pass.owned) (λ _. refl) (λ _. old_leaving pass.owned)
+  old_load ORDER found may = if_both (λ s. patched_page sizes pass.call pass.pages s unit page old ≡ old) (nat_lt found (2 ^ 60)) (ordered sizes pass.call) (leaving pass.owned)
+      (λ _. if_both (λ s. patched_page sizes pass.call pass.pages s unit page old ≡ old) (is_write pass.call) WriteLoadHead (if is_read pass.call then VisitPage (first_page sizes pass.call) else TakePlace) (λ _. refl)
+      (λ other. if_both (λ s. patched_page sizes pass.call pass.pages s unit page old ≡ old) (is_read pass.call) (VisitPage (first_page sizes pass.call)) TakePlace (λ _. refl) (λ _. own_none sizes pass.call page old other)))
       (λ _. old_leaving pass.owned)
   old_load HEAD found may = elim may [
-    | inl is ↦ subst (λ s. patched_page sizes pass.call pass.pages (after_head sizes pass found s) page old ≡ old) (sym is)
-        (if_both (λ s. patched_page sizes pass.call pass.pages s page old ≡ old) (nat_le (found + page_count sizes pass.call) (2 ^ 60)) WriteLoadTail (leaving pass.owned) (λ _. refl) (λ _. old_leaving pass.owned))
-    | inr is ↦ subst (λ s. patched_page sizes pass.call pass.pages (after_head sizes pass found s) page old ≡ old) (sym is.1) refl
+    | inl is ↦ subst (λ s. patched_page sizes pass.call pass.pages (after_head sizes pass found s) unit page old ≡ old) (sym is)
+        (if_both (λ s. patched_page sizes pass.call pass.pages s unit page old ≡ old) (nat_le (found + page_count sizes pass.call) (2 ^ 60)) WriteLoadTail (leaving pass.owned) (λ _. refl) (λ _. old_leaving pass.owned))
+    | inr is ↦ subst (λ s. patched_page sizes pass.call pass.pages (after_head sizes pass found s) unit page old ≡ old) (sym is.1) refl
   ]
   old_load TAIL found may = elim may [
-    | inl is ↦ subst (λ s. patched_page sizes pass.call pass.pages (after_tail sizes pass found s) page old ≡ old) (sym is)
-        (if_both (λ s. patched_page sizes pass.call pass.pages s page old ≡ old) (nat_le (pass.head + page_count sizes pass.call) (found + sizes.entries)) DrawNumbers (leaving pass.owned) (λ _. refl) (λ _. old_leaving pass.owned))
-    | inr is ↦ subst (λ s. patched_page sizes pass.call pass.pages (after_tail sizes pass found s) page old ≡ old) (sym is.1) (old_scanning is.0 found)
+    | inl is ↦ subst (λ s. patched_page sizes pass.call pass.pages (after_tail sizes pass found s) unit page old ≡ old) (sym is)
+        (if_both (λ s. patched_page sizes pass.call pass.pages s unit page old ≡ old) (nat_le (pass.head + page_count sizes pass.call) (found + sizes.entries)) DrawNumbers (leaving pass.owned) (λ _. refl) (λ _. old_leaving pass.owned))
+    | inr is ↦ subst (λ s. patched_page sizes pass.call pass.pages (after_tail sizes pass found s) unit page old ≡ old) (sym is.1) (old_scanning is.0 found)
   ]
-  old_load (ENTRY slot) found may = subst (λ s. patched_page sizes pass.call pass.pages (after_look pass found s) page old ≡ old) (sym may.2)
-      (if_both (λ s. patched_page sizes pass.call pass.pages s page old ≡ old) (is_entry_of ready may.0 found) (HoldEntry may.0 may.1) (scanning pass may.0 (may.1 + 1)) (λ _. refl) (λ _. old_scanning may.0 (may.1 + 1)))
-  old_load (DIRTY next) found may = if_both (λ s. patched_page sizes pass.call pass.pages s page old ≡ old) (found == 0) (TakeStore next false) (TakeCleanup next) (λ _. refl) (λ _. refl)
-  old_load (HINT buffer) found may = hinting_next (λ s. patched_page sizes pass.call pass.pages s page old ≡ old) sizes pass buffer found may refl
+  old_load (ENTRY slot) found may = subst (λ s. patched_page sizes pass.call pass.pages (after_look pass found s) unit page old ≡ old) (sym may.2)
+      (if_both (λ s. patched_page sizes pass.call pass.pages s unit page old ≡ old) (is_entry_of ready may.0 found) (HoldEntry may.0 may.1) (scanning pass may.0 (may.1 + 1)) (λ _. refl) (λ _. old_scanning may.0 (may.1 + 1)))
+  old_load (DIRTY next) found may = if_both (λ s. patched_page sizes pass.call pass.pages s unit page old ≡ old) (found == 0) (TakeStore next false) (TakeCleanup next) (λ _. refl) (λ _. refl)
+  old_load (HINT buffer) found may = hinting_next (λ s. patched_page sizes pass.call pass.pages s unit page old ≡ old) sizes pass buffer found may refl
   old_load word found may = absurd may
 
-  old_take : (cell : Word) (found : ℕ) → MayTake pass cell → patched_page sizes pass.call (pages_after pass (Take cell) found pass.control) (control_after sizes pass (Take cell) found) page old ≡ old
-  old_take (PAGE next) found may = page_tried (λ s. patched_page sizes pass.call (pages_after pass (Take (PAGE next)) found pass.control) s page old ≡ old) sizes pass next found refl refl
-      (leaving_both (λ s. patched_page sizes pass.call (pages_after pass (Take (PAGE next)) found pass.control) s page old ≡ old) pass.owned (λ _. refl) (λ _. refl)) (λ _ _ _. refl) may
-  old_take (SIZE file) found may = if_both (λ s. patched_page sizes pass.call pass.pages s page old ≡ old) (found == 0) LoadLength (leaving pass.owned) (λ _. refl) (λ _. old_leaving pass.owned)
-  old_take (STORE file) found may = if_both (λ s. patched_page sizes pass.call pass.pages s page old ≡ old) (found == 0) (copying pass.control) (leaving pass.owned)
-      (λ _. subst (λ s. patched_page sizes pass.call pass.pages (copying s) page old ≡ old) (sym may.2) refl) (λ _. old_leaving pass.owned)
-  old_take (CLEANUP next) found may = if_both (λ s. patched_page sizes pass.call pass.pages s page old ≡ old) (found == 0) (TakeStore next true) (leaving pass.owned) (λ _. refl) (λ _. old_leaving pass.owned)
+  old_take : (cell : Word) (found : ℕ) → MayTake pass cell → patched_page sizes pass.call (pages_after pass (Take cell) found pass.control) (control_after sizes pass (Take cell) found) unit page old ≡ old
+  old_take (PAGE next) found may = page_tried (λ s. patched_page sizes pass.call (pages_after pass (Take (PAGE next)) found pass.control) s unit page old ≡ old) sizes pass next found refl refl
+      (leaving_both (λ s. patched_page sizes pass.call (pages_after pass (Take (PAGE next)) found pass.control) s unit page old ≡ old) pass.owned (λ _. refl) (λ _. refl)) (λ _ _ _. refl) may
+  old_take (SIZE file) found may = if_both (λ s. patched_page sizes pass.call pass.pages s unit page old ≡ old) (found == 0) LoadLength (leaving pass.owned) (λ _. refl) (λ _. old_leaving pass.owned)
+  old_take (STORE file) found may = if_both (λ s. patched_page sizes pass.call pass.pages s unit page old ≡ old) (found == 0) (copying pass.control) (leaving pass.owned)
+      (λ _. subst (λ s. patched_page sizes pass.call pass.pages (copying s) unit page old ≡ old) (sym may.2) refl) (λ _. old_leaving pass.owned)
+  old_take (CLEANUP next) found may = if_both (λ s. patched_page sizes pass.call pass.pages s unit page old ≡ old) (found == 0) (TakeStore next true) (leaving pass.owned) (λ _. refl) (λ _. old_leaving pass.owned)
   old_take cell found may = absurd may
 
-  old_give : (cell : Word) (control : Control) → IsGivingBack control → patched_page sizes pass.call pass.pages (after_give sizes pass cell control) page old ≡ old
+  old_give : (cell : Word) (control : Control) → IsGivingBack control → patched_page sizes pass.call pass.pages (after_give sizes pass cell control) unit page old ≡ old
   old_give cell GiveBack back = old_leaving (without cell pass.owned)
   old_give cell GiveSize back = old_giving
-  old_give cell (GivePage next) back = if_both (λ s. patched_page sizes pass.call pass.pages s page old ≡ old) (next + 1 == end_page sizes pass.call) Idle (GivePage (next + 1)) (λ _. refl) (λ _. refl)
-  old_give cell (GiveStore next dirty) back = if_both (λ s. patched_page sizes pass.call pass.pages s page old ≡ old) dirty (ReadLoadHead next) (VisitPage (next + 1)) (λ _. refl) (λ _. refl)
+  old_give cell (GivePage next) back = if_both (λ s. patched_page sizes pass.call pass.pages s unit page old ≡ old) (next + 1 == end_page sizes pass.call) Idle (GivePage (next + 1)) (λ _. refl) (λ _. refl)
+  old_give cell (GiveStore next dirty) back = if_both (λ s. patched_page sizes pass.call pass.pages s unit page old ≡ old) dirty (ReadLoadHead next) (VisitPage (next + 1)) (λ _. refl) (λ _. refl)
   old_give cell (GiveCleanup next) back = refl
   old_give cell (Searching next tries search) back = refl
   old_give cell control back = absurd back
 
-  old_stop : (control : Control) → IsFailing control → patched_page sizes pass.call pass.pages (after_stop pass control) page old ≡ old
+  old_stop : (control : Control) → IsFailing control → patched_page sizes pass.call pass.pages (after_stop pass control) unit page old ≡ old
   old_stop (SetStopAfterRead next dirty) may = old_leaving pass.owned
   old_stop (SetStopAfterPiece next number) may = refl
   old_stop SetStopAfterCommit may = refl
   old_stop control may = absurd may
 
-  pub plain_after : (op : Op) (found : ℕ) → IsMild op → EnabledByKind sizes values pass op → patched_page sizes pass.call (pages_after pass op found pass.control) (control_after sizes pass op found) page old ≡ old
+  pub plain_after : (op : Op) (found : ℕ) → IsMild op → EnabledByKind sizes values pass op → patched_page sizes pass.call (pages_after pass op found pass.control) (control_after sizes pass op found) unit page old ≡ old
   plain_after (Load word) found mild may = old_load word found may
   plain_after (Take cell) found mild may = old_take cell found may
   plain_after (Give cell) found mild may = old_give cell pass.control (gives_back pass cell pass.control may)
   plain_after Stop found mild may = old_stop pass.control may
-  plain_after Draw found mild may = if_both (λ s. patched_page sizes pass.call pass.pages s page old ≡ old) (found == pass.head) (SeizeEntry found) (leaving pass.owned) (λ _. refl) (λ _. old_leaving pass.owned)
-  plain_after (Seize next) found mild may = if_both (λ s. patched_page sizes pass.call pass.pages s page old ≡ old) (next + 1 == pass.first + pass.entries) (CommitGroup 0) (SeizeEntry (next + 1)) (λ _. refl) (λ _. refl)
+  plain_after Draw found mild may = if_both (λ s. patched_page sizes pass.call pass.pages s unit page old ≡ old) (found == pass.head) (SeizeEntry found) (leaving pass.owned) (λ _. refl) (λ _. old_leaving pass.owned)
+  plain_after (Seize next) found mild may = if_both (λ s. patched_page sizes pass.call pass.pages s unit page old ≡ old) (next + 1 == pass.first + pass.entries) (CommitGroup 0) (SeizeEntry (next + 1)) (λ _. refl) (λ _. refl)
   plain_after Grow found mild may = old_ending
-  plain_after (Break next) found mild may = if_both (λ s. patched_page sizes pass.call pass.pages s page old ≡ old) (next + 1 == pass.first + pass.entries) (leaving (without (ENTRY (slot_of_entry sizes next)) pass.owned)) (BreakEntry (next + 1))
+  plain_after (Break next) found mild may = if_both (λ s. patched_page sizes pass.call pass.pages s unit page old ≡ old) (next + 1 == pass.first + pass.entries) (leaving (without (ENTRY (slot_of_entry sizes next)) pass.owned)) (BreakEntry (next + 1))
       (λ _. old_leaving (without (ENTRY (slot_of_entry sizes next)) pass.owned)) (λ _. refl)
-  plain_after (Hold number) found mild may = subst (λ s. patched_page sizes pass.call pass.pages (after_hold s) page old ≡ old) (sym may.1) refl
-  plain_after (Return number) found mild may = subst (λ s. patched_page sizes pass.call pass.pages (after_return sizes pass s) page old ≡ old) (sym may.2)
-      (if_both (λ s. patched_page sizes pass.call pass.pages s page old ≡ old) may.1 (leaving (without (ENTRY (slot_of_entry sizes number)) pass.owned)) (scanning pass may.0 (number + 1)) (λ _. old_leaving (without (ENTRY (slot_of_entry sizes number)) pass.owned)) (λ _. old_scanning may.0 (number + 1)))
+  plain_after (Hold number) found mild may = subst (λ s. patched_page sizes pass.call pass.pages (after_hold s) unit page old ≡ old) (sym may.1) refl
+  plain_after (Return number) found mild may = subst (λ s. patched_page sizes pass.call pass.pages (after_return sizes pass s) unit page old ≡ old) (sym may.2)
+      (if_both (λ s. patched_page sizes pass.call pass.pages s unit page old ≡ old) may.1 (leaving (without (ENTRY (slot_of_entry sizes number)) pass.owned)) (scanning pass may.0 (number + 1)) (λ _. old_leaving (without (ENTRY (slot_of_entry sizes number)) pass.owned)) (λ _. old_scanning may.0 (number + 1)))
   plain_after (Turn next) found mild may = refl
   plain_after (Hint buffer next) found mild may = refl
   plain_after (Place reply) found mild may = absurd mild
   plain_after (Pledge next) found mild may = absurd mild
   plain_after (Ready next) found mild may = absurd mild
-  plain_after (ByCleaner cleaner_op) found mild may = tended_to (λ s. patched_page sizes pass.call pass.pages s page old ≡ old) refl (λ _ _. refl) sizes pass (moved (cleaner_move sizes cleaner_op found) pass.owned) cleaner_op found pass.control may
+  plain_after (ByCleaner cleaner_op) found mild may = tended_to (λ s. patched_page sizes pass.call pass.pages s unit page old ≡ old) refl (λ _ _. refl) sizes pass (moved (cleaner_move sizes cleaner_op found) pass.owned) cleaner_op found pass.control may
   plain_after op found mild may = absurd may
 
   -- a step that neither places nor pledges leaves what is patched
-  pub patch_stays : (op : Op) (found : ℕ) → EnabledByKind sizes values pass op → IsKeeping op → patched_page sizes pass.call (pages_after pass op found pass.control) (control_after sizes pass op found) page old ≡ patched_page sizes pass.call pass.pages pass.control page old
+  pub patch_stays : (op : Op) (found : ℕ) → EnabledByKind sizes values pass op → IsKeeping op → patched_page sizes pass.call (pages_after pass op found pass.control) (control_after sizes pass op found) unit page old ≡ patched_page sizes pass.call pass.pages pass.control unit page old
   patch_stays (Ready next) found may which =
-      if_both (λ s. patched_page sizes pass.call pass.pages s page old ≡ with_own_pieces sizes pass.call page old) (next == pass.first) TakePlace (ReadyEntry (if next + 1 == pass.first + pass.entries then pass.first else next + 1)) (λ _. refl) (λ _. refl)
-      ∙ sym (ap (λ s. patched_page sizes pass.call pass.pages s page old) may)
+      if_both (λ s. patched_page sizes pass.call pass.pages s unit page old ≡ with_own_pieces sizes pass.call page old) (next == pass.first) TakePlace (ReadyEntry (if next + 1 == pass.first + pass.entries then pass.first else next + 1)) (λ _. refl) (λ _. refl)
+      ∙ sym (ap (λ s. patched_page sizes pass.call pass.pages s unit page old) may)
   patch_stays (Place reply) found may which = absurd which
   patch_stays (Pledge next) found may which = absurd which
-  patch_stays op found may which = plain_after op found tt may ∙ sym (unpatched sizes pass.call pass.pages pass.control page old (plain_before sizes values pass op tt may))
+  patch_stays op found may which = plain_after op found tt may ∙ sym (unpatched sizes pass.call pass.pages pass.control unit page old (plain_before sizes values pass op tt may))

@@ -62,7 +62,7 @@ use Rattle.nv_core.proofs.steps.CleanerControls.{tended_to, of_cleaner_worked}
 use Rattle.nv_core.proofs.log.KeepsGroups.{log_group}
 use Rattle.nv_core.proofs.log.WrittenLaws.{some_length}
 use Rattle.nv_core.proofs.content.PatchLaws.{page_is_patched, still_held, ready_leader, leader_in, leader_group, store_page}
-use Rattle.nv_core.proofs.content.PatchSteps.{patch_none, patch_one, patch_same, patch_skip, word_page, is_fresh, fresh_held, fresh_is, fresh_high, reads_piece, IsClear, step_patches, risen_off}
+use Rattle.nv_core.proofs.content.PatchSteps.{patch_none, patch_one, patch_same, patch_skip, word_page, is_fresh, fresh_held, fresh_is, fresh_high, reads_piece, IsClear, step_patches, risen_off, word_unit}
 use Rattle.nv_core.proofs.steps.SearchLaws.{hinting_next}
 
 -- a step leaves a page that its pass doesn't hold
@@ -214,7 +214,7 @@ passed_by sizes first opening tails log placed core sound content by page number
     go (inl is) = absurd (
         let both = and_parts (is_fresh (entry_word_at sizes core number)) (page_of_number sizes (log.group number) number == page) is in
         let fresh = fresh_is (entry_word_at sizes core number) both.0 in
-        let own : page_of (entry_word_at sizes core number) ≡ page = word_page sizes log core content.groups content.pieces number within fresh.0 ∙ eqb-true (page_of_number sizes (log.group number) number) page both.1 in
+        let own = word_unit sizes log core sound.index content.groups content.pieces number page page (sound.index.direct page) within fresh.0 (eqb-true (page_of_number sizes (log.group number) number) page both.1) in
         elim fresh.2 [
           | inl two ↦ not_both (and_from (kind_of (entry_word_at sizes core number) == ready) (page_of (entry_word_at sizes core number) == page) (eq-eqb (kind_of (entry_word_at sizes core number)) ready two) (eq-eqb (page_of (entry_word_at sizes core number)) page own)) not_so
           | inr three ↦ none_held sizes first core sound by page number at has (slot_of_entry sizes number) three own
@@ -235,7 +235,7 @@ module _ (plain : PlainLaws) (sizes : Sizes) (first : Values) (opening : Files) 
   grounded n read flies = not_both (content.flight.drawn n flies).write (read_only (core.passes n).call read)
 
   still_page : (n page : ℕ) → IsReading core (core.passes n) page → IsStill sizes core page
-  still_page n page is = still_held sizes first core page n sound is.1 (grounded n is.0)
+  still_page n page is = subst (IsStill sizes core) (sound.index.direct page) (still_held sizes first core page n sound is.1 (grounded n is.0))
 
   c_leaving : (head : ℕ) (owned : List Word) → At head (leaving owned)
   c_leaving head owned = leaving_both (At head) owned (λ _. tt) (λ _. tt)
@@ -407,10 +407,10 @@ module _ (plain : PlainLaws) (sizes : Sizes) (first : Values) (opening : Files) 
     kept_lacks page from is below lacks =
         let still = still_page plain sizes first opening tails log placed core by sound content was n page is in
         let up = tail_up sizes first by core found op sound may in
-        step_patches sizes first log by core found page sound content.groups content.pieces still op (clear_of op n page moves is) may (in_window_from now from) (head - in_window_from now from) (fetched_bytes fetched page)
+        step_patches sizes first log by core found page page (sound.index.direct page) sound content.groups content.pieces still op (clear_of op n page moves is) may (in_window_from now from) (head - in_window_from now from) (fetched_bytes fetched page)
         (λ m low high. (omega (arith, low, up), omega (arith, low, high, below)))
         ∙ sym (patch_skip sizes log core page (in_window_from core from) (in_window_from now from) head (fetched_bytes fetched page) (omega (arith, up))
-        (λ m low high top. risen_off sizes first log by core found page sound content.groups content.pieces still op may m (omega (arith, low), omega (arith, top, below)) (omega (arith, low, high))))
+        (λ m low high top. risen_off sizes first log by core found page page (sound.index.direct page) sound content.groups content.pieces still op may m (omega (arith, low), omega (arith, top, below)) (omega (arith, low, high))))
         ∙ lacks ∙ sym (kept_page page is)
 
     kept_stores : (page : ℕ) → HasStores sizes core fetched page → HasStores sizes now fetched page
@@ -578,7 +578,7 @@ module _ (plain : PlainLaws) (loads : LoadsAreAnImage) (becomes : GroupsBecomeWh
       let within : InWindow core number = looks.0 in
       let says = entry_is held page (entry_word_at sizes core number) looks.1 in
       let was_ready : is_ready sizes core number ≡ true = held_was (entry_word_at sizes core number) says.0 in
-      let on : page_of_number sizes (log.group number) number ≡ page = sym (word_page sizes log core content.groups content.pieces number within was_ready) ∙ says.1 in
+      let on : page_of_number sizes (log.group number) number ≡ page = sym (word_page sizes log core content.groups content.pieces number within was_ready) ∙ ap core.names says.1 ∙ sound.index.direct page in
       let fresh = fresh_held (entry_word_at sizes core number) says.0 in
       let is : is_on sizes log core page number ≡ true = and_from (is_fresh (entry_word_at sizes core number)) (page_of_number sizes (log.group number) number == page) fresh (eq-eqb (page_of_number sizes (log.group number) number) page on) in
       let holds : IsReading core (core.passes by) page = reading_at sizes first log opening core sound by (ReadPiece page number) tt at page stands.0 (λ held. held (CLEANUP page) (λ slot. differ (CLEANUP page) (ENTRY slot) refl)) in
@@ -626,8 +626,8 @@ module _ (plain : PlainLaws) (loads : LoadsAreAnImage) (becomes : GroupsBecomeWh
     where
       others : (n : ℕ) → n ≢ by → (control : Control) → WritesBack sizes log opening core (core.passes n) (core.passes n).fetched (core.passes n).head control
           → Stores sizes opening log worked_log core worked_now (λ word. refl) worked_groups (λ page. refl) control
-      others n ne (GiveStore page true) is = page_left plain loads becomes sizes first opening tails log placed core sound content tell by work may n page ne (let c = is.0.2 in omega (arith, c))
-      others n ne (ReadLoadHead page) is = page_left plain loads becomes sizes first opening tails log placed core sound content tell by work may n page ne (let c = is.0.2 in omega (arith, c))
+      others n ne (GiveStore page true) is = page_left plain loads becomes sizes first opening tails log placed core sound content tell by work may n page page (sound.index.direct page) ne (let c = is.0.2 in omega (arith, c))
+      others n ne (ReadLoadHead page) is = page_left plain loads becomes sizes first opening tails log placed core sound content tell by work may n page page (sound.index.direct page) ne (let c = is.0.2 in omega (arith, c))
       others n ne control is = tt
 
       here : (how : CallEnding) → work.ending ≡ how → (control : Control) → (core.passes by).control ≡ control → CallDue sizes core.values (core.passes by) work control

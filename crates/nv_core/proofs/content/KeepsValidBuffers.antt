@@ -1,5 +1,5 @@
 -- Each event keeps the valid buffers.
-use Rattle.std.proofs.Common.{◌≡◌, ◌≢◌, ℕ, ◌+◌, ◌*◌, ◌%◌, ◌<◌, ◌≤◌, ◌==◌, ◌&&◌, Bool, true, false, if◌then◌else◌, List, [], ◌∷◌, length, Some, None, inl, inr, refl, sym, ap, subst, ◌∙◌, arith, take}
+use Rattle.std.proofs.Common.{◌≡◌, ◌≢◌, ℕ, ◌+◌, ◌*◌, ◌%◌, ◌<◌, ◌≤◌, ◌==◌, ◌&&◌, Bool, true, false, if◌then◌else◌, List, [], ◌∷◌, length, Some, None, inl, inr, refl, sym, ap, ap₂, subst, ◌∙◌, arith, take}
 use Rattle.std.proofs.lemmas.Bool.{eqb-true, eq-eqb, ne_eqb, cases_eq, cases_Bool, true≢false}
 use Rattle.nv_plain.specs.Files.{Files, overwritten}
 use Rattle.nv_plain.specs.declared.call.FileCall.{FileCall}
@@ -21,7 +21,7 @@ use Rattle.nv_core.specs.invariant.ControlFacts.{FactsAt, PagesAt, IsPage}
 use Rattle.nv_core.specs.invariant.Ownership.{HoldsLocks, one_if}
 use Rattle.nv_core.specs.invariant.Loaded.{SawClean}
 use Rattle.nv_core.specs.content.StorePages.{store_of_value, StoresTell, StorePages}
-use Rattle.nv_core.specs.content.PagesAfter.{page_from, files_now, page_now, page_in}
+use Rattle.nv_core.specs.content.PagesAfter.{page_from, files_now, page_now, page_in, file_of_page, start_of_page}
 use Rattle.nv_core.specs.content.ValidBuffers.{patched_page, with_own_pieces, Gathered, GatheredBut, HasFetched, Halfway, GatheredAt, ValidBuffers}
 use Rattle.nv_core.specs.invariant.Sound.{Sound}
 use Rattle.nv_core.specs.state.Cleaner.{Batch, CleanerControl, WriteBack, SyncStores, MoveHeaderTail}
@@ -45,6 +45,7 @@ use Rattle.nv_core.proofs.invariant.KeepsSearches.{robbed_apart, rob_stands, rob
 use Rattle.nv_core.proofs.content.GatheredLaws.{gathered_same, gathered_on, AreRight, at_ending, page_bytes_same}
 use Rattle.nv_core.specs.invariant.CleanerOwnership.{count_in}
 use Rattle.nv_core.proofs.invariant.PageLists.{count_taken, front_more, front_none, front_all, pages_once}
+use Rattle.nv_core.proofs.invariant.IndexLaws.{stands_for, is_stood_for}
 
 -- ---- a step that neither places nor pledges
 
@@ -75,7 +76,7 @@ given_same pass control values other = refl
 
 -- what a buffer has where it is valid
 abbrev HasNow : Sizes → Files → Core → (page : ℕ) → Type 0
-HasNow sizes opening core page = is_valid (core.values (PAGE page)) ≡ true → bytes_in (core.values (PAGE page)) ≡ page_now sizes opening core page
+HasNow sizes opening core page = is_valid (core.values (PAGE page)) ≡ true → bytes_in (core.values (PAGE page)) ≡ page_now sizes opening core (core.names page)
 
 -- a lock is given back by a cleaner at its batch
 cleaner_give_at : (sizes : Sizes) (pass : Pass) (cell : Word) → CleanerEnabled sizes pass (cleaner.Give cell) pass.control → (batch : Batch) × (inner : CleanerControl) × (pass.control ≡ Cleaning batch inner)
@@ -94,7 +95,7 @@ free_after sizes first opening by core found (Give cell) keeping sound may was p
     (λ e z valid. let gives : MayGive (core.passes by) (PAGE page) (core.passes by).control = subst (λ w. MayGive (core.passes by) w (core.passes by).control) e may.may in
     was.held by page (once sizes first core sound by page (page_given sizes (core.passes by) page (core.passes by).control
     (λ next is. let s : FactsAt sizes (core.passes by) (GivePage next) = subst (FactsAt sizes (core.passes by)) is (sound.control_facts by).at in s) (sound.control_facts by).pages (sound.ownership by).locks gives)) valid
-    ∙ unpatched sizes (core.passes by).call (core.passes by).pages (core.passes by).control page (page_now sizes opening core page) (giving_back (core.passes by).control (gives_back (core.passes by) cell (core.passes by).control may.may)))
+    ∙ unpatched sizes (core.passes by).call (core.passes by).pages (core.passes by).control page (core.names page) (page_now sizes opening core (core.names page)) (giving_back (core.passes by).control (gives_back (core.passes by) cell (core.passes by).control may.may)))
     (λ w ne e z. was.free page (ap core.words (sym e) ∙ z)) (PAGE page) refl free
 free_after sizes first opening by core found (Place reply) keeping sound may was page free = absurd keeping
 free_after sizes first opening by core found (Pledge other) keeping sound may was page free = absurd keeping
@@ -106,7 +107,7 @@ free_after sizes first opening by core found (ByCleaner (cleaner.Give cell)) kee
     by_word (λ w v. w ≡ PAGE page → v ≡ 0 → HasNow sizes opening core page) core.words cell 0
     (λ e z valid. let stands = cleaner_give_at sizes (core.passes by) cell may.may in
     was.held by page (once sizes first core sound by page (subst (λ w. 1 ≤ times w (core.passes by).owned) e (cleaner_give_one sizes first by core cell (core.passes by).control sound refl may.may))) valid
-    ∙ ap (λ s. patched_page sizes (core.passes by).call (core.passes by).pages s page (page_now sizes opening core page)) stands.2)
+    ∙ ap (λ s. patched_page sizes (core.passes by).call (core.passes by).pages s page (core.names page) (page_now sizes opening core (core.names page))) stands.2)
     (λ w ne e z. was.free page (ap core.words (sym e) ∙ z)) (PAGE page) refl free
 free_after sizes first opening by core found (ByCleaner cleaner_op) keeping sound may was page free = was.free page free
 free_after sizes first opening by core found op keeping sound may was page free = was.free page (sym (untouched sizes by core op found may (PAGE page) refl) ∙ free)
@@ -114,7 +115,7 @@ free_after sizes first opening by core found op keeping sound may was page free 
 -- what the buffer of a page among the owned cells of a pass has
 abbrev HasHeld : Sizes → Files → Core → (page : ℕ) → Pass → Type 0
 HasHeld sizes opening core page pass = times (PAGE page) pass.owned ≡ 1 → is_valid (core.values (PAGE page)) ≡ true
-    → bytes_in (core.values (PAGE page)) ≡ patched_page sizes pass.call pass.pages pass.control page (page_now sizes opening core page)
+    → bytes_in (core.values (PAGE page)) ≡ patched_page sizes pass.call pass.pages pass.control page (core.names page) (page_now sizes opening core (core.names page))
 
 held_after : (sizes : Sizes) (first : Values) (opening : Files) (by : ℕ) (core : Core) (found : ℕ) (op : Op) → IsKeeping op → Sound sizes first core → FoundEnabledByKind sizes by core op found → ValidBuffers sizes opening core
     → (page : ℕ) → HasHeld sizes opening core page (changed_pass sizes by core op found)
@@ -127,31 +128,32 @@ held_after sizes first opening by core found (Take cell) keeping sound may was p
   | inl free ↦ elim (cases_Bool (same (PAGE page) cell)) [
     | inl is ↦
         was.free page (ap core.words (same_true (PAGE page) cell is) ∙ may.is ∙ eqb-true found 0 free) valid
-        ∙ sym (plain_after sizes core.values (core.passes by) page (page_now sizes opening core page) (Take cell) found tt may.may)
+        ∙ sym (plain_after sizes core.values (core.passes by) page (core.names page) (page_now sizes opening core (core.names page)) (Take cell) found tt may.may)
     | inr other ↦
         was.held by page (sym (times_else (PAGE page) cell (core.passes by).owned (differ (PAGE page) cell other))
         ∙ ap (λ m. times (PAGE page) (moved m (core.passes by).owned)) (sym (when_true (found == 0) (Comes cell) Stays free)) ∙ has) valid
-        ∙ sym (patch_stays sizes core.values (core.passes by) page (page_now sizes opening core page) (Take cell) found may.may tt)
+        ∙ sym (patch_stays sizes core.values (core.passes by) page (core.names page) (page_now sizes opening core (core.names page)) (Take cell) found may.may tt)
   ]
   | inr shut ↦
       was.held by page (ap (λ m. times (PAGE page) (moved m (core.passes by).owned)) (sym (when_false (found == 0) (Comes cell) Stays shut)) ∙ has) valid
-      ∙ sym (patch_stays sizes core.values (core.passes by) page (page_now sizes opening core page) (Take cell) found may.may tt)
+      ∙ sym (patch_stays sizes core.values (core.passes by) page (core.names page) (page_now sizes opening core (core.names page)) (Take cell) found may.may tt)
 ]
 held_after sizes first opening by core found (ByCleaner cleaner_op) keeping sound may was page has valid =
     let less = by_cleaner_no_more sizes (core.passes by) cleaner_op found page may.may in
     was.held by page (once sizes first core sound by page (omega (arith, less, has))) valid
-    ∙ sym (patch_stays sizes core.values (core.passes by) page (page_now sizes opening core page) (ByCleaner cleaner_op) found may.may tt)
+    ∙ sym (patch_stays sizes core.values (core.passes by) page (core.names page) (page_now sizes opening core (core.names page)) (ByCleaner cleaner_op) found may.may tt)
 held_after sizes first opening by core found op keeping sound may was page has valid =
     let less = no_more sizes op found page (core.passes by).owned tt in
     was.held by page (once sizes first core sound by page (omega (arith, less, has))) valid
-    ∙ sym (patch_stays sizes core.values (core.passes by) page (page_now sizes opening core page) op found may.may tt)
+    ∙ sym (patch_stays sizes core.values (core.passes by) page (core.names page) (page_now sizes opening core (core.names page)) op found may.may tt)
 
 -- what a call that has loaded STOP and not ORDER holds, is the pages as they are now
 ordering_right : (sizes : Sizes) (first : Values) (opening : Files) (by : ℕ) (core : Core) → Sound sizes first core → ValidBuffers sizes opening core → (control : Control) → IsWhole control → IsUnpatched control → (core.passes by).control ≡ control
     → AreRight sizes (page_now sizes opening core) core.values (core.passes by).call
 ordering_right sizes first opening by core sound was control whole un at page is valid =
     was.held by page (whole_holds sizes (core.passes by) control whole (subst (PagesAt sizes (core.passes by)) at (sound.control_facts by).pages) (subst (HoldsLocks sizes (core.passes by)) at (sound.ownership by).locks) page is) valid
-    ∙ unpatched sizes (core.passes by).call (core.passes by).pages (core.passes by).control page (page_now sizes opening core page) (subst IsUnpatched (sym at) un)
+    ∙ unpatched sizes (core.passes by).call (core.passes by).pages (core.passes by).control page (core.names page) (page_now sizes opening core (core.names page)) (subst IsUnpatched (sym at) un)
+    ∙ ap (page_now sizes opening core) (sound.index.direct page)
 
 abbrev HasGathered : Sizes → Files → Core → Pass → Type 0
 HasGathered sizes opening core pass = GatheredAt sizes (page_now sizes opening core) core.values pass.call pass.pages pass.fetched pass.control
@@ -232,11 +234,11 @@ read_only (Writev file at parts) read = refl
 read_only (Sync file) read = refl
 
 -- what its buffers have then: all of its pieces
-place_patched : (sizes : Sizes) (values : Values) (pass : Pass) (reply : Reply) (page : ℕ) (old : List ℕ) (control : Control) → FactsAt sizes pass control → MayPlace sizes values pass reply control
-    → patched_page sizes pass.call pass.pages control page old ≡ with_own_pieces sizes pass.call page old
-place_patched sizes values pass reply page old TakePlace stands may = refl
-place_patched sizes values pass reply page old (VisitPage next) stands may = sym (own_none sizes pass.call page old (read_only pass.call stands.0))
-place_patched sizes values pass reply page old control stands may = absurd may
+place_patched : (sizes : Sizes) (values : Values) (pass : Pass) (reply : Reply) (unit page : ℕ) (old : List ℕ) (control : Control) → FactsAt sizes pass control → MayPlace sizes values pass reply control
+    → patched_page sizes pass.call pass.pages control unit page old ≡ with_own_pieces sizes pass.call page old
+place_patched sizes values pass reply unit page old TakePlace stands may = refl
+place_patched sizes values pass reply unit page old (VisitPage next) stands may = sym (own_none sizes pass.call page old (read_only pass.call stands.0))
+place_patched sizes values pass reply unit page old control stands may = absurd may
 
 module _ (plain : PlainLaws) (sizes : Sizes) (first : Values) (opening : Files) (by : ℕ) (core : Core) (reply : Reply) (found : ℕ) (count : length opening.contents ≡ sizes.files)
     (sound : Sound sizes first core) (may : FoundEnabledByKind sizes by core (Place reply) found) (was : ValidBuffers sizes opening core) where
@@ -250,20 +252,22 @@ module _ (plain : PlainLaws) (sizes : Sizes) (first : Values) (opening : Files) 
   whole = place_whole sizes core.values (core.passes by) reply (core.passes by).control may.may
 
   -- the pages that it doesn't hold stay, and those that it holds get its pieces
-  now_else : (page : ℕ) → times (PAGE page) (core.passes by).owned ≡ 0 → page_now sizes opening (after_step sizes by (Place reply) found core) page ≡ page_now sizes opening core page
-  now_else page none =
-      ap (λ f. page_in sizes f page) (files_placed plain sizes first opening by core reply sound)
-      ∙ page_else plain sizes (core.passes by).call (files_now opening core) page allowed there
-      (λ is. let h = whole_holds sizes (core.passes by) (core.passes by).control whole (sound.control_facts by).pages (sound.ownership by).locks page is in omega (arith, h, none))
+  now_else : (unit : ℕ) → times (PAGE unit) (core.passes by).owned ≡ 0 → page_now sizes opening (after_step sizes by (Place reply) found core) (core.names unit) ≡ page_now sizes opening core (core.names unit)
+  now_else unit none =
+      ap (λ f. page_in sizes f (core.names unit)) (files_placed plain sizes first opening by core reply sound)
+      ∙ page_else plain sizes (core.passes by).call (files_now opening core) (core.names unit) allowed there
+      (λ is. let h = whole_holds sizes (core.passes by) (core.passes by).control whole (sound.control_facts by).pages (sound.ownership by).locks unit (is_stood_for sizes core sound.index (core.passes by).call unit is) in omega (arith, h, none))
 
-  now_own : (page : ℕ) → times (PAGE page) (core.passes by).owned ≡ 1 → page_now sizes opening (after_step sizes by (Place reply) found core) page ≡ with_own_pieces sizes (core.passes by).call page (page_now sizes opening core page)
-  now_own page has =
-      ap (λ f. page_in sizes f page) (files_placed plain sizes first opening by core reply sound)
-      ∙ page_placed plain sizes (core.passes by).call (files_now opening core) page allowed there (whole_page sizes (core.passes by) (core.passes by).control whole (sound.control_facts by).pages (sound.ownership by).locks page has)
+  now_own : (unit : ℕ) → times (PAGE unit) (core.passes by).owned ≡ 1
+      → page_now sizes opening (after_step sizes by (Place reply) found core) (core.names unit) ≡ with_own_pieces sizes (core.passes by).call (core.names unit) (page_now sizes opening core (core.names unit))
+  now_own unit has =
+      ap (λ f. page_in sizes f (core.names unit)) (files_placed plain sizes first opening by core reply sound)
+      ∙ page_placed plain sizes (core.passes by).call (files_now opening core) (core.names unit) allowed there
+      (stands_for sizes core sound.index (core.passes by).call unit (whole_page sizes (core.passes by) (core.passes by).control whole (sound.control_facts by).pages (sound.ownership by).locks unit has))
 
-  unpatched_then : (page : ℕ) (old : List ℕ) → patched_page sizes (core.passes by).call (changed_pass sizes by core (Place reply) found).pages (changed_pass sizes by core (Place reply) found).control page old ≡ old
-  unpatched_then page old = if_both (λ s. patched_page sizes (core.passes by).call (core.passes by).pages s page old ≡ old) (is_write (core.passes by).call && exceeds (core.passes by) (core.passes by).length) GrowLength (ending sizes (core.passes by))
-      (λ _. refl) (λ _. old_ending sizes core.values (core.passes by) page old)
+  unpatched_then : (unit page : ℕ) (old : List ℕ) → patched_page sizes (core.passes by).call (changed_pass sizes by core (Place reply) found).pages (changed_pass sizes by core (Place reply) found).control unit page old ≡ old
+  unpatched_then unit page old = if_both (λ s. patched_page sizes (core.passes by).call (core.passes by).pages s unit page old ≡ old) (is_write (core.passes by).call && exceeds (core.passes by) (core.passes by).length) GrowLength (ending sizes (core.passes by))
+      (λ _. refl) (λ _. old_ending sizes core.values (core.passes by) unit page old)
 
   buffers_place : ValidBuffers sizes opening (after_step sizes by (Place reply) found core)
   buffers_place = record {
@@ -273,17 +277,17 @@ module _ (plain : PlainLaws) (sizes : Sizes) (first : Values) (opening : Files) 
     held = λ n page. by_number (λ n (p : Pass). HasHeld sizes opening (after_step sizes by (Place reply) found core) page p) core.passes by (changed_pass sizes by core (Place reply) found)
         (λ has valid.
         was.held by page has valid
-        ∙ place_patched sizes core.values (core.passes by) reply page (page_now sizes opening core page) (core.passes by).control (sound.control_facts by).at may.may
+        ∙ place_patched sizes core.values (core.passes by) reply page (core.names page) (page_now sizes opening core (core.names page)) (core.passes by).control (sound.control_facts by).at may.may
         ∙ sym (now_own page has)
-        ∙ sym (unpatched_then page (page_now sizes opening (after_step sizes by (Place reply) found core) page)))
+        ∙ sym (unpatched_then page (core.names page) (page_now sizes opening (after_step sizes by (Place reply) found core) (core.names page))))
         (λ n ne has valid.
         was.held n page has valid
-        ∙ ap (patched_page sizes (core.passes n).call (core.passes n).pages (core.passes n).control page) (sym (now_else page (others_none sizes first core sound page n by has (λ e. ne (sym e)))))) n;
+        ∙ ap (patched_page sizes (core.passes n).call (core.passes n).pages (core.passes n).control page (core.names page)) (sym (now_else page (others_none sizes first core sound page n by has (λ e. ne (sym e)))))) n;
     gathered = by_number (λ n (p : Pass). HasGathered sizes opening (after_step sizes by (Place reply) found core) p) core.passes by (changed_pass sizes by core (Place reply) found)
         (if_both (GatheredAt sizes (page_now sizes opening (after_step sizes by (Place reply) found core)) core.values (core.passes by).call (core.passes by).pages (core.passes by).fetched) (is_write (core.passes by).call && exceeds (core.passes by) (core.passes by).length)
         GrowLength (ending sizes (core.passes by)) (λ _. tt) (λ _. at_ending sizes (page_now sizes opening (after_step sizes by (Place reply) found core)) core.values (core.passes by)))
         (λ n ne. gathered_same sizes (page_now sizes opening core) (page_now sizes opening (after_step sizes by (Place reply) found core)) core.values core.values (core.passes n) (core.passes n).control (sound.control_facts n).at (sound.control_facts n).pages (sound.ownership n).locks
-        (λ page has. (refl, now_else page (others_none sizes first core sound page n by has (λ e. ne (sym e))))) (was.gathered n));
+        (λ page has. (refl, subst (λ p. page_now sizes opening (after_step sizes by (Place reply) found core) p ≡ page_now sizes opening core p) (sound.index.direct page) (now_else page (others_none sizes first core sound page n by has (λ e. ne (sym e)))))) (was.gathered n));
   }
 
 -- ---- a step that pledges a page
@@ -332,32 +336,32 @@ module _ (sizes : Sizes) (first : Values) (opening : Files) (by : ℕ) (core : C
   apart number page ne has e = let z = others_none sizes first core sound page number by has (λ is. ne (sym is)) in let h = subst (λ p. times (PAGE p) (core.passes by).owned ≡ 1) (sym e) has_own in omega (arith, z, h)
 
   -- the page that is pledged is patched then, and the others as they were
-  then_own : (old : List ℕ) → patched_page sizes (core.passes by).call (changed_pass sizes by core (Pledge own) found).pages (changed_pass sizes by core (Pledge own) found).control own old ≡ with_own_pieces sizes (core.passes by).call own old
-  then_own old = if_both (λ s. patched_page sizes (core.passes by).call (core.passes by).pages s own old ≡ with_own_pieces sizes (core.passes by).call own old) (own + 1 == end_page sizes (core.passes by).call)
+  then_own : (page : ℕ) (old : List ℕ) → patched_page sizes (core.passes by).call (changed_pass sizes by core (Pledge own) found).pages (changed_pass sizes by core (Pledge own) found).control own page old ≡ with_own_pieces sizes (core.passes by).call page old
+  then_own page old = if_both (λ s. patched_page sizes (core.passes by).call (core.passes by).pages s own page old ≡ with_own_pieces sizes (core.passes by).call page old) (own + 1 == end_page sizes (core.passes by).call)
       (ReadyEntry (if (core.passes by).entries == 1 then (core.passes by).first else (core.passes by).first + 1)) (PledgePage (own + 1))
-      (λ _. refl) (λ _. when_false (count_in (take (nth_of sizes (core.passes by).call (own + 1)) (core.passes by).pages) own == 0) old (with_own_pieces sizes (core.passes by).call own old)
+      (λ _. refl) (λ _. when_false (count_in (take (nth_of sizes (core.passes by).call (own + 1)) (core.passes by).pages) own == 0) old (with_own_pieces sizes (core.passes by).call page old)
       (ne_eqb (count_in (take (nth_of sizes (core.passes by).call (own + 1)) (core.passes by).pages) own) 0 (λ none. let more = front_own own in omega (arith, more, own_once, none))))
 
-  before_own : (old : List ℕ) → patched_page sizes (core.passes by).call (core.passes by).pages (core.passes by).control own old ≡ old
-  before_own old = ap (λ s. patched_page sizes (core.passes by).call (core.passes by).pages s own old) may.may
-      ∙ when_true (count_in (take (nth_of sizes (core.passes by).call own) (core.passes by).pages) own == 0) old (with_own_pieces sizes (core.passes by).call own old)
+  before_own : (page : ℕ) (old : List ℕ) → patched_page sizes (core.passes by).call (core.passes by).pages (core.passes by).control own page old ≡ old
+  before_own page old = ap (λ s. patched_page sizes (core.passes by).call (core.passes by).pages s own page old) may.may
+      ∙ when_true (count_in (take (nth_of sizes (core.passes by).call own) (core.passes by).pages) own == 0) old (with_own_pieces sizes (core.passes by).call page old)
       (eq-eqb (count_in (take (nth_of sizes (core.passes by).call own) (core.passes by).pages) own) 0 (
       let more = front_own own in let few = count_taken (core.passes by).pages (nth_of sizes (core.passes by).call (own + 1)) own in
       let once = pages_once sizes (core.passes by).call (core.passes by).pages pages_own own is_own in omega (arith, more, few, once, own_once)
       ))
 
-  then_else : (page : ℕ) (old : List ℕ) → page ≢ own → times (PAGE page) (core.passes by).owned ≡ 1
-      → patched_page sizes (core.passes by).call (core.passes by).pages (core.passes by).control page old ≡ patched_page sizes (core.passes by).call (changed_pass sizes by core (Pledge own) found).pages (changed_pass sizes by core (Pledge own) found).control page old
-  then_else page old ne has =
-      let holds = locks (PAGE page) (λ slot. differ (PAGE page) (ENTRY slot) refl) in
-      let other : one_if (page == own) ≡ 0 = when_false (page == own) 1 0 (ne_eqb page own ne) in
-      let more = front_own page in
-      ap (λ s. patched_page sizes (core.passes by).call (core.passes by).pages s page old) may.may
-      ∙ if_both (λ s. (if count_in (take (nth_of sizes (core.passes by).call own) (core.passes by).pages) page == 0 then old else with_own_pieces sizes (core.passes by).call page old) ≡ patched_page sizes (core.passes by).call (core.passes by).pages s page old) (own + 1 == end_page sizes (core.passes by).call)
+  then_else : (unit page : ℕ) (old : List ℕ) → unit ≢ own → times (PAGE unit) (core.passes by).owned ≡ 1
+      → patched_page sizes (core.passes by).call (core.passes by).pages (core.passes by).control unit page old ≡ patched_page sizes (core.passes by).call (changed_pass sizes by core (Pledge own) found).pages (changed_pass sizes by core (Pledge own) found).control unit page old
+  then_else unit page old ne has =
+      let holds = locks (PAGE unit) (λ slot. differ (PAGE unit) (ENTRY slot) refl) in
+      let other : one_if (unit == own) ≡ 0 = when_false (unit == own) 1 0 (ne_eqb unit own ne) in
+      let more = front_own unit in
+      ap (λ s. patched_page sizes (core.passes by).call (core.passes by).pages s unit page old) may.may
+      ∙ if_both (λ s. (if count_in (take (nth_of sizes (core.passes by).call own) (core.passes by).pages) unit == 0 then old else with_own_pieces sizes (core.passes by).call page old) ≡ patched_page sizes (core.passes by).call (core.passes by).pages s unit page old) (own + 1 == end_page sizes (core.passes by).call)
       (ReadyEntry (if (core.passes by).entries == 1 then (core.passes by).first else (core.passes by).first + 1)) (PledgePage (own + 1))
-      (λ e. let all = front_all sizes (core.passes by).call (core.passes by).pages pages_own (own + 1) page (eqb-true (own + 1) (end_page sizes (core.passes by).call) e) in
-      when_false (count_in (take (nth_of sizes (core.passes by).call own) (core.passes by).pages) page == 0) old (with_own_pieces sizes (core.passes by).call page old)
-      (ne_eqb (count_in (take (nth_of sizes (core.passes by).call own) (core.passes by).pages) page) 0 (λ none. omega (arith, all, more, other, holds, has, none))))
+      (λ e. let all = front_all sizes (core.passes by).call (core.passes by).pages pages_own (own + 1) unit (eqb-true (own + 1) (end_page sizes (core.passes by).call) e) in
+      when_false (count_in (take (nth_of sizes (core.passes by).call own) (core.passes by).pages) unit == 0) old (with_own_pieces sizes (core.passes by).call page old)
+      (ne_eqb (count_in (take (nth_of sizes (core.passes by).call own) (core.passes by).pages) unit) 0 (λ none. omega (arith, all, more, other, holds, has, none))))
       (λ _. ap (λ n. if n == 0 then old else with_own_pieces sizes (core.passes by).call page old) (omega (arith, more, other)))
 
   buffers_pledge : ValidBuffers sizes opening (after_step sizes by (Pledge own) found core)
@@ -367,16 +371,16 @@ module _ (sizes : Sizes) (first : Values) (opening : Files) (by : ℕ) (core : C
         let ne : page ≢ own = λ e. (let z = unheld sizes first core sound page none by in let h = subst (λ p. times (PAGE p) (core.passes by).owned ≡ 1) (sym e) has_own in omega (arith, z, h)) in
         ap bytes_in (value_else page ne) ∙ was.free page none (sym (ap is_valid (value_else page ne)) ∙ valid);
     held = λ n page. by_number (λ n (p : Pass). times (PAGE page) p.owned ≡ 1 → is_valid (values_stepped sizes (core.passes by) (Pledge own) core.values (PAGE page)) ≡ true
-        → bytes_in (values_stepped sizes (core.passes by) (Pledge own) core.values (PAGE page)) ≡ patched_page sizes p.call p.pages p.control page (page_now sizes opening core page)) core.passes by (changed_pass sizes by core (Pledge own) found)
+        → bytes_in (values_stepped sizes (core.passes by) (Pledge own) core.values (PAGE page)) ≡ patched_page sizes p.call p.pages p.control page (core.names page) (page_now sizes opening core (core.names page))) core.passes by (changed_pass sizes by core (Pledge own) found)
         (λ has. elim (cases_eq page own) [
           | inl e ↦ subst (λ q. is_valid (values_stepped sizes (core.passes by) (Pledge own) core.values (PAGE q)) ≡ true
-              → bytes_in (values_stepped sizes (core.passes by) (Pledge own) core.values (PAGE q)) ≡ patched_page sizes (core.passes by).call (changed_pass sizes by core (Pledge own) found).pages (changed_pass sizes by core (Pledge own) found).control q (page_now sizes opening core q)) (sym e)
+              → bytes_in (values_stepped sizes (core.passes by) (Pledge own) core.values (PAGE q)) ≡ patched_page sizes (core.passes by).call (changed_pass sizes by core (Pledge own) found).pages (changed_pass sizes by core (Pledge own) found).control q (core.names q) (page_now sizes opening core (core.names q))) (sym e)
               (λ valid. let old = sym (valid_patched sizes (core.passes by).call own (core.values (PAGE own))) ∙ sym (ap is_valid value_own) ∙ valid in
               ap bytes_in value_own
               ∙ bytes_patched sizes (core.passes by).call own (core.values (PAGE own)) old
-              ∙ ap (with_own_pieces sizes (core.passes by).call own) (was.held by own has_own old ∙ before_own (page_now sizes opening core own))
-              ∙ sym (then_own (page_now sizes opening core own)))
-          | inr ne ↦ λ valid. ap bytes_in (value_else page ne) ∙ was.held by page has (sym (ap is_valid (value_else page ne)) ∙ valid) ∙ then_else page (page_now sizes opening core page) ne has
+              ∙ ap₂ (with_own_pieces sizes (core.passes by).call) (sym (sound.index.direct own)) (was.held by own has_own old ∙ before_own (core.names own) (page_now sizes opening core (core.names own)))
+              ∙ sym (then_own (core.names own) (page_now sizes opening core (core.names own))))
+          | inr ne ↦ λ valid. ap bytes_in (value_else page ne) ∙ was.held by page has (sym (ap is_valid (value_else page ne)) ∙ valid) ∙ then_else page (core.names page) (page_now sizes opening core (core.names page)) ne has
         ])
         (λ n ne has valid. let far = apart n page ne has in ap bytes_in (value_else page far) ∙ was.held n page has (sym (ap is_valid (value_else page far)) ∙ valid)) n;
     gathered = by_number (λ n (p : Pass). GatheredAt sizes (page_now sizes opening core) (values_stepped sizes (core.passes by) (Pledge own) core.values) p.call p.pages p.fetched p.control) core.passes by (changed_pass sizes by core (Pledge own) found)
@@ -435,18 +439,18 @@ module _ (sizes : Sizes) (first : Values) (opening : Files) (by : ℕ) (core : C
   off_unlock number page ne has e = let z = others_none sizes first core sound page number by has (λ is. ne (sym is)) in let h = subst (λ p. times (PAGE p) (core.passes by).owned ≡ 1) (sym e) has_unlock in omega (arith, z, h)
 
   held_unlock : (page : ℕ) → times (PAGE page) (changed_pass sizes by core (Give cell) found).owned ≡ 1 → is_valid (values_stepped sizes (core.passes by) (Give cell) core.values (PAGE page)) ≡ true
-      → bytes_in (values_stepped sizes (core.passes by) (Give cell) core.values (PAGE page)) ≡ patched_page sizes (core.passes by).call (changed_pass sizes by core (Give cell) found).pages (changed_pass sizes by core (Give cell) found).control page (page_now sizes opening core page)
+      → bytes_in (values_stepped sizes (core.passes by) (Give cell) core.values (PAGE page)) ≡ patched_page sizes (core.passes by).call (changed_pass sizes by core (Give cell) found).pages (changed_pass sizes by core (Give cell) found).control page (core.names page) (page_now sizes opening core (core.names page))
   held_unlock page has valid =
       elim (cases_eq page own) [
-        | inl e ↦ subst (λ p. is_valid (values_stepped sizes (core.passes by) (Give cell) core.values (PAGE p)) ≡ true → bytes_in (values_stepped sizes (core.passes by) (Give cell) core.values (PAGE p)) ≡ page_now sizes opening core p) (sym e)
-            (λ fits. ap bytes_in filled_own ∙ filled_bytes (fetched_bytes (core.passes by).fetched own) (core.values (PAGE own)) (sym (ap is_valid filled_own) ∙ fits) ∙ all) valid
+        | inl e ↦ subst (λ p. is_valid (values_stepped sizes (core.passes by) (Give cell) core.values (PAGE p)) ≡ true → bytes_in (values_stepped sizes (core.passes by) (Give cell) core.values (PAGE p)) ≡ page_now sizes opening core (core.names p)) (sym e)
+            (λ fits. ap bytes_in filled_own ∙ filled_bytes (fetched_bytes (core.passes by).fetched own) (core.values (PAGE own)) (sym (ap is_valid filled_own) ∙ fits) ∙ all ∙ sym (ap (page_now sizes opening core) (sound.index.direct own))) valid
         | inr ne ↦
             let less = no_more sizes (Give cell) found page (core.passes by).owned tt in
             ap bytes_in (filled_else page ne)
             ∙ was.held by page (once sizes first core sound by page (omega (arith, less, has))) (sym (ap is_valid (filled_else page ne)) ∙ valid)
-            ∙ ap (λ s. patched_page sizes (core.passes by).call (core.passes by).pages s page (page_now sizes opening core page)) at
+            ∙ ap (λ s. patched_page sizes (core.passes by).call (core.passes by).pages s page (core.names page) (page_now sizes opening core (core.names page))) at
       ]
-      ∙ sym (ap (λ s. patched_page sizes (core.passes by).call (core.passes by).pages s page (page_now sizes opening core page)) control_unlock)
+      ∙ sym (ap (λ s. patched_page sizes (core.passes by).call (core.passes by).pages s page (core.names page) (page_now sizes opening core (core.names page))) control_unlock)
 
   gathered_unlock : Gathered sizes (page_now sizes opening core) (values_stepped sizes (core.passes by) (Give cell) core.values) (core.passes by).call (core.passes by).pages (core.passes by).fetched (own + 1)
   gathered_unlock page is passed = elim (cases_eq page own) [
@@ -466,7 +470,7 @@ module _ (sizes : Sizes) (first : Values) (opening : Files) (by : ℕ) (core : C
         let ne : page ≢ own = λ e. (let z = unheld sizes first core sound page none by in let h = subst (λ p. times (PAGE p) (core.passes by).owned ≡ 1) (sym e) has_unlock in omega (arith, z, h)) in
         ap bytes_in (filled_else page ne) ∙ was.free page none (sym (ap is_valid (filled_else page ne)) ∙ valid);
     held = λ n page. by_number (λ n (p : Pass). times (PAGE page) p.owned ≡ 1 → is_valid (values_stepped sizes (core.passes by) (Give cell) core.values (PAGE page)) ≡ true
-        → bytes_in (values_stepped sizes (core.passes by) (Give cell) core.values (PAGE page)) ≡ patched_page sizes p.call p.pages p.control page (page_now sizes opening core page)) core.passes by (changed_pass sizes by core (Give cell) found)
+        → bytes_in (values_stepped sizes (core.passes by) (Give cell) core.values (PAGE page)) ≡ patched_page sizes p.call p.pages p.control page (core.names page) (page_now sizes opening core (core.names page))) core.passes by (changed_pass sizes by core (Give cell) found)
         (held_unlock page)
         (λ n ne has valid. let far = filled_else page (off_unlock n page ne has) in ap bytes_in far ∙ was.held n page has (sym (ap is_valid far) ∙ valid)) n;
     gathered = by_number (λ n (p : Pass). GatheredAt sizes (page_now sizes opening core) (values_stepped sizes (core.passes by) (Give cell) core.values) p.call p.pages p.fetched p.control) core.passes by (changed_pass sizes by core (Give cell) found)
@@ -506,7 +510,7 @@ buffers_one : (sizes : Sizes) (first : Values) (opening : Files) (core : Core) (
     → Sound sizes first core → ValidBuffers sizes opening core → ValidBuffers sizes opening record core { values = values; passes = (λ n. if n == by then pass else core.passes n) }
 buffers_one sizes first opening core by pass values same held gathered sound was = record {
   free = λ page free valid. ap bytes_in (same page) ∙ was.free page free (sym (ap is_valid (same page)) ∙ valid);
-  held = λ n page. by_number (λ n (p : Pass). times (PAGE page) p.owned ≡ 1 → is_valid (values (PAGE page)) ≡ true → bytes_in (values (PAGE page)) ≡ patched_page sizes p.call p.pages p.control page (page_now sizes opening core page)) core.passes by pass
+  held = λ n page. by_number (λ n (p : Pass). times (PAGE page) p.owned ≡ 1 → is_valid (values (PAGE page)) ≡ true → bytes_in (values (PAGE page)) ≡ patched_page sizes p.call p.pages p.control page (core.names page) (page_now sizes opening core (core.names page))) core.passes by pass
       (λ has valid. ap bytes_in (same page) ∙ held page has (sym (ap is_valid (same page)) ∙ valid))
       (λ n ne has valid. ap bytes_in (same page) ∙ was.held n page has (sym (ap is_valid (same page)) ∙ valid)) n;
   gathered = by_number (λ n (p : Pass). GatheredAt sizes (page_now sizes opening core) values p.call p.pages p.fetched p.control) core.passes by pass gathered
@@ -543,24 +547,24 @@ read_failed pages (PartStep step spares) came faults control values = refl
 read_failed pages job came faults control values = refl
 
 -- what stands patched stays so
-work_patched : (sizes : Sizes) (values : Values) (pass : Pass) (work : Work) (how : CallEnding) (control : Control) (page : ℕ) (old : List ℕ) → PagesAt sizes pass control → HoldsLocks sizes pass control → CallDue sizes values pass work control → times (PAGE page) pass.owned ≡ 1
-    → patched_page sizes pass.call pass.pages control page old ≡ patched_page sizes pass.call pass.pages (control_worked sizes pass how control) page old
-work_patched sizes values pass work Made (CommitGroup calls) page old pages held due has =
-    if_both (λ s. old ≡ patched_page sizes pass.call pass.pages s page old) (calls + 1 == length (commit_steps sizes pass pass.call)) (PledgePage (first_page sizes pass.call)) (CommitGroup (calls + 1))
-    (λ _. sym (when_true (count_in (take (nth_of sizes pass.call (first_page sizes pass.call)) pass.pages) page == 0) old (with_own_pieces sizes pass.call page old)
-    (eq-eqb (count_in (take (nth_of sizes pass.call (first_page sizes pass.call)) pass.pages) page) 0 (front_none sizes pass.call pass.pages page)))) (λ _. refl)
-work_patched sizes values pass work Made (ReadStore next dirty) page old pages held due has = refl
-work_patched sizes values pass work Made (ReadPiece next number) page old pages held due has = refl
-work_patched sizes values pass work (Failed came faults) (CommitGroup calls) page old pages held due has = refl
-work_patched sizes values pass work (Failed came faults) (ReadStore next dirty) page old pages held due has = refl
-work_patched sizes values pass work (Failed came faults) (ReadPiece next number) page old pages held due has = refl
-work_patched sizes values pass work Made (Cleaning batch inner) page old pages held due has = of_cleaner_worked (λ s. old ≡ patched_page sizes pass.call pass.pages s page old) refl (λ _ _. refl) batch Made inner
-work_patched sizes values pass work (Failed came faults) (Cleaning batch inner) page old pages held due has = of_cleaner_worked (λ s. old ≡ patched_page sizes pass.call pass.pages s page old) refl (λ _ _. refl) batch (Failed came faults) inner
-work_patched sizes values pass work Refused (Cleaning batch inner) page old pages held due has = of_cleaner_worked (λ s. old ≡ patched_page sizes pass.call pass.pages s page old) refl (λ _ _. refl) batch Refused inner
-work_patched sizes values pass work Refused (CommitGroup calls) page old pages held due has = refl
-work_patched sizes values pass work Refused (ReadStore next dirty) page old pages held due has = refl
-work_patched sizes values pass work Refused (ReadPiece next number) page old pages held due has = refl
-work_patched sizes values pass work how control page old pages held due has = absurd due
+work_patched : (sizes : Sizes) (values : Values) (pass : Pass) (work : Work) (how : CallEnding) (control : Control) (unit page : ℕ) (old : List ℕ) → PagesAt sizes pass control → HoldsLocks sizes pass control → CallDue sizes values pass work control → times (PAGE unit) pass.owned ≡ 1
+    → patched_page sizes pass.call pass.pages control unit page old ≡ patched_page sizes pass.call pass.pages (control_worked sizes pass how control) unit page old
+work_patched sizes values pass work Made (CommitGroup calls) unit page old pages held due has =
+    if_both (λ s. old ≡ patched_page sizes pass.call pass.pages s unit page old) (calls + 1 == length (commit_steps sizes pass pass.call)) (PledgePage (first_page sizes pass.call)) (CommitGroup (calls + 1))
+    (λ _. sym (when_true (count_in (take (nth_of sizes pass.call (first_page sizes pass.call)) pass.pages) unit == 0) old (with_own_pieces sizes pass.call page old)
+    (eq-eqb (count_in (take (nth_of sizes pass.call (first_page sizes pass.call)) pass.pages) unit) 0 (front_none sizes pass.call pass.pages unit)))) (λ _. refl)
+work_patched sizes values pass work Made (ReadStore next dirty) unit page old pages held due has = refl
+work_patched sizes values pass work Made (ReadPiece next number) unit page old pages held due has = refl
+work_patched sizes values pass work (Failed came faults) (CommitGroup calls) unit page old pages held due has = refl
+work_patched sizes values pass work (Failed came faults) (ReadStore next dirty) unit page old pages held due has = refl
+work_patched sizes values pass work (Failed came faults) (ReadPiece next number) unit page old pages held due has = refl
+work_patched sizes values pass work Made (Cleaning batch inner) unit page old pages held due has = of_cleaner_worked (λ s. old ≡ patched_page sizes pass.call pass.pages s unit page old) refl (λ _ _. refl) batch Made inner
+work_patched sizes values pass work (Failed came faults) (Cleaning batch inner) unit page old pages held due has = of_cleaner_worked (λ s. old ≡ patched_page sizes pass.call pass.pages s unit page old) refl (λ _ _. refl) batch (Failed came faults) inner
+work_patched sizes values pass work Refused (Cleaning batch inner) unit page old pages held due has = of_cleaner_worked (λ s. old ≡ patched_page sizes pass.call pass.pages s unit page old) refl (λ _ _. refl) batch Refused inner
+work_patched sizes values pass work Refused (CommitGroup calls) unit page old pages held due has = refl
+work_patched sizes values pass work Refused (ReadStore next dirty) unit page old pages held due has = refl
+work_patched sizes values pass work Refused (ReadPiece next number) unit page old pages held due has = refl
+work_patched sizes values pass work how control unit page old pages held due has = absurd due
 
 -- a store's page that was read
 pub says_is : (sizes : Sizes) (at : ℕ) (bytes : List ℕ) (store : Store) (value : Value) → store_of_value value ≡ Some store → SaysOf sizes at bytes value → bytes ≡ page_from store.seen at sizes.page
@@ -576,7 +580,7 @@ module _ (sizes : Sizes) (first : Values) (opening : Files) (by : ℕ) (core : C
   still_held : (page : ℕ) → HasHeld sizes opening core page (worked sizes work (core.passes by))
   still_held page has valid =
       was.held by page has valid
-      ∙ work_patched sizes core.values (core.passes by) work work.ending (core.passes by).control page (page_now sizes opening core page) (sound.control_facts by).pages (sound.ownership by).locks may.due has
+      ∙ work_patched sizes core.values (core.passes by) work work.ending (core.passes by).control page (core.names page) (page_now sizes opening core (core.names page)) (sound.control_facts by).pages (sound.ownership by).locks may.due has
 
   buffers_unread : ((page : ℕ) → values_worked (core.passes by) work core.values (PAGE page) ≡ core.values (PAGE page))
       → GatheredAt sizes (page_now sizes opening core) (values_worked (core.passes by) work core.values) (core.passes by).call (worked sizes work (core.passes by)).pages (worked sizes work (core.passes by)).fetched (worked sizes work (core.passes by)).control
@@ -681,7 +685,8 @@ module _ (sizes : Sizes) (first : Values) (opening : Files) (by : ℕ) (core : C
       let clear : core.words (DIRTY own) ≡ 0 = sound.loaded.clean by own (subst (λ s. SawClean (core.passes by).pages s own) (sym at) refl) in
       says_is sizes (page_start sizes (core.passes by).call own) due.bytes told.0 (core.values (STORE (file_of (core.passes by).call))) told.1 due.says
       ∙ ap (λ n. page_from told.0.seen (n * sizes.page) sizes.page) (sym place.1)
-      ∙ sym (clean.clean by own told.0 stands.0 has_read clear (subst (λ f. f < sizes.files) (sym place.0) allowed_read.known) (ap (λ f. store_of_value (core.values (STORE f))) place.0 ∙ told.1))
+      ∙ sym (subst (λ p. file_of_page sizes p < sizes.files → store_of_value (core.values (STORE (file_of_page sizes p))) ≡ Some told.0 → page_now sizes opening core p ≡ page_from told.0.seen (start_of_page sizes p) sizes.page) (sound.index.direct own)
+      (clean.clean by own told.0 stands.0 has_read clear) (subst (λ f. f < sizes.files) (sym place.0) allowed_read.known) (ap (λ f. store_of_value (core.values (STORE f))) place.0 ∙ told.1))
 
   value_read : values_worked (core.passes by) work core.values (PAGE own) ≡ filled due.bytes (core.values (PAGE own))
   value_read =
@@ -717,12 +722,12 @@ module _ (sizes : Sizes) (first : Values) (opening : Files) (by : ℕ) (core : C
   far number page ne has e = let z = others_none sizes first core sound page number by has (λ is. ne (sym is)) in let h = subst (λ p. times (PAGE p) (core.passes by).owned ≡ 1) (sym e) has_read in omega (arith, z, h)
 
   read_held : (page : ℕ) → times (PAGE page) (core.passes by).owned ≡ 1 → is_valid (values_worked (core.passes by) work core.values (PAGE page)) ≡ true
-      → bytes_in (values_worked (core.passes by) work core.values (PAGE page)) ≡ patched_page sizes (core.passes by).call (worked sizes work (core.passes by)).pages (worked sizes work (core.passes by)).control page (page_now sizes opening core page)
+      → bytes_in (values_worked (core.passes by) work core.values (PAGE page)) ≡ patched_page sizes (core.passes by).call (worked sizes work (core.passes by)).pages (worked sizes work (core.passes by)).control page (core.names page) (page_now sizes opening core (core.names page))
   read_held page has valid = elim (cases_eq page own) [
     | inl e ↦ subst (λ p. is_valid (values_worked (core.passes by) work core.values (PAGE p)) ≡ true
-        → bytes_in (values_worked (core.passes by) work core.values (PAGE p)) ≡ patched_page sizes (core.passes by).call (worked sizes work (core.passes by)).pages (worked sizes work (core.passes by)).control p (page_now sizes opening core p)) (sym e)
-        (λ fits. ap bytes_in value_read ∙ filled_bytes due.bytes (core.values (PAGE own)) (sym (ap is_valid value_read) ∙ fits) ∙ read_now
-        ∙ sym (ap (λ s. patched_page sizes (core.passes by).call (core.passes by).pages s own (page_now sizes opening core own)) control_read)) valid
+        → bytes_in (values_worked (core.passes by) work core.values (PAGE p)) ≡ patched_page sizes (core.passes by).call (worked sizes work (core.passes by)).pages (worked sizes work (core.passes by)).control p (core.names p) (page_now sizes opening core (core.names p))) (sym e)
+        (λ fits. ap bytes_in value_read ∙ filled_bytes due.bytes (core.values (PAGE own)) (sym (ap is_valid value_read) ∙ fits) ∙ read_now ∙ sym (ap (page_now sizes opening core) (sound.index.direct own))
+        ∙ sym (ap (λ s. patched_page sizes (core.passes by).call (core.passes by).pages s own (core.names own) (page_now sizes opening core (core.names own))) control_read)) valid
     | inr ne ↦ ap bytes_in (value_apart page ne) ∙ still_held sizes first opening by core work sound may was page has (sym (ap is_valid (value_apart page ne)) ∙ valid)
   ]
 
@@ -745,7 +750,7 @@ module _ (sizes : Sizes) (first : Values) (opening : Files) (by : ℕ) (core : C
         let ne : page ≢ own = λ e. (let z = unheld sizes first core sound page free by in let h = subst (λ p. times (PAGE p) (core.passes by).owned ≡ 1) (sym e) has_read in omega (arith, z, h)) in
         ap bytes_in (value_apart page ne) ∙ was.free page free (sym (ap is_valid (value_apart page ne)) ∙ valid);
     held = λ n page. by_number (λ n (p : Pass). times (PAGE page) p.owned ≡ 1 → is_valid (values_worked (core.passes by) work core.values (PAGE page)) ≡ true
-        → bytes_in (values_worked (core.passes by) work core.values (PAGE page)) ≡ patched_page sizes p.call p.pages p.control page (page_now sizes opening core page)) core.passes by (worked sizes work (core.passes by))
+        → bytes_in (values_worked (core.passes by) work core.values (PAGE page)) ≡ patched_page sizes p.call p.pages p.control page (core.names page) (page_now sizes opening core (core.names page))) core.passes by (worked sizes work (core.passes by))
         (read_held page)
         (λ n ne has valid. let apart = value_apart page (far n page ne has) in ap bytes_in apart ∙ was.held n page has (sym (ap is_valid apart) ∙ valid)) n;
     gathered = by_number (λ n (p : Pass). GatheredAt sizes (page_now sizes opening core) (values_worked (core.passes by) work core.values) p.call p.pages p.fetched p.control) core.passes by (worked sizes work (core.passes by))

@@ -45,6 +45,7 @@ use Rattle.nv_core.proofs.invariant.WindowLaws.{apart_within}
 use Rattle.nv_core.proofs.log.DrawLaws.{draw_below}
 use Rattle.nv_core.proofs.log.KeepsLive.{and_false}
 use Rattle.nv_core.proofs.content.PatchLaws.{on_call, leader_in, leader_group}
+use Rattle.nv_core.specs.invariant.Index.{Index}
 
 -- ---- number by number
 
@@ -107,15 +108,18 @@ patch_same sizes log other core now page from (suc count) bytes same =
 
 -- ---- what an entry's word says
 
--- an entry that was made ready says its number's page
+-- an entry that was made ready says the unit of its number's page
 pub word_page : (sizes : Sizes) (log : Log) (core : Core) → Groups sizes core log → Pieces sizes log core → (number : ℕ) → InWindow core number → is_ready sizes core number ≡ true
-    → page_of (entry_word_at sizes core number) ≡ page_of_number sizes (log.group number) number
+    → core.names (page_of (entry_word_at sizes core number)) ≡ page_of_number sizes (log.group number) number
 word_page sizes log core groups pieces number within ready_ =
-    ap page_of (pieces.says number within ready_)
-    ∙ page_is (kind_of (entry_word_at sizes core number)) (if number == (log.group number).first then (log.group number).entries else 0) (page_of_number sizes (log.group number) number) (omega arith)
+    let said = pieces.says number within ready_ in
+    ap core.names
+    (ap page_of said.is
+    ∙ page_is (kind_of (entry_word_at sizes core number)) (if number == (log.group number).first then (log.group number).entries else 0) said.unit (omega arith)
     (let g = groups.each number within in let m = g.drawn.many in let s = g.allowed.short in
     let few : (log.group number).entries ≤ mount_layout.group_limit = omega (arith, m, s) in
-    if_few (number == (log.group number).first) few)
+    if_few (number == (log.group number).first) few))
+    ∙ said.page
   where
     page_is : (kind count page : ℕ) → kind < 8 → count ≤ mount_layout.group_limit → page_of (entry_word kind count page) ≡ page
     page_is kind count page small few = omega (arith, small, few)
@@ -123,6 +127,12 @@ word_page sizes log core groups pieces number within ready_ =
     if_few : (b : Bool) → (log.group number).entries ≤ mount_layout.group_limit → (if b then (log.group number).entries else 0) ≤ mount_layout.group_limit
     if_few true few = few
     if_few false few = omega arith
+
+-- so one of a page says the unit that stands for the page
+pub word_unit : (sizes : Sizes) (log : Log) (core : Core) → Index core → Groups sizes core log → Pieces sizes log core → (number unit page : ℕ) → core.names unit ≡ page → InWindow core number → is_ready sizes core number ≡ true
+    → page_of_number sizes (log.group number) number ≡ page → page_of (entry_word_at sizes core number) ≡ unit
+word_unit sizes log core index groups pieces number unit page named within ready_ on =
+    index.apart (page_of (entry_word_at sizes core number)) unit (word_page sizes log core groups pieces number within ready_ ∙ on ∙ sym named)
 
 -- whether a word is that of an entry that was made ready, and isn't cleaned
 abbrev pub is_fresh : (word : ℕ) → Bool
@@ -250,11 +260,11 @@ module _ (loads : LoadsAreAnImage) (sizes : Sizes) (log : Log) (core : Core) (gr
 -- ---- what a step leaves of a still page's entries
 
 -- a cleaner that makes a step doesn't hold CLEANUP of a page
-abbrev pub IsClear : Core → (by page : ℕ) → Op → Type 0
-IsClear core by page (ByCleaner cleaner_op) = times (CLEANUP page) (core.passes by).owned ≡ 0
-IsClear core by page op = Unit {0}
+abbrev pub IsClear : Core → (by unit : ℕ) → Op → Type 0
+IsClear core by unit (ByCleaner cleaner_op) = times (CLEANUP unit) (core.passes by).owned ≡ 0
+IsClear core by unit op = Unit {0}
 
-module _ (sizes : Sizes) (first : Values) (log : Log) (by : ℕ) (core : Core) (found page : ℕ) (sound : Sound sizes first core) (groups : Groups sizes core log) (pieces : Pieces sizes log core) (still : IsStill sizes core page) where
+module _ (sizes : Sizes) (first : Values) (log : Log) (by : ℕ) (core : Core) (found unit page : ℕ) (named : core.names unit ≡ page) (sound : Sound sizes first core) (groups : Groups sizes core log) (pieces : Pieces sizes log core) (still : IsStill sizes core page) where
   -- what is said of a step: a number of the window has its group still, and its entry is one of the page where it was
   abbrev pub KeepsOn : Op → Type 0
   KeepsOn op = (n : ℕ) → InWindow core n
@@ -323,7 +333,7 @@ module _ (sizes : Sizes) (first : Values) (log : Log) (by : ℕ) (core : Core) (
       (alike_on (Return next) next (found - 1) n (fresh_ready (found - 1) (omega (arith, k, is)) ∙ sym (fresh_held (entry_word_at sizes core next) k)), refl)
 
   -- a cleaner's: one that is cleaned is of another page, if CLEANUP of the page isn't the cleaner's
-  cleaner_step_on : (cleaner_op : CleanerOp) → FoundEnabledByKind sizes by core (ByCleaner cleaner_op) found → times (CLEANUP page) (core.passes by).owned ≡ 0 → KeepsOn (ByCleaner cleaner_op)
+  cleaner_step_on : (cleaner_op : CleanerOp) → FoundEnabledByKind sizes by core (ByCleaner cleaner_op) found → times (CLEANUP unit) (core.passes by).owned ≡ 0 → KeepsOn (ByCleaner cleaner_op)
   cleaner_step_on (cleaner.Hold next) may apart n within =
       let k = (cleaner_hold_hand sizes first core sound by found next may).kind_is in let is : entry_word_at sizes core next ≡ found = may.is in
       (alike_on (ByCleaner (cleaner.Hold next)) next (found + 1) n (fresh_held (found + 1) (omega (arith, k, is)) ∙ sym (fresh_ready (entry_word_at sizes core next) k)), refl)
@@ -336,12 +346,14 @@ module _ (sizes : Sizes) (first : Values) (log : Log) (by : ℕ) (core : Core) (
   cleaner_step_on (Clean next) may apart n within =
       let hand = cleans_hand sizes first core sound by found next may in (
         set_apart next (found + 1) hand.within
-            (λ on. let c = subst (λ p. 1 ≤ times (CLEANUP p) (core.passes by).owned) (word_page sizes log core groups pieces next hand.within (held_was (entry_word_at sizes core next) hand.kind_is) ∙ on) hand.cleanup in omega (arith, c, apart)) n within,
+            (λ on.
+            let own = word_unit sizes log core sound.index groups pieces next unit page named hand.within (held_was (entry_word_at sizes core next) hand.kind_is) on in
+            let c = subst (λ u. 1 ≤ times (CLEANUP u) (core.passes by).owned) own hand.cleanup in omega (arith, c, apart)) n within,
         refl,
       )
   cleaner_step_on cleaner_op may apart n within = (plain_on (ByCleaner cleaner_op) may (λ slot. refl) n, refl)
 
-  pub step_on : (op : Op) → IsClear core by page op → FoundEnabledByKind sizes by core op found → KeepsOn op
+  pub step_on : (op : Op) → IsClear core by unit op → FoundEnabledByKind sizes by core op found → KeepsOn op
   step_on Draw clear may n within = let old = draw_below sizes log by core found may n within.1 in (ap (λ g. is_fresh (entry_word_at sizes core n) && page_of_number sizes g n == page) old, old)
   step_on (Seize next) clear may n within = seize_on next may n within
   step_on (Ready next) clear may n within = ready_on next may n within
@@ -354,7 +366,7 @@ module _ (sizes : Sizes) (first : Values) (log : Log) (by : ℕ) (core : Core) (
   step_on op clear may n within = (plain_on op may (λ slot. refl) n, refl)
 
   -- A step patches a still page as before, with numbers of the window.
-  pub step_patches : (op : Op) → IsClear core by page op → FoundEnabledByKind sizes by core op found → (from count : ℕ) (bytes : List ℕ) → ((n : ℕ) → from ≤ n → n < from + count → InWindow core n)
+  pub step_patches : (op : Op) → IsClear core by unit op → FoundEnabledByKind sizes by core op found → (from count : ℕ) (bytes : List ℕ) → ((n : ℕ) → from ≤ n → n < from + count → InWindow core n)
       → patched_from sizes (log_stepped sizes (core.passes by) op found log) (after_step sizes by op found core) page from count bytes ≡ patched_from sizes log core page from count bytes
   step_patches op clear may from count bytes inside =
       patch_same sizes log (log_stepped sizes (core.passes by) op found log) core (after_step sizes by op found core) page from count bytes

@@ -31,6 +31,7 @@ use Rattle.nv_core.proofs.log.LiveLaws.{writes_apart}
 use Rattle.nv_core.proofs.state.PageLaws.{write_pages}
 use Rattle.nv_core.proofs.content.PatchSteps.{word_page}
 use Rattle.nv_core.proofs.invariant.ForbiddenStepLaws.{no_two_writes_of_a_page}
+use Rattle.nv_core.proofs.invariant.IndexLaws.{stands_for}
 
 -- ---- a pass that has one
 
@@ -70,7 +71,7 @@ module _ (sizes : Sizes) (first : Values) (core : Core) (sound : Sound sizes fir
   -- one at hand touches no page of one that a fault ended, and makes no file longer that such a one was to
   beside_page : (by other page : ℕ) (more : Fault) → IsInFlight (core.passes by).control → IsPage sizes (core.passes by).call page → IsOneOf (core.passes other).faulted more → IsPage sizes more.call page → ⊥
   beside_page by other page more flight on is there =
-      let most = sound.broken.pages other by page more is there (checked (core.passes by).control flight) in
+      let most = sound.broken.pages other by page more is (stands_for sizes core sound.index more.call page there) (checked (core.passes by).control flight) in
       let none = no_victim page (core.passes by).control flight in
       let one = holds sizes (core.passes by) page on (core.passes by).control flight (sound.control_facts by).pages (sound.ownership by).locks in omega (arith, most, none, one)
 

@@ -24,6 +24,7 @@ use Rattle.nv_core.specs.invariant.Loaded.{LooksSound}
 use Rattle.nv_core.proofs.invariant.KeepsLocks.{entry_is}
 use Rattle.nv_core.proofs.steps.NextSteps.{next_steps_may_come}
 use Rattle.nv_core.proofs.steps.ByKind.{find_kind}
+use Rattle.nv_core.proofs.invariant.IndexLaws.{is_stood_for}
 
 pub no_place_before_the_fence : NoPlaceBeforeTheFence
 no_place_before_the_fence sizes values pass reply committing may = go pass.control committing (next_steps_may_come sizes values pass (Place reply) may)
@@ -88,7 +89,8 @@ no_seizure_of_a_held_entry sizes first core by number sound next =
     sound.window.unseized_is by number (subst (λ s. IsUnseized s (core.passes by).first (core.passes by).entries number) (sym may) (omega arith, at.1.1))
 
 pub no_victim_of_the_call : NoVictimOfTheCall
-no_victim_of_the_call sizes first core by page sound = go (core.passes by).control (sound.control_facts by).at (sound.control_facts by).pages
+no_victim_of_the_call sizes first core by page sound is own =
+    go (core.passes by).control (sound.control_facts by).at (sound.control_facts by).pages is (is_stood_for sizes core sound.index (core.passes by).call page own)
   where
     go : (control : Control) → FactsAt sizes (core.passes by) control → PagesAt sizes (core.passes by) control → IsSought control page → IsPage sizes (core.passes by).call page → ⊥
     go (Searching missed tries (TakeVictim buffer victim)) stands pages is own = not_own sizes (core.passes by).call (core.passes by).pages pages buffer victim page stands.2 own is

@@ -14,7 +14,7 @@ use Rattle.nv_core.specs.state.Core.{Core, with_number, changes, changed_pass, a
 use Rattle.nv_core.specs.steps.Events.{Act, BeginsCall, TakesStep, CallsDevice, Event, after_act, after_event, after_run, IsRun}
 use Rattle.nv_core.proofs.steps.ByKind.{FoundEnabledByKind, ActEnabledByKind, act_kind}
 use Rattle.nv_core.specs.steps.Opening.{opening}
-use Rattle.nv_core.specs.invariant.ControlFacts.{has_call}
+use Rattle.nv_core.specs.invariant.ControlFacts.{IsPage, has_call}
 use Rattle.nv_core.specs.invariant.Sound.{Sound}
 use Rattle.nv_core.specs.invariant.InvariantLaws.{OpeningIsSound, EventsKeepSound}
 use Rattle.nv_core.specs.invariant.GoingBack.{passed_stepped, passed_acted, passed_after, CallsHoldNothingBroken}
@@ -29,6 +29,7 @@ use Rattle.nv_core.proofs.invariant.FaultedCells.{lent, IsTakenBefore, IsAtLocks
 use Rattle.nv_core.proofs.invariant.KeepsFaultedWrites as pages
 use Rattle.nv_core.proofs.invariant.KeepsFaultedLengths as lengths
 use Rattle.nv_core.proofs.invariant.Reach.{sound_begin}
+use Rattle.nv_core.proofs.invariant.IndexLaws.{names_after}
 
 -- ---- a step leads to a call's locks from there alone
 
@@ -261,12 +262,12 @@ module _ (Bars : Fault → Word → Type 0) (early : (fault : Fault) (cell : Wor
 
 pub calls_hold_nothing_broken : OpeningIsSound → EventsKeepSound → CallsHoldNothingBroken
 calls_hold_nothing_broken opens keep mount events by other fault is_mount run call has ne ended = record {
-  pages = λ page on. pages_kept.off_limits other by (PAGE page) fault ended (page, refl, on) call has ne;
+  pages = λ unit on. pages_kept.off_limits other by (PAGE unit) fault ended (unit, refl, subst (λ names. IsPage mount.sizes fault.call (names unit)) (names_after mount.sizes (opening mount) events) on) call has ne;
   file = λ extends. let none = lengths_kept.off_limits other by (SIZE (file_of fault.call)) fault ended (refl, extends) call has ne in omega (arith, none);
 }
   where
-    pages_kept : Kept (pages.Bars mount.sizes) (pages.early mount.sizes) (after_run mount.sizes (opening mount) events) (passed_after events (λ n. false))
-    pages_kept = kept_run (pages.Bars mount.sizes) (pages.early mount.sizes) keep mount.sizes mount.values
+    pages_kept : Kept (pages.Bars mount.sizes (λ unit. unit)) (pages.early mount.sizes (λ unit. unit)) (after_run mount.sizes (opening mount) events) (passed_after events (λ n. false))
+    pages_kept = kept_run (pages.Bars mount.sizes (λ unit. unit)) (pages.early mount.sizes (λ unit. unit)) keep mount.sizes mount.values
         (λ core by sound fails cell own. subst (λ c. times c (core.passes by).owned ≡ 1) (sym own.1) (pages.failing_page mount.sizes (core.passes by) own.0 (core.passes by).control fails (sound.control_facts by).pages (sound.ownership by).locks own.2))
         events (opening mount) (λ n. false) (opens mount is_mount) (record { off_limits = λ n m cell fault is. absurd is; locks = λ m is. refl }) run
 

@@ -18,6 +18,8 @@ use Rattle.nv_core.specs.invariant.Sound.{Sound}
 use Rattle.nv_core.proofs.state.Changes.{by_number, differ}
 use Rattle.nv_core.proofs.state.Choices.{if_both}
 use Rattle.nv_core.proofs.invariant.KeepsLoaded.{holds_page}
+use Rattle.nv_core.specs.invariant.Index.{Index}
+use Rattle.nv_core.proofs.invariant.IndexLaws.{index_kept, stands_for, is_stood_for}
 use Rattle.nv_core.proofs.invariant.FaultedCells.{lent, IsTakenBefore, before, unstopped, found_open, first_unchecked, worked_checked, AreSole, off_limits_step, off_limits_begin, off_limits_work, sole_step, sole_begin, sole_work}
 
 -- ---- the parts
@@ -78,32 +80,33 @@ failing_page sizes pass page SetStopAfterCommit may pages held is = holds_page s
 failing_page sizes pass page control may pages held is = absurd may
 
 -- the pages of its call, which a fault has left shut
-abbrev pub Bars : Sizes → Fault → Word → Type 0
-Bars sizes fault cell = (page : ℕ) × (cell ≡ PAGE page) × IsPage sizes fault.call page
+abbrev pub Bars : Sizes → (names : ℕ → ℕ) → Fault → Word → Type 0
+Bars sizes names fault cell = (unit : ℕ) × (cell ≡ PAGE unit) × IsPage sizes fault.call (names unit)
 
-pub early : (sizes : Sizes) (fault : Fault) (cell : Word) → Bars sizes fault cell → IsTakenBefore cell
-early sizes fault cell is = subst IsTakenBefore (sym is.1) record { store = λ file. differ (PAGE is.0) (STORE file) refl; cleanup = λ page. differ (PAGE is.0) (CLEANUP page) refl; entry = λ slot. differ (PAGE is.0) (ENTRY slot) refl }
+pub early : (sizes : Sizes) (names : ℕ → ℕ) (fault : Fault) (cell : Word) → Bars sizes names fault cell → IsTakenBefore cell
+early sizes names fault cell is = subst IsTakenBefore (sym is.1) record { store = λ file. differ (PAGE is.0) (STORE file) refl; cleanup = λ page. differ (PAGE is.0) (CLEANUP page) refl; entry = λ slot. differ (PAGE is.0) (ENTRY slot) refl }
 
-were_off_limits : (sizes : Sizes) (core : Core) → Broken sizes core → (n m : ℕ) (cell : Word) (fault : Fault) → IsOneOf (core.passes n).faulted fault → Bars sizes fault cell → HasChecked (core.passes m).control → times cell (core.passes m).owned ≤ lent (core.passes m).control cell
+were_off_limits : (sizes : Sizes) (core : Core) → Broken sizes core → (n m : ℕ) (cell : Word) (fault : Fault) → IsOneOf (core.passes n).faulted fault → Bars sizes core.names fault cell → HasChecked (core.passes m).control → times cell (core.passes m).owned ≤ lent (core.passes m).control cell
 were_off_limits sizes core broken n m cell fault is at checked = subst (λ c. times c (core.passes m).owned ≤ lent (core.passes m).control c) (sym at.1) (broken.pages n m at.0 fault is at.2 checked)
 
-were_sole : (sizes : Sizes) (core : Core) → Broken sizes core → AreSole (Bars sizes) (early sizes) core
-were_sole sizes core broken n m cell fault more is too a b = broken.one n m a.0 fault more is too a.2 (subst (IsPage sizes more.call) (sym (ap index (sym a.1 ∙ b.1))) b.2)
+were_sole : (sizes : Sizes) (core : Core) → Broken sizes core → AreSole (Bars sizes core.names) (early sizes core.names) core
+were_sole sizes core broken n m cell fault more is too a b = broken.one n m (core.names a.0) fault more is too a.2 (subst (λ unit. IsPage sizes more.call (core.names unit)) (sym (ap index (sym a.1 ∙ b.1))) b.2)
 
-pages_once : (sizes : Sizes) (core : Core) → AreSole (Bars sizes) (early sizes) core → (n m page : ℕ) (fault more : Fault) → IsOneOf (core.passes n).faulted fault → IsOneOf (core.passes m).faulted more
+pages_once : (sizes : Sizes) (core : Core) → Index core → AreSole (Bars sizes core.names) (early sizes core.names) core → (n m page : ℕ) (fault more : Fault) → IsOneOf (core.passes n).faulted fault → IsOneOf (core.passes m).faulted more
     → IsPage sizes fault.call page → IsPage sizes more.call page → n ≡ m
-pages_once sizes core sole n m page fault more is too a b = sole n m (PAGE page) fault more is too (page, refl, a) (page, refl, b)
+pages_once sizes core index sole n m page fault more is too a b =
+    sole n m (PAGE page) fault more is too (page, refl, stands_for sizes core index fault.call page a) (page, refl, stands_for sizes core index more.call page b)
 
 pub broken_step : (sizes : Sizes) (first : Values) (by : ℕ) (core : Core) (op : Op) (found : ℕ) → Sound sizes first core → Broken sizes core → FoundEnabledByKind sizes by core op found → Broken sizes (after_step sizes by op found core)
 broken_step sizes first by core op found sound broken may = record {
   stopped = by_number (λ n (p : Pass). p.faulted ≢ [] → p.stopped ≡ true) core.passes who now (stopped_here sizes by core found op broken) (λ n ne. broken.stopped n);
   once = by_number (λ n (p : Pass). length p.faulted ≤ 1) core.passes who now (once_here sizes by core found op broken may.may) (λ n ne. broken.once n);
   passed = by_number (λ n (p : Pass). HasChecked p.control → p.faulted ≡ []) core.passes who now (passed_here sizes first by core found op sound broken may) (λ n ne. broken.passed n);
-  pages = λ n m page fault is at. off_limits_step (Bars sizes) (early sizes) sizes first by core op found sound may
-      (λ fails cell own. subst (λ c. times c (core.passes by).owned ≡ 1) (sym own.1) (failing_page sizes (core.passes by) own.0 (core.passes by).control fails (sound.control_facts by).pages (sound.ownership by).locks own.2))
-      (were_off_limits sizes core broken) n m (PAGE page) fault is (page, refl, at);
-  one = pages_once sizes (after_step sizes by op found core) (sole_step (Bars sizes) (early sizes) sizes first by core op found sound may
-      (λ fails cell own. subst (λ c. times c (core.passes by).owned ≡ 1) (sym own.1) (failing_page sizes (core.passes by) own.0 (core.passes by).control fails (sound.control_facts by).pages (sound.ownership by).locks own.2))
+  pages = λ n m unit fault is at. off_limits_step (Bars sizes core.names) (early sizes core.names) sizes first by core op found sound may
+      (λ fails cell own. subst (λ c. times c (core.passes by).owned ≡ 1) (sym own.1) (failing_page sizes (core.passes by) own.0 (core.passes by).control fails (sound.control_facts by).pages (sound.ownership by).locks (is_stood_for sizes core sound.index (core.passes by).call own.0 own.2)))
+      (were_off_limits sizes core broken) n m (PAGE unit) fault is (unit, refl, at);
+  one = pages_once sizes (after_step sizes by op found core) (index_kept core (after_step sizes by op found core) refl sound.index) (sole_step (Bars sizes core.names) (early sizes core.names) sizes first by core op found sound may
+      (λ fails cell own. subst (λ c. times c (core.passes by).owned ≡ 1) (sym own.1) (failing_page sizes (core.passes by) own.0 (core.passes by).control fails (sound.control_facts by).pages (sound.ownership by).locks (is_stood_for sizes core sound.index (core.passes by).call own.0 own.2)))
       (were_off_limits sizes core broken) (were_sole sizes core broken));
 }
   where
@@ -120,8 +123,8 @@ broken_begin sizes first by core call sound broken may = record {
   stopped = by_number (λ n (p : Pass). p.faulted ≢ [] → p.stopped ≡ true) core.passes by (begun sizes call (core.passes by)) (broken.stopped by) (λ n ne. broken.stopped n);
   once = by_number (λ n (p : Pass). length p.faulted ≤ 1) core.passes by (begun sizes call (core.passes by)) (broken.once by) (λ n ne. broken.once n);
   passed = by_number (λ n (p : Pass). HasChecked p.control → p.faulted ≡ []) core.passes by (begun sizes call (core.passes by)) (λ is. absurd (first_unchecked sizes (plain_call call) is)) (λ n ne. broken.passed n);
-  pages = λ n m page fault is at. off_limits_begin (Bars sizes) (early sizes) sizes by core call (were_off_limits sizes core broken) n m (PAGE page) fault is (page, refl, at);
-  one = pages_once sizes (after_begin sizes by call core) (sole_begin (Bars sizes) (early sizes) sizes by core call (were_sole sizes core broken));
+  pages = λ n m unit fault is at. off_limits_begin (Bars sizes core.names) (early sizes core.names) sizes by core call (were_off_limits sizes core broken) n m (PAGE unit) fault is (unit, refl, at);
+  one = pages_once sizes (after_begin sizes by call core) (index_kept core (after_begin sizes by call core) refl sound.index) (sole_begin (Bars sizes core.names) (early sizes core.names) sizes by core call (were_sole sizes core broken));
 }
 
 pub broken_work : (sizes : Sizes) (first : Values) (by : ℕ) (core : Core) (work : Work) → Sound sizes first core → Broken sizes core → CallEnabled sizes core.values (core.passes by) work → Broken sizes (after_work sizes by work core)
@@ -129,6 +132,6 @@ broken_work sizes first by core work sound broken may = record {
   stopped = by_number (λ n (p : Pass). p.faulted ≢ [] → p.stopped ≡ true) core.passes by (worked sizes work (core.passes by)) (broken.stopped by) (λ n ne. broken.stopped n);
   once = by_number (λ n (p : Pass). length p.faulted ≤ 1) core.passes by (worked sizes work (core.passes by)) (broken.once by) (λ n ne. broken.once n);
   passed = by_number (λ n (p : Pass). HasChecked p.control → p.faulted ≡ []) core.passes by (worked sizes work (core.passes by)) (λ is. broken.passed by (worked_checked sizes core.values (core.passes by) work may.due is)) (λ n ne. broken.passed n);
-  pages = λ n m page fault is at. off_limits_work (Bars sizes) (early sizes) sizes by core work may (were_off_limits sizes core broken) n m (PAGE page) fault is (page, refl, at);
-  one = pages_once sizes (after_work sizes by work core) (sole_work (Bars sizes) (early sizes) sizes by core work (were_sole sizes core broken));
+  pages = λ n m unit fault is at. off_limits_work (Bars sizes core.names) (early sizes core.names) sizes by core work may (were_off_limits sizes core broken) n m (PAGE unit) fault is (unit, refl, at);
+  one = pages_once sizes (after_work sizes by work core) (index_kept core (after_work sizes by work core) refl sound.index) (sole_work (Bars sizes core.names) (early sizes core.names) sizes by core work (were_sole sizes core broken));
 }

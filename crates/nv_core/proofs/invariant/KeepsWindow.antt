@@ -156,7 +156,7 @@ drawn sizes first by core found sound may = go (found == (core.passes by).head) 
         let is : core.words HEAD ≡ (core.passes by).head = may.is ∙ eqb-true found (core.passes by).head e in
         let value : value_after sizes (core.passes by) Draw found ≡ core.words HEAD + page_count sizes (core.passes by).call =
         when_true (found == (core.passes by).head) (found + page_count sizes (core.passes by).call) found e ∙ ap (λ f. f + page_count sizes (core.passes by).call) (sym may.is) in
-        subst (λ v. LogWindow sizes record { words = with_value core.words HEAD v; values = core.values; passes = with_number core.passes by (changed_pass sizes by core Draw found); history = core.history ++ []; made = core.made; ended = core.ended }) (sym value)
+        subst (λ v. LogWindow sizes record { words = with_value core.words HEAD v; values = core.values; names = core.names; passes = with_number core.passes by (changed_pass sizes by core Draw found); history = core.history ++ []; made = core.made; ended = core.ended }) (sym value)
         (window_drawn sizes core by (page_count sizes (core.passes by).call) (changed_pass sizes by core Draw found) core.values (core.history ++ []) core.made core.ended sound.window
         (le_trans some few)
         (subst (λ h. h + page_count sizes (core.passes by).call ≤ 2 ^ 60) (sym is) at.1)

@@ -86,7 +86,7 @@ pub locks_move : (core : Core) → Locks core → (by : ℕ) (pass : Pass) (targ
     → pass.owned ≡ moved move (core.passes by).owned
     → (is_lock target ≡ true → new ≤ 1)
     → (values : Values) (history : List Answered) (made : ℕ) (ended : List ℕ)
-    → Locks record { words = with_value core.words target new; values = values; passes = with_number core.passes by pass; history = history; made = made; ended = ended }
+    → Locks record { words = with_value core.words target new; values = values; names = core.names; passes = with_number core.passes by pass; history = history; made = made; ended = ended }
 locks_move core locks by pass target new move fit owned small values history made ended = record {
   bit = by_word (λ cell value. is_lock cell ≡ true → value ≤ 1) core.words target new small (λ cell _. locks.bit cell);
   keyed = by_word (λ cell value. Keyed (is_shut cell value) (after_holds cell)) core.words target new (at_target move fit owned) elsewhere;

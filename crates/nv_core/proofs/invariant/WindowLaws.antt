@@ -78,7 +78,7 @@ pub window_drawn : (sizes : Sizes) (core : Core) (by count : ℕ) (pass : Pass) 
     → 1 ≤ sizes.entries → core.words HEAD + count ≤ 2 ^ 60 → core.words HEAD + count ≤ core.words TAIL + sizes.entries
     → ((s : ℕ) → HasUnseized (core.passes by) s → ⊥) → ((s : ℕ) → Fills (core.passes by) s → ⊥) → ((s : ℕ) → Fills pass s → ⊥)
     → ((s : ℕ) → HasUnseized pass s ↔ ((core.words HEAD ≤ s) × (s < core.words HEAD + count))) → Unswept (core.passes by).control → Unswept pass.control
-    → LogWindow sizes record { words = with_value core.words HEAD (core.words HEAD + count); values = values; passes = with_number core.passes by pass; history = history; made = made; ended = ended }
+    → LogWindow sizes record { words = with_value core.words HEAD (core.words HEAD + count); values = values; names = core.names; passes = with_number core.passes by pass; history = history; made = made; ended = ended }
 window_drawn sizes core by count pass values history made ended window some small room none_unseized none_filling now_filling drawn was_unswept now_unswept = record {
   order = le_trans window.order (omega arith);
   room = room;
@@ -123,7 +123,7 @@ window_drawn sizes core by count pass values history made ended window some smal
     still : (n : ℕ) (P : Pass → Type 0) → (P (core.passes by) → ⊥) → P (core.passes n) → P (with_number core.passes by pass n)
     still n P none is = subst P (sym (number_else core.passes by pass n (λ e. none (subst (λ m. P (core.passes m)) e is)))) is
 
-    numbered : (s : ℕ) → IsNumbered sizes core s → IsNumbered sizes record { words = with_value core.words HEAD (core.words HEAD + count); values = values; passes = with_number core.passes by pass; history = history; made = made; ended = ended } s
+    numbered : (s : ℕ) → IsNumbered sizes core s → IsNumbered sizes record { words = with_value core.words HEAD (core.words HEAD + count); values = values; names = core.names; passes = with_number core.passes by pass; history = history; made = made; ended = ended } s
     numbered s (Drawn n is) = Drawn n (still n (λ p. HasUnseized p s) (none_unseized s) is)
     numbered s (Filling n is) = Filling n (still n (λ p. Fills p s) (none_filling s) is)
     numbered s (Freed n is) = Freed n (still n (λ p. IsFreed p.control s) (was_unswept s).0 is)
@@ -154,7 +154,7 @@ pub record OneEntry (sizes : Sizes) (core : Core) (by next value : ℕ) (pass : 
   pub is : Fills pass next ⊎ (IsFreed pass.control next ⊎ ((kind_of value ≢ free) × (kind_of value ≢ filling)))
 
 pub window_entry : (sizes : Sizes) (core : Core) (by next value : ℕ) (pass : Pass) (values : Values) (history : List Answered) (made : ℕ) (ended : List ℕ) → LogWindow sizes core → OneEntry sizes core by next value pass
-    → LogWindow sizes record { words = with_value core.words (ENTRY (slot_of_entry sizes next)) value; values = values; passes = with_number core.passes by pass; history = history; made = made; ended = ended }
+    → LogWindow sizes record { words = with_value core.words (ENTRY (slot_of_entry sizes next)) value; values = values; names = core.names; passes = with_number core.passes by pass; history = history; made = made; ended = ended }
 window_entry sizes core by next value pass values history made ended window one = record {
   order = window.order;
   room = window.room;
@@ -213,7 +213,7 @@ window_entry sizes core by next value pass values history made ended window one 
 }
   where
     Now : Core
-    Now = record { words = with_value core.words (ENTRY (slot_of_entry sizes next)) value; values = values; passes = with_number core.passes by pass; history = history; made = made; ended = ended }
+    Now = record { words = with_value core.words (ENTRY (slot_of_entry sizes next)) value; values = values; names = core.names; passes = with_number core.passes by pass; history = history; made = made; ended = ended }
 
     else_at : (s : ℕ) → InWindow core s → s ≢ next → with_value core.words (ENTRY (slot_of_entry sizes next)) value (ENTRY (slot_of_entry sizes s)) ≡ core.words (ENTRY (slot_of_entry sizes s))
     else_at s within ne = word_else core.words (ENTRY (slot_of_entry sizes next)) value (ENTRY (slot_of_entry sizes s)) (λ e. apart_within sizes core window s next within one.within ne (ap index e))
@@ -221,7 +221,7 @@ window_entry sizes core by next value pass values history made ended window one 
     here : (P : Pass → Type 0) → P pass → P (with_number core.passes by pass by)
     here P is = subst P (sym (number_here core.passes by pass)) is
 
-    at_next : Fills pass next ⊎ (IsFreed pass.control next ⊎ ((kind_of value ≢ free) × (kind_of value ≢ filling))) → IsNumbered sizes record { words = with_value core.words (ENTRY (slot_of_entry sizes next)) value; values = values; passes = with_number core.passes by pass; history = history; made = made; ended = ended } next
+    at_next : Fills pass next ⊎ (IsFreed pass.control next ⊎ ((kind_of value ≢ free) × (kind_of value ≢ filling))) → IsNumbered sizes record { words = with_value core.words (ENTRY (slot_of_entry sizes next)) value; values = values; names = core.names; passes = with_number core.passes by pass; history = history; made = made; ended = ended } next
     at_next (inl fills) = Filling by (here (λ p. Fills p next) fills)
     at_next (inr (inl freed)) = Freed by (here (λ p. IsFreed p.control next) freed)
     at_next (inr (inr kept)) = Kept (λ e. kept.0 (ap kind_of (sym (word_here core.words (ENTRY (slot_of_entry sizes next)) value)) ∙ e)) (λ e. kept.1 (ap kind_of (sym (word_here core.words (ENTRY (slot_of_entry sizes next)) value)) ∙ e))
@@ -229,7 +229,7 @@ window_entry sizes core by next value pass values history made ended window one 
     still : (n : ℕ) (P : Pass → Type 0) → (P (core.passes by) → P pass) → P (core.passes n) → P (with_number core.passes by pass n)
     still n P keeps = by_number (λ m p. P (core.passes m) → P p) core.passes by pass keeps (λ m ne is. is) n
 
-    numbered : (s : ℕ) → InWindow core s → s ≢ next → IsNumbered sizes core s → IsNumbered sizes record { words = with_value core.words (ENTRY (slot_of_entry sizes next)) value; values = values; passes = with_number core.passes by pass; history = history; made = made; ended = ended } s
+    numbered : (s : ℕ) → InWindow core s → s ≢ next → IsNumbered sizes core s → IsNumbered sizes record { words = with_value core.words (ENTRY (slot_of_entry sizes next)) value; values = values; names = core.names; passes = with_number core.passes by pass; history = history; made = made; ended = ended } s
     numbered s within ne (Drawn n is) = Drawn n (still n (λ p. HasUnseized p s) (λ is. one.unseized_still s is ne) is)
     numbered s within ne (Filling n is) = Filling n (still n (λ p. Fills p s) (λ is. one.fills_still s is ne) is)
     numbered s within ne (Freed n is) = Freed n (still n (λ p. IsFreed p.control s) (λ is. one.frees_still s is ne) is)
@@ -250,7 +250,7 @@ pub record IsRetired (sizes : Sizes) (core : Core) (by tail : ℕ) (pass : Pass)
   pub others : (n : ℕ) → n ≢ by → Unswept (core.passes n).control
 
 pub window_retired : (sizes : Sizes) (core : Core) (by tail : ℕ) (pass : Pass) (values : Values) (history : List Answered) (made : ℕ) (ended : List ℕ) → LogWindow sizes core → IsRetired sizes core by tail pass
-    → LogWindow sizes record { words = with_value core.words TAIL tail; values = values; passes = with_number core.passes by pass; history = history; made = made; ended = ended }
+    → LogWindow sizes record { words = with_value core.words TAIL tail; values = values; names = core.names; passes = with_number core.passes by pass; history = history; made = made; ended = ended }
 window_retired sizes core by tail pass values history made ended window one = record {
   order = one.high;
   room = let r = window.room in let l = one.low in omega (arith, r, l);
@@ -296,7 +296,7 @@ window_retired sizes core by tail pass values history made ended window one = re
     still : (n : ℕ) (P : Pass → Type 0) → (P (core.passes by) → ⊥) → P (core.passes n) → P (with_number core.passes by pass n)
     still n P none is = subst P (sym (number_else core.passes by pass n (λ e. none (subst (λ m. P (core.passes m)) e is)))) is
 
-    numbered : (s : ℕ) → (tail ≤ s) × (s < core.words HEAD) → IsNumbered sizes core s → IsNumbered sizes record { words = with_value core.words TAIL tail; values = values; passes = with_number core.passes by pass; history = history; made = made; ended = ended } s
+    numbered : (s : ℕ) → (tail ≤ s) × (s < core.words HEAD) → IsNumbered sizes core s → IsNumbered sizes record { words = with_value core.words TAIL tail; values = values; names = core.names; passes = with_number core.passes by pass; history = history; made = made; ended = ended } s
     numbered s within (Drawn n is) = Drawn n (still n (λ p. HasUnseized p s) (one.none_unseized s).0 is)
     numbered s within (Filling n is) = Filling n (still n (λ p. Fills p s) (one.none_filling s).0 is)
     numbered s within (Freed n is) = absurd (elim (cases_eq n by) [

@@ -140,14 +140,18 @@ module _ (sizes : Sizes) (first : Values) (core : Core) (sound : Sound sizes fir
 
     -- the leader's word
     leader_word : (n : ℕ) → InWindow core n → (log.group n).first ≡ n → was_readied (entry_word_at sizes core n) ≡ true
-        → entry_word_at sizes core n ≡ entry_word (kind_of (entry_word_at sizes core n)) (log.group n).entries (page_of_number sizes (log.group n) n)
-    leader_word n is leads was = pieces.says n is was ∙ ap (λ c. entry_word (kind_of (entry_word_at sizes core n)) c (page_of_number sizes (log.group n) n)) (when_true (n == (log.group n).first) (log.group n).entries 0 (eq-eqb n (log.group n).first (sym leads)))
+        → (unit : ℕ) × (entry_word_at sizes core n ≡ entry_word (kind_of (entry_word_at sizes core n)) (log.group n).entries unit) × (core.names unit ≡ page_of_number sizes (log.group n) n)
+    leader_word n is leads was =
+        let said = pieces.says n is was in
+        (said.unit, said.is ∙ ap (λ c. entry_word (kind_of (entry_word_at sizes core n)) c said.unit) (when_true (n == (log.group n).first) (log.group n).entries 0 (eq-eqb n (log.group n).first (sym leads))), said.page)
 
     leader_count : (n : ℕ) → InWindow core n → (log.group n).first ≡ n → was_readied (entry_word_at sizes core n) ≡ true → count_of (entry_word_at sizes core n) ≡ (log.group n).entries
-    leader_count n is leads was = ap count_of (leader_word n is leads was) ∙ word_count (kind_of (entry_word_at sizes core n)) (log.group n).entries (page_of_number sizes (log.group n) n) (kind_small (entry_word_at sizes core n)) (group_few n is).1
+    leader_count n is leads was = let word = leader_word n is leads was in ap count_of word.1 ∙ word_count (kind_of (entry_word_at sizes core n)) (log.group n).entries word.0 (kind_small (entry_word_at sizes core n)) (group_few n is).1
 
-    leader_page : (n : ℕ) → InWindow core n → (log.group n).first ≡ n → was_readied (entry_word_at sizes core n) ≡ true → page_of (entry_word_at sizes core n) ≡ page_of_number sizes (log.group n) n
-    leader_page n is leads was = ap page_of (leader_word n is leads was) ∙ word_page (kind_of (entry_word_at sizes core n)) (log.group n).entries (page_of_number sizes (log.group n) n) (kind_small (entry_word_at sizes core n)) (group_few n is).1
+    leader_page : (n : ℕ) → InWindow core n → (log.group n).first ≡ n → was_readied (entry_word_at sizes core n) ≡ true → core.names (page_of (entry_word_at sizes core n)) ≡ page_of_number sizes (log.group n) n
+    leader_page n is leads was =
+        let word = leader_word n is leads was in
+        ap core.names (ap page_of word.1 ∙ word_page (kind_of (entry_word_at sizes core n)) (log.group n).entries word.0 (kind_small (entry_word_at sizes core n)) (group_few n is).1) ∙ word.2
 
     -- the file of a number's page is its call's
     pub file_of_number : (n : ℕ) → InWindow core n → file_of_page sizes (page_of_number sizes (log.group n) n) ≡ file_of (log.group n).call
@@ -170,7 +174,8 @@ module _ (sizes : Sizes) (first : Values) (core : Core) (sound : Sound sizes fir
       group_file_is inner way some =
           let leader = leader_looked inner way some in
           let page : group_page batch 0 ≡ page_of_number sizes (log.group batch.reached) batch.reached =
-          sym (way.looked 0 some).page ∙ ap (λ n. page_of (entry_word_at sizes core n)) reached_same ∙ leader_page batch.reached leader.0 (way.leads leader.0) leader.1 in
+          sym (way.looked 0 some).page ∙ ap (λ n. page_of (entry_word_at sizes core n)) reached_same ∙ sym (sound.index.direct (page_of (entry_word_at sizes core batch.reached)))
+          ∙ leader_page batch.reached leader.0 (way.leads leader.0) leader.1 in
           ap (λ p. p / sizes.pages) page ∙ file_of_number batch.reached leader.0
 
       -- the numbers of the group at hand

@@ -1,8 +1,8 @@
 -- Each event keeps what the ENTRY words say.
-use Rattle.std.proofs.Common.{◌≡◌, ◌≢◌, ◌⊎◌, ℕ, ◌+◌, ◌<◌, ◌≤◌, ◌==◌, Bool, true, false, if◌then◌else◌, length, inl, inr, refl, sym, ap, subst, ◌∙◌, arith, ap₂, ◌-◌}
+use Rattle.std.proofs.Common.{◌≡◌, ◌≢◌, ◌⊎◌, ℕ, ◌+◌, ◌<◌, ◌≤◌, ◌==◌, Bool, true, false, if◌then◌else◌, length, inl, inr, refl, sym, ap, subst, ◌∙◌, arith, ◌-◌}
 use Rattle.std.proofs.lemmas.Bool.{eqb-true, eqb-false, cases_eq, cases_lt}
 use Rattle.nv_plain.specs.declared.call.FileCall.{FileCall}
-use Rattle.nv_core.specs.state.Words.{Sizes, Word, HEAD, TAIL, ENTRY, kind_of, free, filling, ready, held, cleaned, broken, index, was_readied, is_entry_of, slot_of_entry}
+use Rattle.nv_core.specs.state.Words.{Sizes, Word, HEAD, TAIL, ENTRY, kind_of, free, filling, ready, held, cleaned, broken, index, was_readied, is_entry_of, entry_word, slot_of_entry}
 use Rattle.nv_core.specs.state.Values.{CallEnding, Made, Failed, Refused}
 use Rattle.nv_core.specs.state.Passes.{Control, TakePage, LoadStop, ReadStore, SeizeEntry, CommitGroup, PledgePage, ReadyEntry, TakePlace, SetStopAfterRead, SetStopAfterCommit, BreakEntry, Pass, IsUnseized, IsFilling, IsAmong, page_count, first_page, end_page, without, SetStopAfterPiece, ReadPiece, Cleaning, plain_call}
 use Rattle.nv_core.specs.steps.Ops.{Op, page_at, ready_word, Load, Take, Give, Place, Stop, Draw, Seize, Pledge, Ready, Grow, Break, Split, PutBack, Join, Turn, Hint, Hold, Return, ByCleaner}
@@ -21,7 +21,7 @@ use Rattle.nv_core.specs.invariant.Loaded.{LooksSound}
 use Rattle.nv_core.specs.log.Progress.{Progress}
 use Rattle.nv_core.specs.invariant.LogWindow.{InWindow, entry_word_at, WasReadied}
 use Rattle.nv_core.specs.log.Groups.{Group, Log, group_of, with_group, log_stepped, log_worked, HasGroup, IsOwn, Groups}
-use Rattle.nv_core.specs.log.Pieces.{word_of_number, IsReadied, Pieces, page_of_number}
+use Rattle.nv_core.specs.log.Pieces.{IsWordOf, IsReadied, Pieces}
 use Rattle.nv_core.specs.invariant.Sound.{Sound}
 use Rattle.nv_core.proofs.state.Changes.{by_number, by_word, word_here, word_else, differ}
 use Rattle.nv_core.proofs.state.Choices.{if_both, when_true, when_false, not_both}
@@ -44,13 +44,13 @@ clear_readied (ReadyEntry next) first entries n clear is = clear
 clear_readied control first entries n clear is = is
 
 -- a word that is what it was says what it said
-same_says : (sizes : Sizes) {now was : ℕ} (group : Group) (number : ℕ) → now ≡ was → was ≡ word_of_number sizes group (kind_of was) number → now ≡ word_of_number sizes group (kind_of now) number
-same_says sizes group number e says = e ∙ says ∙ ap (λ w. word_of_number sizes group (kind_of w) number) (sym e)
+same_says : (sizes : Sizes) (names : ℕ → ℕ) {now was : ℕ} (group : Group) (number : ℕ) → now ≡ was → IsWordOf sizes names group number was → IsWordOf sizes names group number now
+same_says sizes names group number e says = subst (IsWordOf sizes names group number) (sym e) says
 
 -- all of it but what it says of the leaders of cleaned entries
 record Said (sizes : Sizes) (log : Log) (core : Core) : Type 0 where
   says : (number : ℕ) → InWindow core number → was_readied (entry_word_at sizes core number) ≡ true
-      → entry_word_at sizes core number ≡ word_of_number sizes (log.group number) (kind_of (entry_word_at sizes core number)) number
+      → IsWordOf sizes core.names (log.group number) number (entry_word_at sizes core number)
   followers : (number other : ℕ) → InWindow core number → (log.group number).first ≡ number → was_readied (entry_word_at sizes core number) ≡ true
       → IsAmong number (log.group number).entries other → was_readied (entry_word_at sizes core other) ≡ true
   readied : (by number : ℕ) → IsReadied (core.passes by).control (core.passes by).first (core.passes by).entries number
@@ -61,13 +61,14 @@ record Said (sizes : Sizes) (log : Log) (core : Core) : Type 0 where
 back : (core now : Core) → now.words HEAD ≡ core.words HEAD → now.words TAIL ≡ core.words TAIL → (n : ℕ) → InWindow now n → InWindow core n
 back core now head tail n is = (subst (λ t. t ≤ n) tail is.0, subst (λ h. n < h) head is.1)
 
-module _ (sizes : Sizes) (log : Log) (core now : Core) (was : (n : ℕ) → InWindow now n → InWindow core n) where
+module _ (sizes : Sizes) (log : Log) (core now : Core) (names : now.names ≡ core.names) (was : (n : ℕ) → InWindow now n → InWindow core n) where
   pieces_kept : ((slot : ℕ) → was_readied (now.words (ENTRY slot)) ≡ true → now.words (ENTRY slot) ≡ core.words (ENTRY slot))
       → ((slot : ℕ) → was_readied (core.words (ENTRY slot)) ≡ true → now.words (ENTRY slot) ≡ core.words (ENTRY slot))
       → ((by n : ℕ) → IsReadied (now.passes by).control (now.passes by).first (now.passes by).entries n → was_readied (entry_word_at sizes core n) ≡ true)
       → Pieces sizes log core → Said sizes log now
   pieces_kept same still readied pieces = record {
-    says = λ n is kind. let e = same (slot_of_entry sizes n) kind in same_says sizes (log.group n) n e (pieces.says n (was n is) (ap was_readied (sym e) ∙ kind));
+    says = λ n is kind. let e = same (slot_of_entry sizes n) kind in
+        subst (λ f. IsWordOf sizes f (log.group n) n (entry_word_at sizes now n)) (sym names) (same_says sizes core.names (log.group n) n e (pieces.says n (was n is) (ap was_readied (sym e) ∙ kind)));
     followers = λ n other is leads kind among. let e = same (slot_of_entry sizes n) kind in
         stays (slot_of_entry sizes other) (pieces.followers n other (was n is) leads (ap was_readied (sym e) ∙ kind) among);
     readied = λ by n is. stays (slot_of_entry sizes n) (readied by n is);
@@ -88,7 +89,7 @@ plain_step : (sizes : Sizes) (log : Log) (by : ℕ) (core : Core) (op : Op) (fou
     → ((n : ℕ) → IsReadied (changed_pass sizes by core op found).control (changed_pass sizes by core op found).first (changed_pass sizes by core op found).entries n → was_readied (entry_word_at sizes core n) ≡ true)
     → Said sizes log (after_step sizes by op found core)
 plain_step sizes log by core op found pieces may head tail entry here =
-    pieces_kept sizes log core (after_step sizes by op found core) (back core (after_step sizes by op found core) (untouched sizes by core op found may HEAD head) (untouched sizes by core op found may TAIL tail))
+    pieces_kept sizes log core (after_step sizes by op found core) refl (back core (after_step sizes by op found core) (untouched sizes by core op found may HEAD head) (untouched sizes by core op found may TAIL tail))
     (λ slot _. untouched sizes by core op found may (ENTRY slot) (entry slot)) (λ slot _. untouched sizes by core op found may (ENTRY slot) (entry slot)) (readied_now sizes log by core op found pieces here) pieces
 
 none_readied : (sizes : Sizes) (core : Core) (by found number : ℕ) (op : Op) → IsPlain op → EnabledByKind sizes core.values (core.passes by) op
@@ -101,7 +102,7 @@ entry_step : (sizes : Sizes) (log : Log) (by : ℕ) (core : Core) (op : Op) (fou
     → ((n : ℕ) → IsReadied (changed_pass sizes by core op found).control (changed_pass sizes by core op found).first (changed_pass sizes by core op found).entries n → was_readied (entry_word_at sizes core n) ≡ true)
     → Said sizes log (after_step sizes by op found core)
 entry_step sizes log by core op found slot value pieces words not_now not_before here =
-    pieces_kept sizes log core (after_step sizes by op found core)
+    pieces_kept sizes log core (after_step sizes by op found core) refl
     (back core (after_step sizes by op found core) (ap (λ w. w HEAD) words ∙ word_else core.words (ENTRY slot) value HEAD (differ HEAD (ENTRY slot) refl))
     (ap (λ w. w TAIL) words ∙ word_else core.words (ENTRY slot) value TAIL (differ TAIL (ENTRY slot) refl)))
     (λ other is. ap (λ w. w (ENTRY other)) words ∙ now (ENTRY other) (ap (λ w. was_readied (w (ENTRY other))) (sym words) ∙ is))
@@ -121,10 +122,13 @@ rekind_step : (sizes : Sizes) (first : Values) (log : Log) (by : ℕ) (core : Co
     → Said sizes log (after_step sizes by op found core)
 rekind_step sizes first log by core op found next value sound pieces words rekinded here = record {
   says = λ n is kind. elim (cases_eq n next) [
-    | inl same ↦ subst (λ m. entry_word_at sizes now m ≡ word_of_number sizes (log.group m) (kind_of (entry_word_at sizes now m)) m) (sym same)
-        (word_next ∙ rekinded.says (if next == (log.group next).first then (log.group next).entries else 0) (page_of_number sizes (log.group next) next) (pieces.says next rekinded.within rekinded.was)
-        ∙ ap (λ w. word_of_number sizes (log.group next) (kind_of w) next) (sym word_next))
-    | inr ne ↦ let e = word_apart n (was n is) ne in same_says sizes (log.group n) n e (pieces.says n (was n is) (ap was_readied (sym e) ∙ kind))
+    | inl same ↦ let said = pieces.says next rekinded.within rekinded.was in
+        subst (λ m. IsWordOf sizes core.names (log.group m) m (entry_word_at sizes now m)) (sym same) (same_says sizes core.names (log.group next) next word_next record {
+          unit = said.unit;
+          is = rekinded.says (if next == (log.group next).first then (log.group next).entries else 0) said.unit said.is;
+          page = said.page;
+        })
+    | inr ne ↦ let e = word_apart n (was n is) ne in same_says sizes core.names (log.group n) n e (pieces.says n (was n is) (ap was_readied (sym e) ∙ kind))
   ];
   followers = λ n other is leads kind among. still other (pieces.followers n other (was n is) leads (before n kind) among);
   readied = λ other n is. still n (readied_now sizes log by core op found pieces here other n is);
@@ -216,9 +220,13 @@ module _ (sizes : Sizes) (first : Values) (log : Log) (by : ℕ) (core : Core) (
   ready_step : Said sizes log now
   ready_step = record {
     says = λ n is kind. elim (cases_eq n next) [
-      | inl same ↦ subst (λ m. entry_word_at sizes now m ≡ word_of_number sizes (log.group m) (kind_of (entry_word_at sizes now m)) m) (sym same)
-          (word_now ∙ ap₂ (λ g k. word_of_number sizes g k next) (sym (own next at_next.1).group) (sym (ap kind_of word_now ∙ kind_is 2 (if next == pass.first then pass.entries else 0) (page_at sizes pass next) (omega arith))))
-      | inr ne ↦ let e = word_apart n (window_was n is) ne in same_says sizes (log.group n) n e (pieces.says n (window_was n is) (ap was_readied (sym e) ∙ kind))
+      | inl same ↦ subst (λ m. IsWordOf sizes core.names (log.group m) m (entry_word_at sizes now m)) (sym same)
+          (subst (λ g. IsWordOf sizes core.names g next (entry_word_at sizes now next)) (sym (own next at_next.1).group) (same_says sizes core.names (group_of pass) next word_now record {
+            unit = page_at sizes pass next;
+            is = ap (λ kind. entry_word kind (if next == pass.first then pass.entries else 0) (page_at sizes pass next)) (sym (kind_is 2 (if next == pass.first then pass.entries else 0) (page_at sizes pass next) (omega arith)));
+            page = sound.index.direct (page_at sizes pass next);
+          }))
+      | inr ne ↦ let e = word_apart n (window_was n is) ne in same_says sizes core.names (log.group n) n e (pieces.says n (window_was n is) (ap was_readied (sym e) ∙ kind))
     ];
     followers = λ n other is leads kind among. elim (cases_eq n next) [
       | inl same ↦
@@ -268,7 +276,7 @@ draw_step sizes first log by core found sound pieces may = go (found == (core.pa
 
     go : (b : Bool) → (found == (core.passes by).head) ≡ b → Said sizes (log_stepped sizes (core.passes by) Draw found log) (after_step sizes by Draw found core)
     go false e = subst (λ l. Said sizes l (after_step sizes by Draw found core)) (sym (when_false (found == (core.passes by).head) (with_group group log) log e))
-        (pieces_kept sizes log core (after_step sizes by Draw found core) (back core (after_step sizes by Draw found core) (lost_head sizes by core found may e) refl)
+        (pieces_kept sizes log core (after_step sizes by Draw found core) refl (back core (after_step sizes by Draw found core) (lost_head sizes by core found may e) refl)
         (λ slot _. refl) (λ slot _. refl) (readied_now sizes log by core Draw found pieces none) pieces)
     go true e = subst (λ l. Said sizes l (after_step sizes by Draw found core)) (sym (when_true (found == (core.passes by).head) (with_group group log) log e)) won
       where
@@ -281,7 +289,7 @@ draw_step sizes first log by core found sound pieces may = go (found == (core.pa
         won : Said sizes (with_group group log) (after_step sizes by Draw found core)
         won = record {
           says = λ n is kind. elim (split n is) [
-            | inl was ↦ pieces.says n was kind ∙ ap (λ g. word_of_number sizes g (kind_of (entry_word_at sizes core n)) n) (sym (old n was.1))
+            | inl was ↦ subst (λ g. IsWordOf sizes core.names g n (entry_word_at sizes core n)) (sym (old n was.1)) (pieces.says n was kind)
             | inr new ↦ absurd (not_ready n new kind)
           ];
           followers = λ n other is leads kind among. elim (split n is) [
@@ -342,7 +350,7 @@ module _ (sizes : Sizes) (first : Values) (log : Log) (by : ℕ) (core : Core) (
 
   free_step : Said sizes log freed_now
   free_step = record {
-    says = λ n is kind. let e = free_apart n (free_back n is) (free_other n kind) in same_says sizes (log.group n) n e (pieces.says n (free_back n is) (ap was_readied (sym e) ∙ kind));
+    says = λ n is kind. let e = free_apart n (free_back n is) (free_other n kind) in same_says sizes core.names (log.group n) n e (pieces.says n (free_back n is) (ap was_readied (sym e) ∙ kind));
     followers = λ n other is leads kind among.
         let w = free_back n is in let e = free_apart n w (free_other n kind) in let was = ap was_readied (sym e) ∙ kind in
         let h = (groups.each n w).high in let t = w.0 in let a = among.0 in let b = among.1 in
@@ -408,7 +416,7 @@ said_step sizes first log by core (ByCleaner (cleaner.Return next)) found sound 
 said_step sizes first log by core (ByCleaner (Clean next)) found sound groups pieces may =
     rekind_step sizes first log by core (ByCleaner (Clean next)) found next (found + 1) sound pieces refl (cleans_rekind sizes first by core found next sound may) (none_readied sizes core by found by (ByCleaner (Clean next)) tt may.may)
 said_step sizes first log by core (ByCleaner (Free next)) found sound groups pieces may = free_step sizes first log by core found next sound groups pieces may
-said_step sizes first log by core (ByCleaner (MoveTail tail)) found sound groups pieces may = pieces_kept sizes log core (after_step sizes by (ByCleaner (MoveTail tail)) found core)
+said_step sizes first log by core (ByCleaner (MoveTail tail)) found sound groups pieces may = pieces_kept sizes log core (after_step sizes by (ByCleaner (MoveTail tail)) found core) refl
     (λ n is. let low = is.0 in let high = is.1 in let l = (retires_hand sizes first core sound by found tail may).low in let t : (after_step sizes by (ByCleaner (MoveTail tail)) found core).words TAIL ≡ tail = word_here core.words TAIL tail in (omega (arith, low, l, t), high))
     (λ slot _. untouched sizes by core (ByCleaner (MoveTail tail)) found may (ENTRY slot) refl) (λ slot _. untouched sizes by core (ByCleaner (MoveTail tail)) found may (ENTRY slot) refl)
     (readied_now sizes log by core (ByCleaner (MoveTail tail)) found pieces (none_readied sizes core by found by (ByCleaner (MoveTail tail)) tt may.may)) pieces
@@ -522,7 +530,7 @@ pieces_begin sizes log by core call pieces may =
     record { says = said.says; followers = said.followers; leaders = λ n is kind. begun_still sizes by core call may (log.group n).first (pieces.leaders n is kind); readied = said.readied }
   where
     said : Said sizes log (after_begin sizes by call core)
-    said = pieces_kept sizes log core (after_begin sizes by call core) (λ n is. is) (λ slot _. refl) (λ slot _. refl)
+    said = pieces_kept sizes log core (after_begin sizes by call core) refl (λ n is. is) (λ slot _. refl) (λ slot _. refl)
         (by_number (λ other (p : Pass). (n : ℕ) → IsReadied p.control p.first p.entries n → was_readied (entry_word_at sizes core n) ≡ true) core.passes by (begun sizes call (core.passes by))
         (λ n. if_both (λ s. IsReadied s 0 0 n → was_readied (entry_word_at sizes core n) ≡ true) (page_count sizes (plain_call call) == 0) LoadStop (TakePage (first_page sizes (plain_call call))) (λ _ z. absurd z) (λ _ z. absurd z))
         (λ other ne n is. pieces.readied other n is)) pieces
@@ -548,7 +556,7 @@ pieces_work sizes log by core work pieces may =
     record { says = same.says; followers = same.followers; leaders = λ n is kind. worked_still sizes by core work may (log.group n).first (pieces.leaders n is kind); readied = same.readied }
   where
     same : Said sizes log (after_work sizes by work core)
-    same = pieces_kept sizes log core (after_work sizes by work core) (λ n is. is) (λ slot _. refl) (λ slot _. refl)
+    same = pieces_kept sizes log core (after_work sizes by work core) refl (λ n is. is) (λ slot _. refl) (λ slot _. refl)
         (by_number (λ other (p : Pass). (n : ℕ) → IsReadied p.control p.first p.entries n → was_readied (entry_word_at sizes core n) ≡ true) core.passes by (worked sizes work (core.passes by))
         (λ n is. absurd (worked_readied sizes core.values (core.passes by) work (core.passes by).control work.ending (core.passes by).first (core.passes by).entries n may.due is))
         (λ other ne n is. pieces.readied other n is)) pieces

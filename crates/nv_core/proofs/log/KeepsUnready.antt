@@ -41,6 +41,7 @@ use Rattle.nv_core.proofs.log.DrawLaws.{drawn_group, lost_head, won_draw}
 use Rattle.nv_core.proofs.log.KeepsGroups.{log_group}
 use Rattle.nv_core.proofs.invariant.WindowLaws.{apart_within}
 use Rattle.nv_core.proofs.log.Rekinded.{IsRekinded, holds_rekind, returns_rekind, rekind_broken}
+use Rattle.nv_core.proofs.invariant.IndexLaws.{stands_for}
 
 -- ---- passes that break
 
@@ -243,7 +244,7 @@ module _ (sizes : Sizes) (first : Values) (log : Log) (placed : ℕ → Bool) (b
   -- nor of a broken one
   none_broken : (n page : ℕ) → IsOfFault core (log.group n) → IsPage sizes (log.group n).call page → IsPage sizes (core.passes by).call page → ⊥
   none_broken n page is on own =
-      let none = sound.broken.pages is.by by page is.fault is.ended (subst (λ g. IsPage sizes g.call page) is.is on) (subst HasChecked (sym drawing) tt) in
+      let none = sound.broken.pages is.by by page is.fault is.ended (stands_for sizes core sound.index is.fault.call page (subst (λ g. IsPage sizes g.call page) is.is on)) (subst HasChecked (sym drawing) tt) in
       let one = holds page own in let no_victim = ap (λ s. victim_held s page) drawing in omega (arith, none, one, no_victim)
 
   -- so it draws for none of a write whose leader isn't ready

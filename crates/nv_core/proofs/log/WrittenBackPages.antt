@@ -9,7 +9,7 @@ use Rattle.nv_pmem.specs.Laws.{LoadsAreAnImage}
 use Rattle.nv_store.specs.Store.{Store}
 use Rattle.nv_store.specs.Steps.{Sync, after_store_step}
 use Rattle.nv_entry.specs.Commits.{GroupsBecomeWhole}
-use Rattle.nv_core.specs.state.Words.{Sizes, STORE, ENTRY, CLEANUP, index}
+use Rattle.nv_core.specs.state.Words.{Sizes, STORE, ENTRY, CLEANUP, index, page_of}
 use Rattle.nv_core.specs.state.Values.{Value, Bare, APart, AStore, ABuffer, PieceWrite, StoreSync, CallEnding, Made, Failed, Refused, called}
 use Rattle.nv_core.specs.state.Cleaner.{Batch, WriteBack, SyncStores, MoveHeaderTail}
 use Rattle.nv_core.specs.state.Cleaner as cleaner
@@ -20,7 +20,7 @@ use Rattle.nv_core.specs.invariant.ControlFacts.{FactsAt}
 use Rattle.nv_core.specs.invariant.Ownership.{HoldsLocks}
 use Rattle.nv_core.specs.state.Core.{Core, with_value, values_worked}
 use Rattle.nv_core.specs.content.StorePages.{store_of_value, StoresTell}
-use Rattle.nv_core.specs.invariant.LogWindow.{InWindow}
+use Rattle.nv_core.specs.invariant.LogWindow.{InWindow, entry_word_at}
 use Rattle.nv_core.specs.log.Groups.{Log}
 use Rattle.nv_core.specs.log.Pieces.{page_of_number}
 use Rattle.nv_core.specs.log.LivePieces.{piece_call, told_bytes, store_bytes, store_files}
@@ -41,7 +41,7 @@ use Rattle.nv_core.proofs.crash.LiesLaws.{Kept_it, Tore_it, written_back_to}
 use Rattle.nv_core.proofs.steps.CleanerOps.{count_some}
 use Rattle.nv_core.proofs.log.WrittenBackPieces.{written_back_in, written_back_piece}
 use Rattle.nv_core.proofs.content.PatchLaws.{piece_page}
-use Rattle.nv_core.proofs.content.PatchSteps.{word_page}
+use Rattle.nv_core.proofs.content.PatchSteps.{word_unit}
 
 -- what a store reads as, by what it tells
 pub bytes_told : (value : Value) → store_bytes value ≡ told_bytes (store_of_value value)
@@ -151,21 +151,20 @@ module _ (plain : PlainLaws) (loads : LoadsAreAnImage) (becomes : GroupsBecomeWh
             ∙ when_false (page_of_number sizes (log.group n) n == page) (with_own_pieces sizes (log.group n).call page (page_in sizes (store_files sizes values) page)) (page_in sizes (store_files sizes values) page) (ne_eqb (page_of_number sizes (log.group n) n) page ne)
 
     -- the cleaner holds CLEANUP of its page
-    pub written_back_cleanup : 1 ≤ times (CLEANUP (page_of_number sizes (log.group n) n)) (core.passes by).owned
+    pub written_back_cleanup : 1 ≤ times (CLEANUP (page_of (entry_word_at sizes core n))) (core.passes by).owned
     written_back_cleanup =
         let way = content.progress.each by batch (WriteBack i) at tt in
         let inside : i < length batch.pages = subst (FactsAt sizes (core.passes by)) at (sound.control_facts by).at in
         let looked = way.looked i inside in
-        let own : group_page batch i ≡ page_of_number sizes (log.group n) n = sym looked.page ∙ word_page sizes log core content.groups content.pieces n within looked.readied in
         let held : HoldsLocks sizes (core.passes by) (Cleaning batch (WriteBack i)) = subst (HoldsLocks sizes (core.passes by)) at (sound.ownership by).locks in
         let e = held (CLEANUP (group_page batch i)) (λ slot. differ (CLEANUP (group_page batch i)) (ENTRY slot) refl) in
         let c = count_some batch.pages i inside in
-        subst (λ p. 1 ≤ times (CLEANUP p) (core.passes by).owned) own (omega (arith, e, c))
+        subst (λ u. 1 ≤ times (CLEANUP u) (core.passes by).owned) (sym looked.page) (omega (arith, e, c))
 
   -- A device call of another pass leaves the store's page of a page whose CLEANUP a pass holds.
-  pub page_left : (other page : ℕ) → other ≢ by → 1 ≤ times (CLEANUP page) (core.passes other).owned
+  pub page_left : (other unit page : ℕ) → core.names unit ≡ page → other ≢ by → 1 ≤ times (CLEANUP unit) (core.passes other).owned
       → page_in sizes (store_files sizes (values_now sizes core by work)) page ≡ page_in sizes (store_files sizes core.values) page
-  page_left other page ne held = go (core.passes by).control refl may.due
+  page_left other unit page named ne held = go (core.passes by).control refl may.due
     where
       keeps : keeps_stores work.job ≡ true → page_in sizes (store_files sizes (values_now sizes core by work)) page ≡ page_in sizes (store_files sizes core.values) page
       keeps is = ap (λ f. page_in sizes f page) (files_kept sizes core by work is)
@@ -177,7 +176,9 @@ module _ (plain : PlainLaws) (loads : LoadsAreAnImage) (becomes : GroupsBecomeWh
       go (Cleaning batch (cleaner.ReadPiece i)) at due = keeps (ap keeps_stores due.job)
       go (Cleaning batch (MoveHeaderTail calls)) at due = keeps (ap keeps_stores due.job)
       go (Cleaning batch (SyncStores (file ∷ rest))) at due = ap (λ f. page_in sizes f page) (files_synced sizes core by work file due.0 due.1)
-      go (Cleaning batch (WriteBack i)) at due = written_back_page batch i at due page (λ e.
-          let c = subst (λ p. 1 ≤ times (CLEANUP p) (core.passes by).owned) e (written_back_cleanup batch i at due) in
-          let none = (only_holder (sound.locks.keyed (CLEANUP page)) by c).2 other ne in omega (arith, none, held))
+      go (Cleaning batch (WriteBack i)) at due = written_back_page batch i at due page (λ on.
+          let looked = (content.progress.each by batch (WriteBack i) at tt).looked i (subst (FactsAt sizes (core.passes by)) at (sound.control_facts by).at) in
+          let own = word_unit sizes log core sound.index content.groups content.pieces (batch.reached + i) unit page named looked.within looked.readied on in
+          let c = subst (λ u. 1 ≤ times (CLEANUP u) (core.passes by).owned) own (written_back_cleanup batch i at due) in
+          let none = (only_holder (sound.locks.keyed (CLEANUP unit)) by c).2 other ne in omega (arith, none, held))
       go control at due = absurd due

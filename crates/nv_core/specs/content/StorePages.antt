@@ -30,6 +30,7 @@ pub record HasFiles (sizes : Sizes) (first : Values) (files : Files) : Type 0 wh
 
 -- A page that a read holds and that has no entries is its store's page as it is. (The content of the log gives it.)
 pub record StorePages (sizes : Sizes) (opening : Files) (core : Core) : Type 0 where
-  pub clean : (number page : ℕ) (store : Store) → is_read (core.passes number).call ≡ true → times (PAGE page) (core.passes number).owned ≡ 1
-      → core.words (DIRTY page) ≡ 0 → file_of_page sizes page < sizes.files → store_of_value (core.values (STORE (file_of_page sizes page))) ≡ Some store
-      → page_now sizes opening core page ≡ page_from store.seen (start_of_page sizes page) sizes.page
+  pub clean : (number unit : ℕ) (store : Store) → is_read (core.passes number).call ≡ true → times (PAGE unit) (core.passes number).owned ≡ 1
+      → core.words (DIRTY unit) ≡ 0 → file_of_page sizes (core.names unit) < sizes.files
+      → store_of_value (core.values (STORE (file_of_page sizes (core.names unit)))) ≡ Some store
+      → page_now sizes opening core (core.names unit) ≡ page_from store.seen (start_of_page sizes (core.names unit)) sizes.page

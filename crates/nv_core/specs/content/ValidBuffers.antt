@@ -20,24 +20,25 @@ with_own_pieces sizes (Write file at bytes) page old =
     overwritten old (piece.at % sizes.page) (piece_bytes bytes piece)
 with_own_pieces sizes call page old = old
 
--- What the buffer of a page owned has, by where its pass stands: a writer's pledged pages have its pieces before it takes its place.
-abbrev pub patched_page : Sizes → FileCall → (pages : List ℕ) → Control → (page : ℕ) → List ℕ → List ℕ
-patched_page sizes call pages (PledgePage next) page old = if count_in (take (nth_of sizes call next) pages) page == 0 then old else with_own_pieces sizes call page old
-patched_page sizes call pages (ReadyEntry number) page old = with_own_pieces sizes call page old
-patched_page sizes call pages TakePlace page old = with_own_pieces sizes call page old
-patched_page sizes call pages control page old = old
+-- What the buffer of a page owned has, by the page's unit and where its pass stands: a writer's pledged pages have its pieces before it takes its
+-- place.
+abbrev pub patched_page : Sizes → FileCall → (pages : List ℕ) → Control → (unit page : ℕ) → List ℕ → List ℕ
+patched_page sizes call pages (PledgePage next) unit page old = if count_in (take (nth_of sizes call next) pages) unit == 0 then old else with_own_pieces sizes call page old
+patched_page sizes call pages (ReadyEntry number) unit page old = with_own_pieces sizes call page old
+patched_page sizes call pages TakePlace unit page old = with_own_pieces sizes call page old
+patched_page sizes call pages control unit page old = old
 
 -- What a read has of each page that it has passed, and of each other page of it whose buffer is valid, is what the page is now.
 abbrev pub Gathered : Sizes → (now : ℕ → List ℕ) → Values → FileCall → (pages : List ℕ) → (fetched : List (ℕ × List ℕ)) → (next : ℕ) → Type 0
 Gathered sizes now values call pages fetched next =
     (name : ℕ) → IsPage sizes call name → (name < next) ⊎ (is_valid (values (PAGE (page_named pages name))) ≡ true)
-    → page_bytes fetched values (page_named pages name) ≡ now (page_named pages name)
+    → page_bytes fetched values (page_named pages name) ≡ now name
 
 -- The same of each page but this one.
 abbrev pub GatheredBut : Sizes → (now : ℕ → List ℕ) → Values → FileCall → (pages : List ℕ) → (fetched : List (ℕ × List ℕ)) → (next : ℕ) → Type 0
 GatheredBut sizes now values call pages fetched next =
     (name : ℕ) → IsPage sizes call name → name ≢ next → (name < next) ⊎ (is_valid (values (PAGE (page_named pages name))) ≡ true)
-    → page_bytes fetched values (page_named pages name) ≡ now (page_named pages name)
+    → page_bytes fetched values (page_named pages name) ≡ now name
 
 -- a read has fetched a page
 abbrev pub HasFetched : (fetched : List (ℕ × List ℕ)) → (page : ℕ) → Type 0
@@ -75,8 +76,8 @@ GatheredAt sizes now values call pages fetched control = Unit {0}
 -- Where PAGE is free and its buffer is valid, the buffer is the page after the history. Owned it is that too, but for the pieces of a write
 -- that isn't placed yet.
 pub record ValidBuffers (sizes : Sizes) (opening : Files) (core : Core) : Type 0 where
-  pub free : (page : ℕ) → core.words (PAGE page) ≡ 0 → is_valid (core.values (PAGE page)) ≡ true
-      → bytes_in (core.values (PAGE page)) ≡ page_now sizes opening core page
-  pub held : (number page : ℕ) → times (PAGE page) (core.passes number).owned ≡ 1 → is_valid (core.values (PAGE page)) ≡ true
-      → bytes_in (core.values (PAGE page)) ≡ patched_page sizes (core.passes number).call (core.passes number).pages (core.passes number).control page (page_now sizes opening core page)
+  pub free : (unit : ℕ) → core.words (PAGE unit) ≡ 0 → is_valid (core.values (PAGE unit)) ≡ true
+      → bytes_in (core.values (PAGE unit)) ≡ page_now sizes opening core (core.names unit)
+  pub held : (number unit : ℕ) → times (PAGE unit) (core.passes number).owned ≡ 1 → is_valid (core.values (PAGE unit)) ≡ true
+      → bytes_in (core.values (PAGE unit)) ≡ patched_page sizes (core.passes number).call (core.passes number).pages (core.passes number).control unit (core.names unit) (page_now sizes opening core (core.names unit))
   pub gathered : (number : ℕ) → GatheredAt sizes (page_now sizes opening core) core.values (core.passes number).call (core.passes number).pages (core.passes number).fetched (core.passes number).control

@@ -22,7 +22,7 @@ pub record Broken (sizes : Sizes) (core : Core) : Type 0 where
   pub stopped : (number : ℕ) → (core.passes number).faulted ≢ [] → (core.passes number).stopped ≡ true
   pub once : (number : ℕ) → length (core.passes number).faulted ≤ 1
   pub passed : (number : ℕ) → HasChecked (core.passes number).control → (core.passes number).faulted ≡ []
-  pub pages : (number other page : ℕ) (fault : Fault) → IsOneOf (core.passes number).faulted fault → IsPage sizes fault.call page
-      → HasChecked (core.passes other).control → times (PAGE page) (core.passes other).owned ≤ victim_held (core.passes other).control page
+  pub pages : (number other unit : ℕ) (fault : Fault) → IsOneOf (core.passes number).faulted fault → IsPage sizes fault.call (core.names unit)
+      → HasChecked (core.passes other).control → times (PAGE unit) (core.passes other).owned ≤ victim_held (core.passes other).control unit
   pub one : (number other page : ℕ) (fault more : Fault) → IsOneOf (core.passes number).faulted fault → IsOneOf (core.passes other).faulted more
       → IsPage sizes fault.call page → IsPage sizes more.call page → number ≡ other

@@ -45,7 +45,7 @@ abbrev pub NoEntryAboveInFlight : Type 0
 NoEntryAboveInFlight =
     (sizes : Sizes) (first : Values) (core : Core) (by number : ℕ) (write : Fault) → Sound sizes first core
     → HasInFlight core by write → InWindow core number → write.first + write.entries ≤ number → was_readied (entry_word_at sizes core number) ≡ true
-    → IsPage sizes write.call (page_of (entry_word_at sizes core number)) → ⊥
+    → IsPage sizes write.call (core.names (page_of (entry_word_at sizes core number))) → ⊥
 
 -- In every log in which what is drawn stands as it does, those of the invariant and of the log's content among them, their first numbers are what
 -- the crash law calls in flight: of the numbers of the window, those that lead a group which has no place.

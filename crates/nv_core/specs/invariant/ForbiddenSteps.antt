@@ -91,8 +91,8 @@ IsSought control page = ⊥
 -- A search never tries a page of its own call, nor holds one as its victim.
 abbrev pub NoVictimOfTheCall : Type 0
 NoVictimOfTheCall =
-    (sizes : Sizes) (first : Values) (core : Core) (by page : ℕ) → Sound sizes first core
-    → IsSought (core.passes by).control page → IsPage sizes (core.passes by).call page → ⊥
+    (sizes : Sizes) (first : Values) (core : Core) (by unit : ℕ) → Sound sizes first core
+    → IsSought (core.passes by).control unit → IsPage sizes (core.passes by).call (core.names unit) → ⊥
 
 -- An entry is broken only where STOP is 1, and none is broken before.
 abbrev pub NoBreakBeforeStop : Type 0

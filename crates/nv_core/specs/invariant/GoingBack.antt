@@ -29,7 +29,7 @@ passed_after (event ∷ later) passed = passed_after later (passed_acted event.b
 -- Such a call holds no PAGE of another call that a fault ended, but as the victim of its search, and no SIZE of a file that such a write was to
 -- make longer.
 pub record HoldsNoneOf (sizes : Sizes) (core : Core) (by : ℕ) (fault : Fault) : Type 0 where
-  pub pages : (page : ℕ) → IsPage sizes fault.call page → times (PAGE page) (core.passes by).owned ≤ victim_held (core.passes by).control page
+  pub pages : (unit : ℕ) → IsPage sizes fault.call (core.names unit) → times (PAGE unit) (core.passes by).owned ≤ victim_held (core.passes by).control unit
   pub file : IsExtending fault → times (SIZE (file_of fault.call)) (core.passes by).owned ≡ 0
 
 -- So it is after every run, at each of its control states, also while it gives back after a refusal.

@@ -20,6 +20,7 @@ use Rattle.nv_core.specs.invariant.BuffersKept.{BuffersKept}
 use Rattle.nv_core.specs.invariant.Searches.{Searches}
 use Rattle.nv_core.specs.invariant.Devices.{DevicesKept}
 use Rattle.nv_core.specs.invariant.Rooms.{Rooms}
+use Rattle.nv_core.specs.invariant.Index.{Index}
 use Rattle.nv_core.specs.log.Groups.{Log, Groups}
 use Rattle.nv_core.specs.log.Pieces.{Pieces}
 use Rattle.nv_core.specs.log.Progress.{Progress}
@@ -60,4 +61,5 @@ pub record Sound (sizes : Sizes) (first : Values) (core : Core) : Type 0 where
   pub searches : Searches sizes core
   pub devices : DevicesKept first core.values
   pub rooms : Rooms sizes core
+  pub index : Index core
   pub grouped : Grouped sizes core

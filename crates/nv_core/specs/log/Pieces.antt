@@ -10,9 +10,12 @@ use Rattle.nv_core.specs.log.Groups.{Group, Log}
 abbrev pub page_of_number : Sizes → Group → (number : ℕ) → ℕ
 page_of_number sizes group number = first_page sizes group.call + (number - group.first)
 
--- the ENTRY word of an entry that was made ready: the group's count in its leader, none in a follower, and the page of its piece
-abbrev pub word_of_number : Sizes → Group → (kind number : ℕ) → ℕ
-word_of_number sizes group kind number = entry_word kind (if number == group.first then group.entries else 0) (page_of_number sizes group number)
+-- The ENTRY word of an entry that was made ready: it has the group's count in its leader, none in a follower, and the unit that stands for the page
+-- of its piece.
+pub record IsWordOf (sizes : Sizes) (names : ℕ → ℕ) (group : Group) (number word : ℕ) : Type 0 where
+  pub unit : ℕ
+  pub is : word ≡ entry_word (kind_of word) (if number == group.first then group.entries else 0) unit
+  pub page : names unit ≡ page_of_number sizes group number
 
 -- a follower that its pass has made ready, the leader being still to come
 abbrev pub IsReadied : Control → (first entries number : ℕ) → Type 0
@@ -23,7 +26,7 @@ IsReadied control first entries number = ⊥
 -- were, and a pass's followers are made ready one after another before it. The leader of one that is cleaned was made ready, and may be freed.
 pub record Pieces (sizes : Sizes) (log : Log) (core : Core) : Type 0 where
   pub says : (number : ℕ) → InWindow core number → was_readied (entry_word_at sizes core number) ≡ true
-      → entry_word_at sizes core number ≡ word_of_number sizes (log.group number) (kind_of (entry_word_at sizes core number)) number
+      → IsWordOf sizes core.names (log.group number) number (entry_word_at sizes core number)
   pub followers : (number other : ℕ) → InWindow core number → (log.group number).first ≡ number → was_readied (entry_word_at sizes core number) ≡ true
       → IsAmong number (log.group number).entries other → was_readied (entry_word_at sizes core other) ≡ true
   pub leaders : (number : ℕ) → InWindow core number → kind_of (entry_word_at sizes core number) ≡ cleaned → WasReadied sizes core (log.group number).first

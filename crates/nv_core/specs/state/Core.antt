@@ -11,11 +11,12 @@ use Rattle.nv_core.specs.steps.Ops.{Op, Give, Pledge, Split, Join, word_of, valu
 use Rattle.nv_core.specs.steps.PassSteps.{added, stepped, begun}
 use Rattle.nv_core.specs.steps.Order.{Values, Work, commit_steps}
 
--- The core of a mount: the shared words; what each cell keeps, be it at home or with the pass that owns the cell; the
--- passes by their numbers; the history; how many passes pass 0 has made, and the numbers of those that it took in again.
+-- The core of a mount: the shared words; what each cell keeps, be it at home or with the pass that owns the cell; the page that each
+-- unit stands for; the passes by their numbers; the history; how many passes pass 0 has made, and the numbers of those that it took in again.
 pub record Core : Type 0 where
   pub words : Word → ℕ
   pub values : Values
+  pub names : ℕ → ℕ
   pub passes : ℕ → Pass
   pub history : List Answered
   pub made : ℕ
@@ -137,6 +138,7 @@ abbrev pub after_step : Sizes → (by : ℕ) → Op → (found : ℕ) → Core �
 after_step sizes by op found core = record {
   words = with_value core.words (word_of sizes (core.passes by) op) (value_after sizes (core.passes by) op found);
   values = values_stepped sizes (core.passes by) op core.values;
+  names = core.names;
   passes = with_number core.passes (changes by core.made op) (changed_pass sizes by core op found);
   history = core.history ++ added by (core.passes by) op;
   made = made_stepped op core.made;

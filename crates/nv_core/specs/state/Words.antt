@@ -9,7 +9,8 @@ pub record Sizes : Type 0 where
   pub entries : ℕ
   pub buffers : ℕ
 
--- A shared word. Those that end the line of a family are counted: a file's, an entry's, a hint's, a page's.
+-- A shared word. Those that end the line of a family are counted: a file's, an entry's, a hint's, a unit's. A unit stands for a page, and has that
+-- page's words and its buffer.
 pub data Word : Type 0 where
   STOP : Word
   ORDER : Word
@@ -23,9 +24,9 @@ pub data Word : Type 0 where
   STORE : (file : ℕ) → Word
   ENTRY : (slot : ℕ) → Word
   HINT : (buffer : ℕ) → Word
-  PAGE : (page : ℕ) → Word
-  CLEANUP : (page : ℕ) → Word
-  DIRTY : (page : ℕ) → Word
+  PAGE : (unit : ℕ) → Word
+  CLEANUP : (unit : ℕ) → Word
+  DIRTY : (unit : ℕ) → Word
 
 -- which family a word is of
 abbrev pub family : Word → ℕ
@@ -107,7 +108,7 @@ PlacesDiffer = (sizes : Sizes) (one other : Word) → IsWord sizes one → IsWor
 abbrev pub slot_of_entry : Sizes → (number : ℕ) → ℕ
 slot_of_entry sizes number = number % sizes.entries
 
--- ---- what an ENTRY word says: its kind, the group's count in a leader, and the page of its piece
+-- ---- what an ENTRY word says: its kind, the group's count in a leader, and the page of its piece, by that page's unit
 
 abbrev pub free : ℕ
 free = 0

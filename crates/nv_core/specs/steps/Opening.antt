@@ -45,11 +45,12 @@ opening_pass mount = record {
   left = [];
 }
 
--- the core at opening: there is pass 0 alone, and the history is empty
+-- the core at opening: each unit stands for the page of its own number, there is pass 0 alone, and the history is empty
 abbrev pub opening : Mount → Core
 opening mount = record {
   words = opening_word mount;
   values = mount.values;
+  names = λ unit. unit;
   passes = λ number. opening_pass mount;
   history = [];
   made = 0;
