@@ -139,7 +139,7 @@ search_owned_at m (searches.GiveVictim buffer victim) = PAGE victim ∷ locks m
 search_owned_at m control = locks m
 
 abbrev pub search_mirror_at : SearchMachine → SearchControl → MirroredControl
-search_mirror_at m control = record { control = search_control_at m control; call = search_call_of m; owned = search_owned_at m control; sized = m.sized; length = m.length }
+search_mirror_at m control = record { control = search_control_at m control; call = search_call_of m; owned = search_owned_at m control; sized = m.sized; length = m.length; units = λ page. page }
 
 abbrev pub IsInCall : SearchMachine → SearchControl → (start now : PassState) → Type 0
 IsInCall m control start now = InCall control_mirror (search_call_of m) None (search_mirror_at m control) None None start now

@@ -89,7 +89,7 @@ module _ (stands : Control) (refusal : Option CleanRefusal) (m : CleanState) (st
   shows_now = subst (λ (v : PassView). OwnsSlots v.opened.sizes (λ value. value) values_now (still_owned (pass_of was.view)) now.now) (sym behind.between.view) behind.shows
 
   abbrev pub behind_call : (cell : Word) (job : Job) (ending : CallEnding) (next : PassState) → CallMayEnd (values_now cell) ending → CallMayLeave (values_now cell) job ending
-      → IsAltered (λ kept. with_value kept cell (called job ending (kept cell))) now next → ((kept : Values) → values_read pass_then.pages job ending pass_then.control kept ≡ kept) → CallDue sizes values_now pass_then record { cell = cell; job = job; ending = ending } stands → times cell m.owned ≡ 1
+      → IsAltered (λ kept. with_value kept cell (called job ending (kept cell))) now next → ((kept : Values) → values_read pass_then.units job ending pass_then.control kept ≡ kept) → CallDue sizes values_now pass_then record { cell = cell; job = job; ending = ending } stands → times cell m.owned ≡ 1
       → (then_stands : Control) → control_worked sizes pass_then ending stands ≡ then_stands → IsBehind then_stands (either_of refusal (call_refusal cell ending)) m start was next
   behind_call cell job ending next ends leaves altered plain due here then_stands goes = record {
     control = behind.control;
@@ -111,7 +111,7 @@ module _ (stands : Control) (refusal : Option CleanRefusal) (m : CleanState) (st
   }
 
   abbrev pub behind_more : (cell : Word) (job : Job) (ending : CallEnding) (next : PassState) → HasCalled cell job ending now next
-      → ((kept : Values) → values_read pass_then.pages job ending pass_then.control kept ≡ kept) → CallDue sizes values_now pass_then record { cell = cell; job = job; ending = ending } stands → times cell m.owned ≡ 1
+      → ((kept : Values) → values_read pass_then.units job ending pass_then.control kept ≡ kept) → CallDue sizes values_now pass_then record { cell = cell; job = job; ending = ending } stands → times cell m.owned ≡ 1
       → (then_stands : Control) → control_worked sizes pass_then ending stands ≡ then_stands → IsBehind then_stands (either_of refusal (call_refusal cell ending)) m start was next
   behind_more cell job ending next call =
       behind_call cell job ending next (call.ends values_now (still_owned (pass_of was.view)) shows_now) (call.leaves values_now (still_owned (pass_of was.view)) shows_now) call.altered

@@ -102,8 +102,9 @@ module _ (sizes : Sizes) (first : Values) (core : Core) (sound : Sound sizes fir
         let page = first_page sizes pass.call in
         let has = facts.0 in let many = has.many in let some = has.some in
         let once = pages_once sizes pass.call pass.pages pages page (omega arith, omega (arith, many, some)) in
-        let is = holds (PAGE page) (λ slot. differ (PAGE page) (ENTRY slot) refl) in
-        let zero_times = none (PAGE page) in
+        let unit = pass.units page in
+        let is = holds (PAGE unit) (λ slot. differ (PAGE unit) (ENTRY slot) refl) in
+        let zero_times = none (PAGE unit) in
         omega (arith, once, is, zero_times)
     none_drawn pass control pages holds facts none drawn = absurd drawn
 

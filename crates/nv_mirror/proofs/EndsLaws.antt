@@ -29,8 +29,8 @@ asked_plain (AsksSync file) = refl
 
 -- what a machine has at hand of a pass whose call begins, whatever that is asked as
 pub begun_mirror : (sizes : Sizes) (asked call : FileCall) (pass : Pass) → plain_call asked ≡ call
-    → mirrored_control (begun sizes asked pass) ≡ record { control = first_control sizes call; call = call; owned = pass.owned; sized = false; length = 0 }
-begun_mirror sizes asked call pass makes = ap (λ (made : FileCall). record { control = first_control sizes made; call = made; owned = pass.owned; sized = false; length = 0 }) makes
+    → mirrored_control (begun sizes asked pass) ≡ record { control = first_control sizes call; call = call; owned = pass.owned; sized = false; length = 0; units = pass.units }
+begun_mirror sizes asked call pass makes = ap (λ (made : FileCall). record { control = first_control sizes made; call = made; owned = pass.owned; sized = false; length = 0; units = pass.units }) makes
 
 pub may_begin : (sizes : Sizes) (asked call : FileCall) (pass : Pass) → plain_call asked ≡ call → pass.control ≡ Idle → IsAllowed sizes call → CallMayBegin sizes asked pass
 may_begin sizes asked call pass makes idle allowed = record { idle = idle; allowed = subst (IsAllowed sizes) (sym makes) allowed }

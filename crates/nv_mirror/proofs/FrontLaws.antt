@@ -7,7 +7,7 @@ use Rattle.nv_core.specs.state.Passes.{Pass, Control, Idle, TakePage, LoadLength
 use Rattle.nv_core.specs.steps.ControlSteps.{leaving, ordered, first_control}
 use Rattle.nv_core.specs.state.Words.{Sizes, Word, SIZE, PAGE, place, page_total}
 use Rattle.nv_core.proofs.state.StepWords.{page_within}
-use Rattle.nv_table.specs.state.Opened.{Opened}
+use Rattle.nv_table.specs.state.Opened.{Opened, mount_of}
 use Rattle.nv_table.specs.invariant.Idle.{IsIdle}
 use Rattle.nv_table.specs.steps.StepContracts.{Postcondition}
 use Rattle.nv_table.specs.state.Views.{pass_of}
@@ -34,6 +34,8 @@ use Rattle.nv_mirror.specs.Controls.{MirroredControl, control_mirror, mirrored_c
 use Rattle.nv_mirror.specs.Fronts.{HasPages, front_call_of, file_in, size_in, IsOpen, FitsAt, Fits, front_op_at, front_opens_at, refuse, locked, front_after_at, front_mirror_at, front_refusal_at, IsInCall, IsUnderWay}
 use Rattle.nv_mirror.proofs.EndsLaws.{asked_as, asked_plain, call_begins, begun_mirror, may_begin}
 use Rattle.nv_mirror.proofs.ControlLaws.{mirror_due, mirror_on, told_kept}
+use Rattle.nv_core.proofs.invariant.IndexLaws.{units_direct}
+use Rattle.nv_core.specs.steps.Opening.{opening}
 
 -- ---- words
 
@@ -81,6 +83,8 @@ front_begins m start fits control idle = (
 
     mirrors : mirrored_control (begun start.view.opened.sizes (front_call_of m) (pass_of start.view)) ≡ front_mirror_at m fronts.Begin
     mirrors = begun_mirror start.view.opened.sizes (front_call_of m) (front_call_of m) (pass_of start.view) (asked_plain m.asked)
+        ∙ ap (λ units. record (front_mirror_at m fronts.Begin) { control = first_control start.view.opened.sizes (front_call_of m); owned = (pass_of start.view).owned; sized = false; length = 0; units = units })
+        (units_direct start.view.opened.sizes start.view.run (opening (mount_of start.view.opened)) (λ n. refl) start.view.number)
         ∙ ap₂ (λ control owned. record (front_mirror_at m fronts.Begin) { control = control; owned = owned; sized = false; length = 0 }) first owned
         ∙ ap₂ (λ sized length. record (front_mirror_at m fronts.Begin) { sized = sized; length = length }) (sym at.1) (sym at.2)
 
@@ -119,7 +123,7 @@ front_due begins m (Over refusal) start now makes fits at runs way = absurd runs
 
 -- the control state of a machine, at a control state of the core and with some cells among its owned cells
 abbrev ctl : FrontMachine → Control → List Word → MirroredControl
-ctl m control owned = record { control = control; call = front_call_of m; owned = owned; sized = m.sized; length = m.length }
+ctl m control owned = record { control = control; call = front_call_of m; owned = owned; sized = m.sized; length = m.length; units = λ page. page }
 
 abbrev owned_of : FrontMachine → Bool → ℕ → List Word
 owned_of m size held = with_if size (SIZE (file_in m)) (pages_from m.first held)

@@ -114,7 +114,7 @@ load_fits sizes pass m (Refused refusal) = tt
 -- the core's control state, at a control state and with some cells among its owned cells
 abbrev pub at : LoadMachine → Control → List Word → (head : ℕ) → List (ℕ × List ℕ) → Reading
 at m control owned head fetched =
-    record { mirrored_control = record { control = control; call = load_call_of m; owned = owned; sized = m.sized; length = m.length }; head = head; fetched = fetched }
+    record { mirrored_control = record { control = control; call = load_call_of m; owned = owned; sized = m.sized; length = m.length; units = λ page. page }; head = head; fetched = fetched }
 
 -- Where the core's control state leads, with what it is refused for, the machine goes.
 pub record Leads (sizes : Sizes) (m : LoadMachine) (room : List ℕ) (is : Reading) (refusal : Option Refusal) (next : LoadMachine) : Type 0 where

@@ -25,6 +25,9 @@ use Rattle.nv_mirror.specs.Controls.{MirroredControl, control_mirror, Told, InCa
 use Rattle.nv_mirror.specs.Pageless.{Fits, IsOpen, IsInCall, pageless_op, pageless_opens_at, pageless_after, mirror, pageless_refusal_at, pageless_place_at}
 use Rattle.nv_mirror.proofs.EndsLaws.{asked_as, asked_plain, call_begins, begun_mirror, may_begin}
 use Rattle.nv_mirror.proofs.ControlLaws.{PlaceLaws, mirror_due, mirror_on, place_plainly, told_kept, told_placed}
+use Rattle.nv_core.proofs.invariant.IndexLaws.{units_direct}
+use Rattle.nv_core.specs.steps.Opening.{opening}
+use Rattle.nv_table.specs.state.Opened.{mount_of}
 
 -- what the core makes of a call without a page
 record HasNoPage (sizes : Sizes) (call : FileCall) : Type 0 where
@@ -46,6 +49,8 @@ pub pageless_begins : (asked : Asked) (start : PassState) → len_of (call_asked
 pageless_begins asked start none idle =
     subst (λ (is : MirroredControl). InCall control_mirror (call_asked asked) (Some (call_asked asked)) is None None start start)
     (begun_mirror start.view.opened.sizes (call_asked asked) (call_asked asked) (pass_of start.view) (asked_plain asked)
+    ∙ ap (λ units. record (mirror (call_asked asked) controls.Begin) { control = first_control start.view.opened.sizes (call_asked asked); owned = (pass_of start.view).owned; units = units })
+    (units_direct start.view.opened.sizes start.view.run (opening (mount_of start.view.opened)) (λ n. refl) start.view.number)
     ∙ ap (λ owned. record (mirror (call_asked asked) controls.Begin) { control = first_control start.view.opened.sizes (call_asked asked); owned = owned }) idle.owned
     ∙ ap (λ control. record (mirror (call_asked asked) controls.Begin) { control = control }) (no_page start.view.opened.sizes (call_asked asked) none).first)
     (call_begins control_mirror (call_asked asked) start (asked_plain asked) idle)

@@ -25,7 +25,7 @@ use Rattle.nv_mirror.proofs.StepLaws.{opened_same}
 
 -- the core's control state at a control and with some owned cells
 abbrev at : ReleaseMachine → Control → List Word → MirroredControl
-at m control owned = record { control = control; call = release_call_of m; owned = owned; sized = m.sized; length = m.length }
+at m control owned = record { control = control; call = release_call_of m; owned = owned; sized = m.sized; length = m.length; units = λ page. page }
 
 -- behind one of its pages comes the next, or nothing where that was the last
 page_on : (sizes : Sizes) (m : ReleaseMachine) (given : ℕ) → Fits sizes m → given < m.pages

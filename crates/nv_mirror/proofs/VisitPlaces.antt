@@ -109,7 +109,7 @@ module _ (m : VisitMachine) (list : List ℕ) (start now : PassState) (way : IsI
 
     -- what the core makes of its end
     abbrev ended : Bool → MirroredControl
-    ended size = record { control = if size then GiveSize else (if page_count sizes (visit_call_of m) == 0 then Idle else GivePage (first_page sizes (visit_call_of m))); call = visit_call_of m; owned = visit_locks m; sized = m.sized; length = m.length }
+    ended size = record { control = if size then GiveSize else (if page_count sizes (visit_call_of m) == 0 then Idle else GivePage (first_page sizes (visit_call_of m))); call = visit_call_of m; owned = visit_locks m; sized = m.sized; length = m.length; units = λ page. page }
 
     ends_so : (size : Bool) → m.sized ≡ size → ended size ≡ release_mirror_at (read_released m found) (if size then releases.GiveSize else releases.GivePage 0)
     ends_so true is = ap (λ b. record (ended true) { owned = Rattle.nv_mirror.specs.OwnedCells.with_if b (Rattle.nv_core.specs.state.Words.SIZE m.file) (pages_from m.first m.pages) }) is

@@ -33,12 +33,13 @@ pub record MirroredControl : Type 0 where
   pub owned : List Word
   pub sized : Bool
   pub length : ℕ
+  pub units : ℕ → ℕ
 
 abbrev pub mirrored_control : Pass → MirroredControl
-mirrored_control pass = record { control = pass.control; call = pass.call; owned = pass.owned; sized = pass.sized; length = pass.length }
+mirrored_control pass = record { control = pass.control; call = pass.call; owned = pass.owned; sized = pass.sized; length = pass.length; units = pass.units }
 
 abbrev pub with_mirrored_control : MirroredControl → Pass → Pass
-with_mirrored_control is pass = record pass { control = is.control; call = is.call; owned = is.owned; sized = is.sized; length = is.length }
+with_mirrored_control is pass = record pass { control = is.control; call = is.call; owned = is.owned; sized = is.sized; length = is.length; units = is.units }
 
 abbrev pub control_mirror : Mirror MirroredControl
 control_mirror = record { of = mirrored_control; with = with_mirrored_control; whole = λ pass. refl }

@@ -132,7 +132,7 @@ front_owned_at m (Over refusal) = []
 front_owned_at m control = with_if m.sized (SIZE (file_in m)) (pages_from m.first m.held)
 
 abbrev pub front_mirror_at : FrontMachine → FrontControl → MirroredControl
-front_mirror_at m control = record { control = front_control_at m control; call = front_call_of m; owned = front_owned_at m control; sized = m.sized; length = m.length }
+front_mirror_at m control = record { control = front_control_at m control; call = front_call_of m; owned = front_owned_at m control; sized = m.sized; length = m.length; units = λ page. page }
 
 abbrev pub front_refusal_at : FrontControl → Option Refusal
 front_refusal_at (fronts.GiveBack size refusal) = Some refusal

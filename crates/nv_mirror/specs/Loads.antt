@@ -191,7 +191,7 @@ is_laid control = false
 
 abbrev pub load_mirror_at : Sizes → LoadMachine → (room : List ℕ) → Before → LoadControl → Reading
 load_mirror_at sizes m room before control = record {
-  mirrored_control = record { control = load_control_at m before control; call = load_call_of m; owned = load_owned_at sizes m control; sized = m.sized; length = m.length };
+  mirrored_control = record { control = load_control_at m before control; call = load_call_of m; owned = load_owned_at sizes m control; sized = m.sized; length = m.length; units = λ page. page };
   head = if knows_head control then m.head else before.head;
   fetched = if is_laid control then (m.page, room) ∷ before.fetched else before.fetched;
 }
@@ -221,7 +221,7 @@ IsUnderWay m room start now = Fits now.view.opened.sizes m × IsInCall m m.contr
 -- A read of the machine's call stands so among its pages, with its locks alone, and is neither refused nor placed.
 abbrev pub IsReading : LoadMachine → Control → (start now : PassState) → Type 0
 IsReading m control start now =
-    InCall control_mirror (load_call_of m) None (record { control = control; call = load_call_of m; owned = load_locks m; sized = m.sized; length = m.length }) None None start now
+    InCall control_mirror (load_call_of m) None (record { control = control; call = load_call_of m; owned = load_locks m; sized = m.sized; length = m.length; units = λ page. page }) None None start now
 
 -- It misses the machine's page: DIRTY of that is loaded next.
 pub record Misses (m : LoadMachine) (start now : PassState) : Type 0 where

@@ -64,7 +64,7 @@ control_of controls.TakePlace = TakePlace
 control_of (Over answer) = Idle
 
 abbrev pub mirror : FileCall → PagelessControl → MirroredControl
-mirror call control = record { control = control_of control; call = call; owned = []; sized = false; length = 0 }
+mirror call control = record { control = control_of control; call = call; owned = []; sized = false; length = 0; units = λ page. page }
 
 abbrev pub pageless_refusal_at : PagelessControl → Option Refusal
 pageless_refusal_at (Over (Err refusal)) = Some refusal

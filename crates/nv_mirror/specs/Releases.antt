@@ -63,7 +63,7 @@ release_owned_at m (releases.GivePage given) = pages_from (m.page + given) (m.pa
 release_owned_at m releases.Over = []
 
 abbrev pub release_mirror_at : ReleaseMachine → ReleaseControl → MirroredControl
-release_mirror_at m control = record { control = release_control_at m control; call = release_call_of m; owned = release_owned_at m control; sized = m.sized; length = m.length }
+release_mirror_at m control = record { control = release_control_at m control; call = release_call_of m; owned = release_owned_at m control; sized = m.sized; length = m.length; units = λ page. page }
 
 abbrev pub IsInCall : ReleaseMachine → ReleaseControl → (start now : PassState) → Type 0
 IsInCall m control start now = InCall control_mirror (release_call_of m) None (release_mirror_at m control) None (Some m.place) start now

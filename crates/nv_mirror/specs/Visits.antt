@@ -67,7 +67,7 @@ abbrev pub visit_locks : VisitMachine → List Word
 visit_locks m = with_if m.sized (SIZE m.file) (pages_from m.first m.pages)
 
 abbrev pub visit_mirror : VisitMachine → MirroredControl
-visit_mirror m = record { control = VisitPage m.from; call = visit_call_of m; owned = visit_locks m; sized = m.sized; length = m.length }
+visit_mirror m = record { control = VisitPage m.from; call = visit_call_of m; owned = visit_locks m; sized = m.sized; length = m.length; units = λ page. page }
 
 -- What it knows of what comes next: the page lacks a buffer, and one may be searched; its DIRTY is loaded; or no page is left.
 abbrev pub KnowsAt : VisitMachine → VisitControl → PassState → Type 0

@@ -54,8 +54,9 @@ waits_not sizes pass TakePlace pages held drawn none = unless_true (is_write pas
     let end = end_page sizes pass.call in
     let less : first < end = omega (arith, many, some) in
     let is = pages_once sizes pass.call pass.pages pages first (omega arith, less) in
-    let holds = held (PAGE first) (λ slot. differ (PAGE first) (ENTRY slot) refl) in
-    let zero_times : times (PAGE first) pass.owned ≡ 0 = ap (times (PAGE first)) none in
+    let unit = pass.units first in
+    let holds = held (PAGE unit) (λ slot. differ (PAGE unit) (ENTRY slot) refl) in
+    let zero_times : times (PAGE unit) pass.owned ≡ 0 = ap (times (PAGE unit)) none in
     omega (arith, is, holds, zero_times))
 waits_not sizes pass control pages held drawn none = refl
 

@@ -21,7 +21,7 @@ use Rattle.nv_core.specs.state.Passes.{Cleaning, Control, Idle, SeizeEntry, Comm
 use Rattle.nv_core.specs.state.Core.{Core}
 use Rattle.nv_core.specs.steps.Frames.{OwnEventsTell}
 use Rattle.nv_core.specs.steps.Opening.{IsMount, opening}
-use Rattle.nv_core.specs.invariant.ControlFacts.{FactsAt, IsPage, PagesAt}
+use Rattle.nv_core.specs.invariant.ControlFacts.{FactsAt, IsPage, PagesAt, HasTaken}
 use Rattle.nv_core.specs.invariant.CleanerNumbers.{IsFreed}
 use Rattle.nv_core.specs.invariant.FaultedWrites.{HasChecked}
 use Rattle.nv_core.specs.invariant.Flights.{HasInFlight, FlightsAreNumbered, NoTwoInFlightOfAPage}
@@ -76,7 +76,7 @@ locks_at sizes pass TakePlace is held = held
 locks_at sizes pass SetStopAfterCommit is held = held
 locks_at sizes pass control is held = absurd is
 
-pages_at : (sizes : Sizes) (pass : Pass) (control : Control) → IsInFlight control → PagesAt sizes pass control → pass.pages ≡ pages_of sizes pass.call
+pages_at : (sizes : Sizes) (pass : Pass) (control : Control) → IsInFlight control → PagesAt sizes pass control → HasTaken sizes pass.call pass.units pass.pages (page_count sizes pass.call)
 pages_at sizes pass (SeizeEntry number) is pages = pages
 pages_at sizes pass (CommitGroup calls) is pages = pages
 pages_at sizes pass (PledgePage page) is pages = pages
@@ -90,9 +90,9 @@ first_of sizes call write = let some = write_pages sizes call write in (omega ar
 
 flight_holds : (sizes : Sizes) (pass : Pass) → PagesAt sizes pass pass.control → HoldsLocks sizes pass pass.control → IsInFlight pass.control → is_write pass.call ≡ true → pass.owned ≡ [] → ⊥
 flight_holds sizes pass pages held flies write none =
-    let page = first_page sizes pass.call in
-    let one = holds_page sizes pass page (pages_at sizes pass pass.control flies pages) (first_of sizes pass.call write) (locks_at sizes pass pass.control flies held (PAGE page) (λ slot. differ (PAGE page) (ENTRY slot) refl)) in
-    let zero_times : times (PAGE page) pass.owned ≡ 0 = ap (times (PAGE page)) none in
+    let page = first_page sizes pass.call in let unit = pass.units page in
+    let one = holds_page sizes pass page (pages_at sizes pass pass.control flies pages) (first_of sizes pass.call write) (locks_at sizes pass pass.control flies held (PAGE unit) (λ slot. differ (PAGE unit) (ENTRY slot) refl)) in
+    let zero_times : times (PAGE unit) pass.owned ≡ 0 = ap (times (PAGE unit)) none in
     omega (arith, one, zero_times)
 
 -- ---- a pass's writes in flight

@@ -195,15 +195,15 @@ filled_same bytes (ABuffer (Some buffer)) = refl
 word_same : (values : Values) (cell : Word) (value : Value) → identity_of value ≡ identity_of (values cell) → (other : Word) → identity_of (with_value values cell value other) ≡ identity_of (values other)
 word_same values cell value is = by_word (λ other kept. identity_of kept ≡ identity_of (values other)) values cell value is (λ other ne. refl)
 
-read_same : (pages : List ℕ) (job : Job) (ending : CallEnding) (control : Control) (values : Values) (other : Word) → identity_of (values_read pages job ending control values other) ≡ identity_of (values other)
-read_same pages (PageRead at bytes) Made (ReadStore page false) values other = word_same values (PAGE page) (filled bytes (values (PAGE page))) (filled_same bytes (values (PAGE page))) other
-read_same pages job ending control values other = refl
+read_same : (units : ℕ → ℕ) (job : Job) (ending : CallEnding) (control : Control) (values : Values) (other : Word) → identity_of (values_read units job ending control values other) ≡ identity_of (values other)
+read_same units (PageRead at bytes) Made (ReadStore page false) values other = let own = PAGE (units page) in word_same values own (filled bytes (values own)) (filled_same bytes (values own)) other
+read_same units job ending control values other = refl
 
 devices_same : (sizes : Sizes) (works : List Work) (pass : Pass) (values : Values) (cell : Word) → identity_of (values_after sizes works pass values cell) ≡ identity_of (values cell)
 devices_same sizes [] pass values cell = refl
 devices_same sizes (work ∷ later) pass values cell =
     devices_same sizes later (worked sizes work pass) (values_worked pass work values) cell
-    ∙ read_same pass.pages work.job work.ending pass.control (with_value values work.cell (called work.job work.ending (values work.cell))) cell
+    ∙ read_same pass.units work.job work.ending pass.control (with_value values work.cell (called work.job work.ending (values work.cell))) cell
     ∙ word_same values work.cell (called work.job work.ending (values work.cell)) (called_same work.job work.ending (values work.cell)) cell
 
 -- ---- the commit

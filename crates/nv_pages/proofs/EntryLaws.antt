@@ -38,14 +38,14 @@ falls word low kind = omega (arith, low, kind)
 module _ (sizes : Sizes) (first : Values) (core : Core) (by page number : ℕ) (sound : Sound sizes first core) where
   pub held_next : (core.passes by).control ≡ HoldEntry page number → entry_word_at sizes core number < 2 ^ 64 → entry_word_at sizes core number + 1 ≡ (entry_word_at sizes core number + 1) % 2 ^ 64
   held_next control low =
-      let looks : InWindow core number × (is_entry_of ready page (entry_word_at sizes core number) ≡ true) = subst (LooksSound sizes core (core.passes by).pages) control (sound.loaded.looks by) in
-      rises (entry_word_at sizes core number) low (kind_is ready page (entry_word_at sizes core number) looks.1)
+      let looks : InWindow core number × (is_entry_of ready ((core.passes by).units page) (entry_word_at sizes core number) ≡ true) = subst (LooksSound sizes core (core.passes by).units) control (sound.loaded.looks by) in
+      rises (entry_word_at sizes core number) low (kind_is ready ((core.passes by).units page) (entry_word_at sizes core number) looks.1)
 
   pub returned_next : (failed : Bool) → (core.passes by).control ≡ ReturnEntry page number failed → entry_word_at sizes core number < 2 ^ 64
       → entry_word_at sizes core number - 1 ≡ (entry_word_at sizes core number + (2 ^ 64 - 1)) % 2 ^ 64
   returned_next failed control low =
-      let looks : InWindow core number × (is_entry_of held page (entry_word_at sizes core number) ≡ true) = subst (LooksSound sizes core (core.passes by).pages) control (sound.loaded.looks by) in
-      falls (entry_word_at sizes core number) low (kind_is held page (entry_word_at sizes core number) looks.1)
+      let looks : InWindow core number × (is_entry_of held ((core.passes by).units page) (entry_word_at sizes core number) ≡ true) = subst (LooksSound sizes core (core.passes by).units) control (sound.loaded.looks by) in
+      falls (entry_word_at sizes core number) low (kind_is held ((core.passes by).units page) (entry_word_at sizes core number) looks.1)
 
 -- ---- the part of an entry, which was read
 

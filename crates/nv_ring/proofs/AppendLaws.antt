@@ -122,7 +122,7 @@ append_fits m (Refused refusal) start now fits plain way = absurd plain
 -- the core's control state, at a control state and with some cells among its owned cells
 abbrev at : AppendMachine → Control → List Word → (head first entries : ℕ) → Drawing
 at m control owned head first entries =
-    record { mirrored_control = record { control = control; call = append_call_of m; owned = owned; sized = m.sized; length = m.length }; head = head; first = first; entries = entries }
+    record { mirrored_control = record { control = control; call = append_call_of m; owned = owned; sized = m.sized; length = m.length; units = λ page. page }; head = head; first = first; entries = entries }
 
 -- Where the core's control state leads, with what it is refused for, and its place, the machine goes.
 record Leads (sizes : Sizes) (m : AppendMachine) (is : Drawing) (refusal : Option Refusal) (place : Option ℕ) (next : AppendMachine) : Type 0 where

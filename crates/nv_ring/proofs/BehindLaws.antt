@@ -54,5 +54,5 @@ draw_behind f m start now behind way = record {
     controls_so : front_at f Passed ≡ (draw_mirror_at now.view.opened.sizes m (record { head = 0; first = 0; entries = 0 }) draws.LoadHead).mirrored_control
     controls_so =
         ap₂ (λ control owned. record (front_at f Passed) { control = control; owned = owned }) control owned
-        ∙ ap (λ call. record { control = WriteLoadHead; call = call; owned = locks (append_of m); sized = f.sized; length = f.length }) (sym behind.call)
-        ∙ ap₂ (λ sized length. record { control = WriteLoadHead; call = draw_call_of m; owned = locks (append_of m); sized = sized; length = length }) (sym behind.sized) (sym behind.length)
+        ∙ ap (λ call. record { control = WriteLoadHead; call = call; owned = locks (append_of m); sized = f.sized; length = f.length; units = λ page. page }) (sym behind.call)
+        ∙ ap₂ (λ sized length. record { control = WriteLoadHead; call = draw_call_of m; owned = locks (append_of m); sized = sized; length = length; units = λ page. page }) (sym behind.sized) (sym behind.length)

@@ -104,7 +104,7 @@ module _ (m : FrontMachine) (other : Asked) (same : call_asked other ≡ call_as
   }
 
   abbrev front_at : Control → FileCall → List Word → MirroredControl
-  front_at control call owned = record { control = control; call = call; owned = owned; sized = m.sized; length = m.length }
+  front_at control call owned = record { control = control; call = call; owned = owned; sized = m.sized; length = m.length; units = λ page. page }
 
   abbrev FrontIs : FrontControl → (start now : PassState) → FileCall → Option FileCall → MirroredControl → Type 0
   FrontIs control start now call opens is = InCall control_mirror call opens is (front.front_refusal_at control) None start now
@@ -184,7 +184,7 @@ module _ (m : AppendMachine) (list : Bor (List ℕ)) (same : list.now ≡ m.byte
 
   abbrev append_at : append.Before → AppendControl → Control → FileCall → List Word → Drawing
   append_at before stands control call owned = record {
-    mirrored_control = record { control = control; call = call; owned = owned; sized = m.sized; length = m.length };
+    mirrored_control = record { control = control; call = call; owned = owned; sized = m.sized; length = m.length; units = λ page. page };
     head = before.head;
     first = if append.is_filling stands then m.number else before.first;
     entries = if append.is_filling stands then m.pages else before.entries;

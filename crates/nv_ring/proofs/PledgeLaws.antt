@@ -187,7 +187,7 @@ same_test n = elim (cases_eq n 1) [ inl is ↦ eq-eqb n 1 is ∙ sym (eq-eqb 1 n
 
 module _ (sizes : Sizes) (m : AppendMachine) (before : Before) where
   abbrev at : Control → List Word → Drawing
-  at control owned = record { mirrored_control = record { control = control; call = append_call_of m; owned = owned; sized = m.sized; length = m.length }; head = before.head; first = m.number; entries = m.pages }
+  at control owned = record { mirrored_control = record { control = control; call = append_call_of m; owned = owned; sized = m.sized; length = m.length; units = λ page. page }; head = before.head; first = m.number; entries = m.pages }
 
   -- the leader stands behind its followers
   leader_last : 0 < m.pages → entries_on sizes m 0 ++ locks m ≡ entries_on sizes m 1 ++ ENTRY (slot_of_entry sizes m.number) ∷ locks m

@@ -159,7 +159,7 @@ is_filling control = false
 
 abbrev pub append_mirror_at : Sizes → AppendMachine → Before → AppendControl → Drawing
 append_mirror_at sizes m before control = record {
-  mirrored_control = record { control = append_control_at m control; call = append_call_of m; owned = append_owned_at sizes m control; sized = m.sized; length = m.length };
+  mirrored_control = record { control = append_control_at m control; call = append_call_of m; owned = append_owned_at sizes m control; sized = m.sized; length = m.length; units = λ page. page };
   head = before.head;
   first = if is_filling control then m.number else before.first;
   entries = if is_filling control then m.pages else before.entries;

@@ -101,7 +101,7 @@ draw_after sizes m found = draw_after_at sizes m m.control found
 
 abbrev pub draw_is : DrawMachine → Control → (head first entries : ℕ) → Drawing
 draw_is m control head first entries = record {
-  mirrored_control = record { control = control; call = draw_call_of m; owned = locks (append_of m); sized = m.sized; length = m.length };
+  mirrored_control = record { control = control; call = draw_call_of m; owned = locks (append_of m); sized = m.sized; length = m.length; units = λ page. page };
   head = head;
   first = first;
   entries = entries;

@@ -60,11 +60,11 @@ module _ (sizes : Sizes) (first : Values) (by : ℕ) (core : Core) (sound : Soun
   -- the entry that a read is about to hold, or holds, was made ready
   held_readied : (number found : ℕ) → FoundEnabledByKind sizes by core (Hold number) found → was_readied (entry_word_at sizes core number) ≡ true
   held_readied number found may =
-      readied ready may.may.0 (entry_word_at sizes core number) (subst (LooksSound sizes core (core.passes by).pages) may.may.1 (sound.loaded.looks by)).1 refl
+      readied ready ((core.passes by).units may.may.0) (entry_word_at sizes core number) (subst (LooksSound sizes core (core.passes by).units) may.may.1 (sound.loaded.looks by)).1 refl
 
   returned_readied : (number found : ℕ) → FoundEnabledByKind sizes by core (Return number) found → was_readied (entry_word_at sizes core number) ≡ true
   returned_readied number found may =
-      readied held may.may.0 (entry_word_at sizes core number) (subst (LooksSound sizes core (core.passes by).pages) may.may.2 (sound.loaded.looks by)).1 refl
+      readied held ((core.passes by).units may.may.0) (entry_word_at sizes core number) (subst (LooksSound sizes core (core.passes by).units) may.may.2 (sound.loaded.looks by)).1 refl
 
   other_entry : (number value slot : ℕ) → was_readied (entry_word_at sizes core number) ≡ true → was_readied (core.words (ENTRY slot)) ≡ false
       → with_value core.words (ENTRY (slot_of_entry sizes number)) value (ENTRY slot) ≡ core.words (ENTRY slot)

@@ -19,7 +19,7 @@ use Rattle.nv_core.specs.steps.StepKinds.{MayLoad, MayTake, EnabledByKind}
 use Rattle.nv_core.proofs.state.Choices.{if_both, IsGivingBack, gives_back as gives_back_at}
 use Rattle.nv_core.proofs.steps.CleanerControls.{of_cleaner_worked}
 use Rattle.nv_core.proofs.steps.NextSteps.{next_steps_may_come}
-use Rattle.nv_core.proofs.steps.SearchLaws.{looked_at, tried_at}
+use Rattle.nv_core.proofs.steps.SearchLaws.{looked_at, tried_at, pledged_next, hinted_next}
 use Rattle.nv_table.specs.state.Opened.{Opened, mount_of}
 use Rattle.nv_table.specs.state.States.{PassState}
 use Rattle.nv_table.specs.state.Views.{PassView, pass_of}
@@ -118,15 +118,15 @@ module _ (sizes : Sizes) (values : Values) (pass : Pass) (file at : ℕ) (bytes 
   loads_early TAIL (inl is) = ap is_early is
   loads_early TAIL (inr may) = not_at (ReadLoadTail may.0) may.1 (λ f. f.0)
   loads_early (ENTRY slot) may = not_at (LoadEntry may.0 may.1) may.2 (λ f. f.0.0)
-  loads_early (DIRTY page) may = looked_at (λ c. FactsAt sizes pass c → IsEarly c) sizes values pass page (λ from f. no_read f.0) (λ tries search f. no_read f.0) may facts
+  loads_early (DIRTY unit) may = looked_at (λ c. FactsAt sizes pass c → IsEarly c) sizes values pass may.0 (λ from f. no_read f.0) (λ tries search f. no_read f.0) may.1 facts
   loads_early (HINT buffer) may = not_at (Searching may.page may.tries (LoadHint buffer)) may.is (λ f. f.0)
   loads_early word may = absurd may
 
   takes_early : (cell : Word) → MayTake pass cell → IsEarly pass.control
-  takes_early (PAGE page) may = tried_at (λ c. FactsAt sizes pass c → IsEarly c) pass page (λ f. refl) (λ missed tries buffer f. no_read f.0) may facts
+  takes_early (PAGE page) may = tried_at (λ c. FactsAt sizes pass c → IsEarly c) pass page (λ from f. refl) (λ missed tries buffer f. no_read f.0) may facts
   takes_early (SIZE one) may = ap is_early may.0
   takes_early (STORE one) may = not_at (TakeStore may.0 may.1) may.2 (λ f. f.0)
-  takes_early (CLEANUP page) may = not_at (TakeCleanup page) may (λ f. f.0)
+  takes_early (CLEANUP unit) may = not_at (TakeCleanup may.0) may.1 (λ f. f.0)
   takes_early cell may = absurd may
 
   giving_late : IsLate (giving sizes pass.call)
@@ -164,7 +164,7 @@ module _ (sizes : Sizes) (values : Values) (pass : Pass) (file at : ℕ) (bytes 
   later_on refusal Stop found heavy may own = stops_late pass.control may
   later_on refusal Draw found heavy may own = if_both IsLate (found == pass.head) (SeizeEntry found) (leaving pass.owned) (λ _. refl) (λ _. leaving_late pass.owned)
   later_on refusal (Seize number) found heavy may own = if_both IsLate _ (CommitGroup 0) (SeizeEntry (number + 1)) (λ _. refl) (λ _. refl)
-  later_on refusal (Pledge page) found heavy may own = if_both IsLate _ (ReadyEntry _) (PledgePage (page + 1)) (λ _. refl) (λ _. refl)
+  later_on refusal (Pledge unit) found heavy may own = pledged_next IsLate sizes pass may.0 may.1 (if_both IsLate _ (ReadyEntry _) (PledgePage (may.0 + 1)) (λ _. refl) (λ _. refl))
   later_on refusal (Ready number) found heavy may own = if_both IsLate _ TakePlace (ReadyEntry _) (λ _. refl) (λ _. refl)
   later_on refusal Grow found heavy may own = ending_late
   later_on refusal (Break number) found heavy may own =
@@ -173,7 +173,7 @@ module _ (sizes : Sizes) (values : Values) (pass : Pass) (file at : ℕ) (bytes 
   later_on refusal (Hold number) found heavy may own = not_at (HoldEntry may.0 number) may.1 (λ f. f.0.0)
   later_on refusal (Return number) found heavy may own = not_at (ReturnEntry may.0 number may.1) may.2 (λ f. f.0.0)
   later_on refusal (Turn page) found heavy may own = refl
-  later_on refusal (Hint buffer page) found heavy may own = refl
+  later_on refusal (Hint buffer unit) found heavy may own = hinted_next IsLate values pass buffer unit may refl
   later_on refusal (ByCleaner cleaner_op) found heavy may own = absurd (no_cleaner file at bytes refusal cleaner_op own)
   later_on refusal op found heavy may own = absurd may
 

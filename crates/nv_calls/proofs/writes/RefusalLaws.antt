@@ -11,7 +11,7 @@ use Rattle.nv_core.specs.invariant.ControlFacts.{FactsAt}
 use Rattle.nv_core.specs.invariant.InvariantLaws.{RunsAreSound}
 use Rattle.nv_core.specs.invariant.Ownership.{is_among}
 use Rattle.nv_core.specs.state.Core.{control_worked, worked, values_worked}
-use Rattle.nv_core.specs.state.Passes.{Control, Pass, TakePage, LoadLength, TakeSize, LoadStop, LoadOrder, TakeCleanup, TakeStore, ReadStore, VisitPage, Searching, LoadHint, ReadLoadTail, LoadEntry, ReadPiece, WriteLoadHead, WriteLoadTail, DrawNumbers, CommitGroup, TakePlace, SetStopAfterRead, SetStopAfterPiece, SetStopAfterCommit, Cleaning, first_page, end_page, is_read, is_write, page_count, plain_call}
+use Rattle.nv_core.specs.state.Passes.{Control, Pass, TakePage, LoadLength, TakeSize, LoadStop, LoadOrder, TakeCleanup, TakeStore, ReadStore, VisitPage, Searching, LoadHint, ReadLoadTail, LoadEntry, ReadPiece, WriteLoadHead, WriteLoadTail, DrawNumbers, CommitGroup, TakePlace, SetStopAfterRead, SetStopAfterPiece, SetStopAfterCommit, Cleaning, first_page, end_page, is_read, is_write, page_count, plain_call, page_of_unit}
 use Rattle.nv_core.specs.state.Values.{CallEnding, Made, Failed, Refused}
 use Rattle.nv_core.specs.state.Words.{Sizes, Word, STOP, ORDER, HEAD, TAIL, LENGTH, SIZE, STORE, ENTRY, HINT, PAGE, CLEANUP, DIRTY, place}
 use Rattle.nv_core.specs.steps.ControlSteps.{after_load, control_after, first_control, leaving}
@@ -102,15 +102,15 @@ module _ (sizes : Sizes) (values : Values) (pass : Pass) (file at : ℕ) (bytes 
   load_on TAIL found (inl there) is = inr (refl, there)
   load_on TAIL found (inr may) is = not_at sizes values pass file at bytes makes facts (ReadLoadTail may.0) may.1 (λ f. f.0)
   load_on (ENTRY slot) found may is = not_at sizes values pass file at bytes makes facts (LoadEntry may.0 may.1) may.2 (λ f. f.0.0)
-  load_on (DIRTY page) found may is = not_loaded _ (if_both IsUnloaded (found == 0) (TakeStore page false) (TakeCleanup page) (λ _. refl) (λ _. refl)) is
+  load_on (DIRTY unit) found may is = not_loaded _ (if_both IsUnloaded (found == 0) (TakeStore (page_of_unit sizes pass unit) false) (TakeCleanup (page_of_unit sizes pass unit)) (λ _. refl) (λ _. refl)) is
   load_on (HINT buffer) found may is = not_at sizes values pass file at bytes makes facts (Searching may.page may.tries (LoadHint buffer)) may.is (λ f. f.0)
   load_on word found may is = absurd may
 
   take_on : (cell : Word) (found : ℕ) → MayTake pass cell → IsUnloaded (control_after sizes pass (Take cell) found)
-  take_on (PAGE page) found may = page_tried IsUnloaded sizes pass page found refl refl (leaving_unloaded pass.owned) (λ missed tries search. refl) may
+  take_on (PAGE page) found may = page_tried IsUnloaded sizes pass page found refl (λ _. refl) (leaving_unloaded pass.owned) (λ missed tries search. refl) may
   take_on (SIZE one) found may = if_both IsUnloaded (found == 0) LoadLength (leaving pass.owned) (λ _. refl) (λ _. leaving_unloaded pass.owned)
   take_on (STORE one) found may = not_at sizes values pass file at bytes makes facts (TakeStore may.0 may.1) may.2 (λ f. f.0)
-  take_on (CLEANUP page) found may = not_at sizes values pass file at bytes makes facts (TakeCleanup page) may (λ f. f.0)
+  take_on (CLEANUP unit) found may = not_at sizes values pass file at bytes makes facts (TakeCleanup may.0) may.1 (λ f. f.0)
   take_on cell found may = absurd may
 
   loaded_after : (refusal : Option Refusal) (op : Op) (found : ℕ) → EnabledByKind sizes values pass op → is_own (Write file at bytes) refusal op ≡ true → IsLoaded (control_after sizes pass op found)

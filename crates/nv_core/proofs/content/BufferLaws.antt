@@ -1,10 +1,10 @@
 -- Buffers: what a step leaves of what its pass's pages have, and of what a read has gathered.
 use Rattle.std.proofs.Common.{◌≡◌, ◌≢◌, ℕ, ◌+◌, ◌^◌, ◌≤◌, ◌==◌, nat_lt, nat_le, not, ◌&&◌, true, false, if◌then◌else◌, List, [], ◌∷◌, Option, inl, inr, refl, sym, ap, subst, ◌∙◌, arith}
 use Rattle.std.specs.Prelude.{Some, None}
-use Rattle.std.proofs.lemmas.Bool.{cases_lt, eq-eqb, ne_eqb}
+use Rattle.std.proofs.lemmas.Bool.{eq-eqb, ne_eqb}
 use Rattle.nv_plain.specs.declared.call.FileCall.{FileCall}
 use Rattle.nv_core.specs.state.Words.{Sizes, Word, STOP, ORDER, HEAD, TAIL, SIZE, LENGTH, STORE, ENTRY, PAGE, CLEANUP, DIRTY, ready, is_entry_of, same, HINT, CLEANER, HEADER, is_lock, slot_of_entry}
-use Rattle.nv_core.specs.state.Passes.{Control, Idle, LoadLength, TakeSize, LoadStop, LoadOrder, VisitPage, TakeCleanup, TakeStore, ReadStore, GiveStore, ReadLoadHead, ReadLoadTail, LoadEntry, HoldEntry, ReadPiece, ReturnEntry, GiveCleanup, WriteLoadHead, WriteLoadTail, DrawNumbers, SeizeEntry, CommitGroup, PledgePage, ReadyEntry, TakePlace, GrowLength, GiveSize, GivePage, GiveBack, SetStopAfterRead, SetStopAfterPiece, SetStopAfterCommit, BreakEntry, Pass, IsLastTaken, is_write, is_read, page_count, first_page, end_page, without, times, Searching, GiveVictim, Search, pages_of}
+use Rattle.nv_core.specs.state.Passes.{Control, Idle, LoadLength, TakeSize, LoadStop, LoadOrder, VisitPage, TakeCleanup, TakeStore, ReadStore, GiveStore, ReadLoadHead, ReadLoadTail, LoadEntry, HoldEntry, ReadPiece, ReturnEntry, GiveCleanup, WriteLoadHead, WriteLoadTail, DrawNumbers, SeizeEntry, CommitGroup, PledgePage, ReadyEntry, TakePlace, GrowLength, GiveSize, GivePage, GiveBack, SetStopAfterRead, SetStopAfterPiece, SetStopAfterCommit, BreakEntry, Pass, IsLastTaken, is_write, is_read, page_count, first_page, end_page, without, times, Searching, GiveVictim, Search, page_of_unit}
 use Rattle.nv_core.specs.steps.Ops.{Op, Load, Take, Give, Place, Stop, Draw, Seize, Pledge, Ready, Grow, Break, Hold, Return, Stays, Comes, move_of, cleaner_move, moved, Turn, Hint, ByCleaner}
 use Rattle.nv_core.specs.state.Cleaner.{Batch, CleanerControl, TakeHeader, GiveStores, CleanerOp, TakeCleaner, Clean}
 use Rattle.nv_core.specs.state.Cleaner as cleaner
@@ -12,16 +12,16 @@ use Rattle.nv_core.specs.steps.CleanerSteps.{next_cleaner_op, group_page, group_
 use Rattle.nv_core.specs.steps.ControlSteps.{control_after, after_load, after_give, after_stop, after_head, after_tail, after_look, after_hold, after_return, scanning, leaving, giving, ending, ordered, copying, exceeds}
 use Rattle.nv_core.specs.steps.Order.{Values, IsFailing}
 use Rattle.nv_core.specs.steps.StepKinds.{MayLoad, MayTake, MayGive, CleanerEnabled, EnabledByKind}
-use Rattle.nv_core.specs.invariant.ControlFacts.{IsPage, FactsAt, IsElsewhere, PagesAt}
-use Rattle.nv_core.specs.invariant.Ownership.{one_if, is_among, HoldsLocks}
+use Rattle.nv_core.specs.invariant.ControlFacts.{IsPage, FactsAt, IsElsewhere, PagesAt, HasTaken}
+use Rattle.nv_core.specs.invariant.Ownership.{one_if, HoldsLocks}
 use Rattle.nv_core.specs.content.ValidBuffers.{patched_page, with_own_pieces}
 use Rattle.nv_core.proofs.state.Changes.{differ}
 use Rattle.nv_core.proofs.state.Choices.{if_both, when_true, when_false, leaving_both, IsGivingBack, gives_back, page_tried}
 use Rattle.nv_core.proofs.steps.CleanerControls.{tended, tended_to}
 use Rattle.nv_core.proofs.invariant.LockLaws.{times_here, times_else}
 use Rattle.nv_core.proofs.content.FileLaws.{own_none}
-use Rattle.nv_core.proofs.steps.SearchLaws.{turned_at, looked_at, hinting_at, hinting_next, tried_at, hinted_at}
-use Rattle.nv_core.proofs.invariant.PageLists.{among_in, among_below, among_above, pages_among, pages_once, end_less}
+use Rattle.nv_core.proofs.steps.SearchLaws.{turned_at, looked_at, hinting_at, hinting_next, tried_at, hinted_at, clearing_next, hinted_next}
+use Rattle.nv_core.proofs.invariant.PageLists.{page_within, pages_once, end_less}
 use Rattle.nv_core.specs.invariant.CleanerOwnership.{count_in}
 use Rattle.nv_core.specs.steps.PassSteps.{pages_after}
 
@@ -50,69 +50,86 @@ IsWhole TakePlace = Unit {0}
 IsWhole control = ⊥
 
 -- the victim of a search is no page of the call
-pub not_own : (sizes : Sizes) (call : FileCall) (pages : List ℕ) → pages ≡ pages_of sizes call → (buffer victim page : ℕ) → IsElsewhere pages (GiveVictim buffer victim) → IsPage sizes call page → page ≢ victim
+pub not_own : (sizes : Sizes) (call : FileCall) {units : ℕ → ℕ} (pages : List ℕ) → HasTaken sizes call units pages (page_count sizes call) → (buffer victim page : ℕ) → IsElsewhere pages (GiveVictim buffer victim) → IsPage sizes call page → units page ≢ victim
 not_own sizes call pages all buffer victim page other is e =
     let inside = pages_once sizes call pages all page is in let same = ap (count_in pages) e in omega (arith, inside, other, same)
 
-whole_pages : (sizes : Sizes) (pass : Pass) (control : Control) → IsWhole control → PagesAt sizes pass control → HoldsLocks sizes pass control → (page : ℕ) → times (PAGE page) pass.owned ≡ one_if (is_among (first_page sizes pass.call) (end_page sizes pass.call) page)
-whole_pages sizes pass LoadOrder whole pages held page = held (PAGE page) (λ slot. differ (PAGE page) (ENTRY slot) refl) ∙ pages_among sizes pass.call pass.pages pages page
-whole_pages sizes pass (VisitPage next) whole pages held page = held (PAGE page) (λ slot. differ (PAGE page) (ENTRY slot) refl) ∙ pages_among sizes pass.call pass.pages pages page
-whole_pages sizes pass (TakeCleanup next) whole pages held page = held (PAGE page) (λ slot. differ (PAGE page) (ENTRY slot) refl) ∙ pages_among sizes pass.call pass.pages pages page
-whole_pages sizes pass (TakeStore next dirty) whole pages held page = held (PAGE page) (λ slot. differ (PAGE page) (ENTRY slot) refl) ∙ pages_among sizes pass.call pass.pages pages page
-whole_pages sizes pass (ReadStore next dirty) whole pages held page = held (PAGE page) (λ slot. differ (PAGE page) (ENTRY slot) refl) ∙ pages_among sizes pass.call pass.pages pages page
-whole_pages sizes pass (GiveStore next dirty) whole pages held page = held (PAGE page) (λ slot. differ (PAGE page) (ENTRY slot) refl) ∙ pages_among sizes pass.call pass.pages pages page
-whole_pages sizes pass (ReadLoadHead next) whole pages held page = held (PAGE page) (λ slot. differ (PAGE page) (ENTRY slot) refl) ∙ pages_among sizes pass.call pass.pages pages page
-whole_pages sizes pass (ReadLoadTail next) whole pages held page = held (PAGE page) (λ slot. differ (PAGE page) (ENTRY slot) refl) ∙ pages_among sizes pass.call pass.pages pages page
-whole_pages sizes pass (LoadEntry next number) whole pages held page = held (PAGE page) (λ slot. differ (PAGE page) (ENTRY slot) refl) ∙ pages_among sizes pass.call pass.pages pages page
-whole_pages sizes pass (HoldEntry next number) whole pages held page = held (PAGE page) (λ slot. differ (PAGE page) (ENTRY slot) refl) ∙ pages_among sizes pass.call pass.pages pages page
-whole_pages sizes pass (ReadPiece next number) whole pages held page = held (PAGE page) (λ slot. differ (PAGE page) (ENTRY slot) refl) ∙ pages_among sizes pass.call pass.pages pages page
-whole_pages sizes pass (ReturnEntry next number failed) whole pages held page = held (PAGE page) (λ slot. differ (PAGE page) (ENTRY slot) refl) ∙ pages_among sizes pass.call pass.pages pages page
-whole_pages sizes pass (GiveCleanup next) whole pages held page = held (PAGE page) (λ slot. differ (PAGE page) (ENTRY slot) refl) ∙ pages_among sizes pass.call pass.pages pages page
-whole_pages sizes pass (SetStopAfterPiece next number) whole pages held page = held (PAGE page) (λ slot. differ (PAGE page) (ENTRY slot) refl) ∙ pages_among sizes pass.call pass.pages pages page
-whole_pages sizes pass (CommitGroup calls) whole pages held page = held (PAGE page) (λ slot. differ (PAGE page) (ENTRY slot) refl) ∙ pages_among sizes pass.call pass.pages pages page
-whole_pages sizes pass (PledgePage next) whole pages held page = held (PAGE page) (λ slot. differ (PAGE page) (ENTRY slot) refl) ∙ pages_among sizes pass.call pass.pages pages page
-whole_pages sizes pass (ReadyEntry number) whole pages held page = held (PAGE page) (λ slot. differ (PAGE page) (ENTRY slot) refl) ∙ pages_among sizes pass.call pass.pages pages page
-whole_pages sizes pass TakePlace whole pages held page = held (PAGE page) (λ slot. differ (PAGE page) (ENTRY slot) refl) ∙ pages_among sizes pass.call pass.pages pages page
-whole_pages sizes pass control whole pages held page = absurd whole
+whole_pages : (sizes : Sizes) (pass : Pass) (control : Control) → IsWhole control → HoldsLocks sizes pass control → (unit : ℕ) → times (PAGE unit) pass.owned ≡ count_in pass.pages unit
+whole_pages sizes pass LoadOrder whole held unit = held (PAGE unit) (λ slot. differ (PAGE unit) (ENTRY slot) refl)
+whole_pages sizes pass (VisitPage next) whole held unit = held (PAGE unit) (λ slot. differ (PAGE unit) (ENTRY slot) refl)
+whole_pages sizes pass (TakeCleanup next) whole held unit = held (PAGE unit) (λ slot. differ (PAGE unit) (ENTRY slot) refl)
+whole_pages sizes pass (TakeStore next dirty) whole held unit = held (PAGE unit) (λ slot. differ (PAGE unit) (ENTRY slot) refl)
+whole_pages sizes pass (ReadStore next dirty) whole held unit = held (PAGE unit) (λ slot. differ (PAGE unit) (ENTRY slot) refl)
+whole_pages sizes pass (GiveStore next dirty) whole held unit = held (PAGE unit) (λ slot. differ (PAGE unit) (ENTRY slot) refl)
+whole_pages sizes pass (ReadLoadHead next) whole held unit = held (PAGE unit) (λ slot. differ (PAGE unit) (ENTRY slot) refl)
+whole_pages sizes pass (ReadLoadTail next) whole held unit = held (PAGE unit) (λ slot. differ (PAGE unit) (ENTRY slot) refl)
+whole_pages sizes pass (LoadEntry next number) whole held unit = held (PAGE unit) (λ slot. differ (PAGE unit) (ENTRY slot) refl)
+whole_pages sizes pass (HoldEntry next number) whole held unit = held (PAGE unit) (λ slot. differ (PAGE unit) (ENTRY slot) refl)
+whole_pages sizes pass (ReadPiece next number) whole held unit = held (PAGE unit) (λ slot. differ (PAGE unit) (ENTRY slot) refl)
+whole_pages sizes pass (ReturnEntry next number failed) whole held unit = held (PAGE unit) (λ slot. differ (PAGE unit) (ENTRY slot) refl)
+whole_pages sizes pass (GiveCleanup next) whole held unit = held (PAGE unit) (λ slot. differ (PAGE unit) (ENTRY slot) refl)
+whole_pages sizes pass (SetStopAfterPiece next number) whole held unit = held (PAGE unit) (λ slot. differ (PAGE unit) (ENTRY slot) refl)
+whole_pages sizes pass (CommitGroup calls) whole held unit = held (PAGE unit) (λ slot. differ (PAGE unit) (ENTRY slot) refl)
+whole_pages sizes pass (PledgePage next) whole held unit = held (PAGE unit) (λ slot. differ (PAGE unit) (ENTRY slot) refl)
+whole_pages sizes pass (ReadyEntry number) whole held unit = held (PAGE unit) (λ slot. differ (PAGE unit) (ENTRY slot) refl)
+whole_pages sizes pass TakePlace whole held unit = held (PAGE unit) (λ slot. differ (PAGE unit) (ENTRY slot) refl)
+whole_pages sizes pass control whole held unit = absurd whole
 
 -- one in a search holds them too
-pub searching_holds : (sizes : Sizes) (pass : Pass) (missed tries : ℕ) (search : Search) → FactsAt sizes pass (Searching missed tries search) → PagesAt sizes pass (Searching missed tries search) → HoldsLocks sizes pass (Searching missed tries search) → (page : ℕ) → IsPage sizes pass.call page → times (PAGE page) pass.owned ≡ 1
+pub searching_holds : (sizes : Sizes) (pass : Pass) (missed tries : ℕ) (search : Search) → FactsAt sizes pass (Searching missed tries search) → PagesAt sizes pass (Searching missed tries search) → HoldsLocks sizes pass (Searching missed tries search) → (page : ℕ) → IsPage sizes pass.call page → times (PAGE (pass.units page)) pass.owned ≡ 1
 searching_holds sizes pass missed tries (GiveVictim buffer victim) stands pages held page is =
-    let a = held (PAGE page) (λ slot. differ (PAGE page) (ENTRY slot) refl) in let b = pages_once sizes pass.call pass.pages pages page is in
-    let c : one_if (page == victim) ≡ 0 = when_false (page == victim) 1 0 (ne_eqb page victim (not_own sizes pass.call pass.pages pages buffer victim page stands.2 is)) in omega (arith, a, b, c)
-searching_holds sizes pass missed tries search stands pages held page is = held (PAGE page) (λ slot. differ (PAGE page) (ENTRY slot) refl) ∙ pages_once sizes pass.call pass.pages pages page is
+    let a = held (PAGE (pass.units page)) (λ slot. differ (PAGE (pass.units page)) (ENTRY slot) refl) in let b = pages_once sizes pass.call pass.pages pages page is in
+    let c : one_if (pass.units page == victim) ≡ 0 = when_false (pass.units page == victim) 1 0 (ne_eqb (pass.units page) victim (not_own sizes pass.call pass.pages pages buffer victim page stands.2 is)) in omega (arith, a, b, c)
+searching_holds sizes pass missed tries search stands pages held page is = held (PAGE (pass.units page)) (λ slot. differ (PAGE (pass.units page)) (ENTRY slot) refl) ∙ pages_once sizes pass.call pass.pages pages page is
 
-pub whole_holds : (sizes : Sizes) (pass : Pass) (control : Control) → IsWhole control → PagesAt sizes pass control → HoldsLocks sizes pass control → (page : ℕ) → IsPage sizes pass.call page → times (PAGE page) pass.owned ≡ 1
-whole_holds sizes pass control whole pages held page is = whole_pages sizes pass control whole pages held page ∙ among_in (first_page sizes pass.call) (end_page sizes pass.call) page is.0 is.1
+-- what a pass has taken, where it has all
+whole_taken : (sizes : Sizes) (pass : Pass) (control : Control) → IsWhole control → PagesAt sizes pass control → HasTaken sizes pass.call pass.units pass.pages (page_count sizes pass.call)
+whole_taken sizes pass LoadOrder whole pages = pages
+whole_taken sizes pass (VisitPage page) whole pages = pages
+whole_taken sizes pass (TakeCleanup page) whole pages = pages
+whole_taken sizes pass (TakeStore page dirty) whole pages = pages
+whole_taken sizes pass (ReadStore page dirty) whole pages = pages
+whole_taken sizes pass (GiveStore page dirty) whole pages = pages
+whole_taken sizes pass (ReadLoadHead page) whole pages = pages
+whole_taken sizes pass (ReadLoadTail page) whole pages = pages
+whole_taken sizes pass (LoadEntry page number) whole pages = pages
+whole_taken sizes pass (HoldEntry page number) whole pages = pages
+whole_taken sizes pass (ReadPiece page number) whole pages = pages
+whole_taken sizes pass (ReturnEntry page number failed) whole pages = pages
+whole_taken sizes pass (GiveCleanup page) whole pages = pages
+whole_taken sizes pass (SetStopAfterPiece page number) whole pages = pages
+whole_taken sizes pass (CommitGroup calls) whole pages = pages
+whole_taken sizes pass (PledgePage page) whole pages = pages
+whole_taken sizes pass (ReadyEntry number) whole pages = pages
+whole_taken sizes pass TakePlace whole pages = pages
+whole_taken sizes pass control whole pages = absurd whole
 
-pub whole_page : (sizes : Sizes) (pass : Pass) (control : Control) → IsWhole control → PagesAt sizes pass control → HoldsLocks sizes pass control → (page : ℕ) → times (PAGE page) pass.owned ≡ 1 → IsPage sizes pass.call page
-whole_page sizes pass control whole pages held page has =
-    let is = whole_pages sizes pass control whole pages held page in
-    elim (cases_lt page (first_page sizes pass.call)) [
-      | inl below ↦ absurd (let a = among_below (first_page sizes pass.call) (end_page sizes pass.call) page below in omega (arith, is, has, a))
-      | inr low ↦ elim (cases_lt page (end_page sizes pass.call)) [
-        | inl high ↦ (low, high)
-        | inr above ↦ absurd (let a = among_above (first_page sizes pass.call) (end_page sizes pass.call) page above in omega (arith, is, has, a))
-      ]
-    ]
+pub whole_holds : (sizes : Sizes) (pass : Pass) (control : Control) → IsWhole control → PagesAt sizes pass control → HoldsLocks sizes pass control → (page : ℕ) → IsPage sizes pass.call page → times (PAGE (pass.units page)) pass.owned ≡ 1
+whole_holds sizes pass control whole pages held page is = whole_pages sizes pass control whole held (pass.units page) ∙ pages_once sizes pass.call pass.pages (whole_taken sizes pass control whole pages) page is
+
+pub whole_page : (sizes : Sizes) (pass : Pass) (control : Control) → IsWhole control → PagesAt sizes pass control → HoldsLocks sizes pass control → (unit : ℕ) → times (PAGE unit) pass.owned ≡ 1
+    → (page : ℕ) × IsPage sizes pass.call page × (unit ≡ pass.units page)
+whole_page sizes pass control whole pages held unit has =
+    page_within sizes pass.call pass.pages (whole_taken sizes pass control whole pages) unit (let is = whole_pages sizes pass control whole held unit in omega (arith, is, has))
 
 -- a pass that gives a page back holds it
 last_held : (cell : Word) (owned : List Word) → IsLastTaken cell owned → 1 ≤ times cell owned
 last_held cell [] last = absurd last
 last_held cell (first ∷ rest) last = subst (λ w. 1 ≤ times cell (w ∷ rest)) (sym last) (let t = times_here cell rest in omega (arith, t))
 
-pub page_given : (sizes : Sizes) (pass : Pass) (page : ℕ) (control : Control) → ((next : ℕ) → control ≡ GivePage next → IsPage sizes pass.call next) → PagesAt sizes pass control → HoldsLocks sizes pass control → MayGive pass (PAGE page) control → 1 ≤ times (PAGE page) pass.owned
-page_given sizes pass page (GivePage next) on pages held may =
-    subst (λ p. 1 ≤ times (PAGE p) pass.owned) (sym may) (
-    let a = held (PAGE next) (λ slot. differ (PAGE next) (ENTRY slot) refl) in
-    let b = end_less sizes pass.call pass.pages pages next next (on next refl) in
-    let c : one_if (next == next) ≡ 1 = when_true (next == next) 1 0 (eq-eqb next next refl) in omega (arith, a, b, c)
+pub page_given : (sizes : Sizes) (pass : Pass) (unit : ℕ) (control : Control) → ((next : ℕ) → control ≡ GivePage next → IsPage sizes pass.call next) → PagesAt sizes pass control → HoldsLocks sizes pass control → MayGive pass (PAGE unit) control → 1 ≤ times (PAGE unit) pass.owned
+page_given sizes pass unit (GivePage next) on pages held may =
+    let own = pass.units next in
+    subst (λ u. 1 ≤ times (PAGE u) pass.owned) (sym may) (
+    let a = held (PAGE own) (λ slot. differ (PAGE own) (ENTRY slot) refl) in
+    let b = end_less sizes pass.call pass.pages pages next own (on next refl) in
+    let c : one_if (own == own) ≡ 1 = when_true (own == own) 1 0 (eq-eqb own own refl) in omega (arith, a, b, c)
     )
-page_given sizes pass page (Searching missed tries (GiveVictim buffer victim)) on pages held may =
-    let a = held (PAGE page) (λ slot. differ (PAGE page) (ENTRY slot) refl) in
-    let b : one_if (page == victim) ≡ 1 = when_true (page == victim) 1 0 (eq-eqb page victim may) in omega (arith, a, b)
-page_given sizes pass page GiveBack on pages held may = last_held (PAGE page) pass.owned may
-page_given sizes pass page control on pages held may = absurd may
+page_given sizes pass unit (Searching missed tries (GiveVictim buffer victim)) on pages held may =
+    let a = held (PAGE unit) (λ slot. differ (PAGE unit) (ENTRY slot) refl) in
+    let b : one_if (unit == victim) ≡ 1 = when_true (unit == victim) 1 0 (eq-eqb unit victim may) in omega (arith, a, b)
+page_given sizes pass unit GiveBack on pages held may = last_held (PAGE unit) pass.owned may
+page_given sizes pass unit control on pages held may = absurd may
 
 pub less_times : (cell other : Word) (owned : List Word) → times cell (without other owned) ≤ times cell owned
 less_times cell other [] = omega arith
@@ -222,15 +239,15 @@ load_before sizes values pass ORDER may = at LoadOrder may tt
 load_before sizes values pass HEAD may = elim may [ inl is ↦ at WriteLoadHead is tt | inr is ↦ at (ReadLoadHead is.0) is.1 tt ]
 load_before sizes values pass TAIL may = elim may [ inl is ↦ at WriteLoadTail is tt | inr is ↦ at (ReadLoadTail is.0) is.1 tt ]
 load_before sizes values pass (ENTRY slot) may = at (LoadEntry may.0 may.1) may.2 tt
-load_before sizes values pass (DIRTY page) may = looked_at IsUnpatched sizes values pass page (λ _. tt) (λ _ _. tt) may
+load_before sizes values pass (DIRTY unit) may = looked_at IsUnpatched sizes values pass may.0 (λ _. tt) (λ _ _. tt) may.1
 load_before sizes values pass (HINT buffer) may = hinting_at IsUnpatched pass buffer (λ _ _. tt) may
 load_before sizes values pass word may = absurd may
 
 take_before : (pass : Pass) (cell : Word) → MayTake pass cell → IsUnpatched pass.control
-take_before pass (PAGE page) may = tried_at IsUnpatched pass page tt (λ _ _ _. tt) may
+take_before pass (PAGE page) may = tried_at IsUnpatched pass page (λ _. tt) (λ _ _ _. tt) may
 take_before pass (SIZE file) may = at TakeSize may.0 tt
 take_before pass (STORE file) may = at (TakeStore may.0 may.1) may.2 tt
-take_before pass (CLEANUP page) may = at (TakeCleanup page) may tt
+take_before pass (CLEANUP unit) may = at (TakeCleanup may.0) may.1 tt
 take_before pass cell may = absurd may
 
 failing_before : (control : Control) → IsFailing control → IsUnpatched control
@@ -254,7 +271,7 @@ plain_before sizes values pass (Place reply) mild may = absurd mild
 plain_before sizes values pass (Pledge page) mild may = absurd mild
 plain_before sizes values pass (Ready number) mild may = absurd mild
 plain_before sizes values pass (Turn page) mild may = turned_at IsUnpatched sizes values pass page (λ _. tt) (λ _ _. tt) may
-plain_before sizes values pass (Hint buffer page) mild may = hinted_at IsUnpatched values pass buffer page (λ _. tt) may
+plain_before sizes values pass (Hint buffer page) mild may = hinted_at IsUnpatched values pass buffer page (λ _ _. tt) may
 plain_before sizes values pass (ByCleaner cleaner_op) mild may = tended (λ _ s. IsUnpatched s) sizes pass cleaner_op pass.control may (λ _. tt) (λ _ _ _. tt)
 plain_before sizes values pass op mild may = absurd may
 
@@ -289,18 +306,19 @@ module _ (sizes : Sizes) (values : Values) (pass : Pass) (unit page : ℕ) (old 
     | inr is ↦ subst (λ s. patched_page sizes pass.call pass.pages (after_tail sizes pass found s) unit page old ≡ old) (sym is.1) (old_scanning is.0 found)
   ]
   old_load (ENTRY slot) found may = subst (λ s. patched_page sizes pass.call pass.pages (after_look pass found s) unit page old ≡ old) (sym may.2)
-      (if_both (λ s. patched_page sizes pass.call pass.pages s unit page old ≡ old) (is_entry_of ready may.0 found) (HoldEntry may.0 may.1) (scanning pass may.0 (may.1 + 1)) (λ _. refl) (λ _. old_scanning may.0 (may.1 + 1)))
-  old_load (DIRTY next) found may = if_both (λ s. patched_page sizes pass.call pass.pages s unit page old ≡ old) (found == 0) (TakeStore next false) (TakeCleanup next) (λ _. refl) (λ _. refl)
+      (if_both (λ s. patched_page sizes pass.call pass.pages s unit page old ≡ old) (is_entry_of ready (pass.units may.0) found) (HoldEntry may.0 may.1) (scanning pass may.0 (may.1 + 1)) (λ _. refl) (λ _. old_scanning may.0 (may.1 + 1)))
+  old_load (DIRTY next) found may = if_both (λ s. patched_page sizes pass.call pass.pages s unit page old ≡ old) (found == 0) (TakeStore (page_of_unit sizes pass next) false) (TakeCleanup (page_of_unit sizes pass next)) (λ _. refl) (λ _. refl)
   old_load (HINT buffer) found may = hinting_next (λ s. patched_page sizes pass.call pass.pages s unit page old ≡ old) sizes pass buffer found may refl
   old_load word found may = absurd may
 
   old_take : (cell : Word) (found : ℕ) → MayTake pass cell → patched_page sizes pass.call (pages_after pass (Take cell) found pass.control) (control_after sizes pass (Take cell) found) unit page old ≡ old
-  old_take (PAGE next) found may = page_tried (λ s. patched_page sizes pass.call (pages_after pass (Take (PAGE next)) found pass.control) s unit page old ≡ old) sizes pass next found refl refl
+  old_take (PAGE next) found may = page_tried (λ s. patched_page sizes pass.call (pages_after pass (Take (PAGE next)) found pass.control) s unit page old ≡ old) sizes pass next found refl (λ _. refl)
       (leaving_both (λ s. patched_page sizes pass.call (pages_after pass (Take (PAGE next)) found pass.control) s unit page old ≡ old) pass.owned (λ _. refl) (λ _. refl)) (λ _ _ _. refl) may
   old_take (SIZE file) found may = if_both (λ s. patched_page sizes pass.call pass.pages s unit page old ≡ old) (found == 0) LoadLength (leaving pass.owned) (λ _. refl) (λ _. old_leaving pass.owned)
   old_take (STORE file) found may = if_both (λ s. patched_page sizes pass.call pass.pages s unit page old ≡ old) (found == 0) (copying pass.control) (leaving pass.owned)
       (λ _. subst (λ s. patched_page sizes pass.call pass.pages (copying s) unit page old ≡ old) (sym may.2) refl) (λ _. old_leaving pass.owned)
-  old_take (CLEANUP next) found may = if_both (λ s. patched_page sizes pass.call pass.pages s unit page old ≡ old) (found == 0) (TakeStore next true) (leaving pass.owned) (λ _. refl) (λ _. old_leaving pass.owned)
+  old_take (CLEANUP next) found may = clearing_next (λ s. patched_page sizes pass.call pass.pages s unit page old ≡ old) sizes pass next found may
+      (if_both (λ s. patched_page sizes pass.call pass.pages s unit page old ≡ old) (found == 0) (TakeStore may.0 true) (leaving pass.owned) (λ _. refl) (λ _. old_leaving pass.owned))
   old_take cell found may = absurd may
 
   old_give : (cell : Word) (control : Control) → IsGivingBack control → patched_page sizes pass.call pass.pages (after_give sizes pass cell control) unit page old ≡ old
@@ -332,7 +350,7 @@ module _ (sizes : Sizes) (values : Values) (pass : Pass) (unit page : ℕ) (old 
   plain_after (Return number) found mild may = subst (λ s. patched_page sizes pass.call pass.pages (after_return sizes pass s) unit page old ≡ old) (sym may.2)
       (if_both (λ s. patched_page sizes pass.call pass.pages s unit page old ≡ old) may.1 (leaving (without (ENTRY (slot_of_entry sizes number)) pass.owned)) (scanning pass may.0 (number + 1)) (λ _. old_leaving (without (ENTRY (slot_of_entry sizes number)) pass.owned)) (λ _. old_scanning may.0 (number + 1)))
   plain_after (Turn next) found mild may = refl
-  plain_after (Hint buffer next) found mild may = refl
+  plain_after (Hint buffer next) found mild may = hinted_next (λ s. patched_page sizes pass.call pass.pages s unit page old ≡ old) values pass buffer next may refl
   plain_after (Place reply) found mild may = absurd mild
   plain_after (Pledge next) found mild may = absurd mild
   plain_after (Ready next) found mild may = absurd mild

@@ -43,7 +43,7 @@ content_step plain sizes first files tails log placed by core op found has sound
   patched = patched_step plain sizes first files tails log placed core by op found has.count sound logged was.patched may;
 }
   where
-    unlocked : (control : Control) → PatchedAt sizes log files core (core.passes by).pages (core.passes by).fetched (core.passes by).head control → HasUnlocked sizes files core (core.passes by) control
+    unlocked : (control : Control) → PatchedAt sizes log files core (core.passes by).fetched (core.passes by).head control → HasUnlocked sizes files core (core.passes by) control
     unlocked (GiveCleanup page) is = is
     unlocked control is = tt
 

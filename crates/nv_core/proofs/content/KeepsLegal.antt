@@ -58,22 +58,22 @@ none_read bytes at len loaded some all none = nothing (bytes_at bytes at len)
     nothing (first ∷ rest) is = absurd (omega (arith, is))
 
 -- where each page that it has bytes of is the page of the file
-read_is : (sizes : Sizes) (files : Files) (values : Values) (call : FileCall) (loaded : ℕ) (fetched : List (ℕ × List ℕ)) → is_read call ≡ true → IsAllowed sizes call
+read_is : (sizes : Sizes) (files : Files) (units : ℕ → ℕ) (values : Values) (call : FileCall) (loaded : ℕ) (fetched : List (ℕ × List ℕ)) → is_read call ≡ true → IsAllowed sizes call
     → loaded ≤ length (contents_of files (file_of call)) → (loaded < at_of call + len_of call → loaded ≡ length (contents_of files (file_of call)))
-    → ((page : ℕ) → IsPage sizes call page → page < end_read sizes call loaded → page_bytes fetched values page ≡ page_in sizes files page)
+    → ((page : ℕ) → IsPage sizes call page → page < end_read sizes call loaded → page_bytes units fetched values page ≡ page_in sizes files page)
     → flat_map
     (λ i. let piece = piece_of (at_of call) (covered call loaded) sizes.page i in
-    bytes_at (page_bytes fetched values (first_page sizes call + i)) (piece.at % sizes.page) piece.size)
+    bytes_at (page_bytes units fetched values (first_page sizes call + i)) (piece.at % sizes.page) piece.size)
     (range_with_len 0 (end_read sizes call loaded - first_page sizes call))
     ≡ bytes_at (contents_of files (file_of call)) (at_of call) (len_of call)
-read_is sizes files values (Write file at bytes) loaded fetched read allowed low all right = absurd (true≢false (sym read))
-read_is sizes files values (Readv file at lens) loaded fetched read allowed low all right = absurd (true≢false (sym read))
-read_is sizes files values (Writev file at parts) loaded fetched read allowed low all right = absurd (true≢false (sym read))
-read_is sizes files values (Sync file) loaded fetched read allowed low all right = absurd (true≢false (sym read))
-read_is sizes files values (Read file at len) loaded fetched read allowed low all right =
+read_is sizes files units values (Write file at bytes) loaded fetched read allowed low all right = absurd (true≢false (sym read))
+read_is sizes files units values (Readv file at lens) loaded fetched read allowed low all right = absurd (true≢false (sym read))
+read_is sizes files units values (Writev file at parts) loaded fetched read allowed low all right = absurd (true≢false (sym read))
+read_is sizes files units values (Sync file) loaded fetched read allowed low all right = absurd (true≢false (sym read))
+read_is sizes files units values (Read file at len) loaded fetched read allowed low all right =
     ap (λ n. flat_map part (range_with_len 0 n)) many ∙ elim (cases_lt 0 (min len (loaded - at))) [
       | inl some ↦
-          read_pages (contents_of files file) at (min len (loaded - at)) sizes.page some_page (omega (arith, low, some)) (λ i. page_bytes fetched values (first_page sizes (Read file at len) + i)) reads
+          read_pages (contents_of files file) at (min len (loaded - at)) sizes.page some_page (omega (arith, low, some)) (λ i. page_bytes units fetched values (first_page sizes (Read file at len) + i)) reads
           ∙ cover (contents_of files file) at len loaded low all
       | inr none ↦
           let zero : min len (loaded - at) ≡ 0 = omega (arith, none) in
@@ -82,7 +82,7 @@ read_is sizes files values (Read file at len) loaded fetched read allowed low al
     ]
   where
     part : ℕ → List ℕ
-    part i = let piece = piece_of at (min len (loaded - at)) sizes.page i in bytes_at (page_bytes fetched values (first_page sizes (Read file at len) + i)) (piece.at % sizes.page) piece.size
+    part i = let piece = piece_of at (min len (loaded - at)) sizes.page i in bytes_at (page_bytes units fetched values (first_page sizes (Read file at len) + i)) (piece.at % sizes.page) piece.size
 
     many : end_read sizes (Read file at len) loaded - first_page sizes (Read file at len) ≡ pages_touched at (min len (loaded - at)) sizes.page
     many = omega arith
@@ -90,7 +90,7 @@ read_is sizes files values (Read file at len) loaded fetched read allowed low al
     some_page : 1 ≤ sizes.page
     some_page = allowed_page sizes (Read file at len) allowed (ltb-true 0 len read)
 
-    reads : (i : ℕ) → i < pages_touched at (min len (loaded - at)) sizes.page → page_bytes fetched values (first_page sizes (Read file at len) + i) ≡ page_from (contents_of files file) ((at / sizes.page + i) * sizes.page) sizes.page
+    reads : (i : ℕ) → i < pages_touched at (min len (loaded - at)) sizes.page → page_bytes units fetched values (first_page sizes (Read file at len) + i) ≡ page_from (contents_of files file) ((at / sizes.page + i) * sizes.page) sizes.page
     reads i there =
         let within = read_within sizes (Read file at len) loaded in
         let count : i < page_count sizes (Read file at len) = omega (arith, within, there) in
@@ -158,16 +158,16 @@ reply_is sizes first opening by core reply sound lengths buffers may = go (core.
     go : (control : Control) → (core.passes by).control ≡ control → MayPlace sizes core.values (core.passes by) reply control → reply ≡ reply_of (core.passes by).call (files_now opening core)
     go TakePlace at placed =
         placed ∙ plain_is (core.passes by).call (files_now opening core) ((sound.control_facts by).allowed (step_idle sizes core.values (core.passes by) (Place reply) may)).plain
-        (subst (GatheredAt sizes (page_now sizes opening core) core.values (core.passes by).call (core.passes by).pages (core.passes by).fetched) at (buffers.gathered by))
+        (subst (GatheredAt sizes (page_now sizes opening core) core.values (core.passes by).call (core.passes by).units (core.passes by).fetched) at (buffers.gathered by))
     go (VisitPage next) at placed =
         let stands : FactsAt sizes (core.passes by) (VisitPage next) = subst (FactsAt sizes (core.passes by)) at (sound.control_facts by).at in
         let allowed = (sound.control_facts by).allowed (step_idle sizes core.values (core.passes by) (Place reply) may) in
         let measured = place_measured sizes core.values (core.passes by) reply (core.passes by).control may in
         let grows = place_growing sizes core.values (core.passes by) reply may in
-        let right : Gathered sizes (page_now sizes opening core) core.values (core.passes by).call (core.passes by).pages (core.passes by).fetched next =
-        subst (GatheredAt sizes (page_now sizes opening core) core.values (core.passes by).call (core.passes by).pages (core.passes by).fetched) at (buffers.gathered by) in
+        let right : Gathered sizes (page_now sizes opening core) core.values (core.passes by).call (core.passes by).units (core.passes by).fetched next =
+        subst (GatheredAt sizes (page_now sizes opening core) core.values (core.passes by).call (core.passes by).units (core.passes by).fetched) at (buffers.gathered by) in
         placed.1
-        ∙ ap Bytes (read_is sizes (files_now opening core) core.values (core.passes by).call (core.passes by).length (core.passes by).fetched stands.0 allowed
+        ∙ ap Bytes (read_is sizes (files_now opening core) (core.passes by).units core.values (core.passes by).call (core.passes by).length (core.passes by).fetched stands.0 allowed
         (loaded_low sizes first opening by core sound lengths measured grows allowed.known) (loaded_all sizes first opening by core sound lengths measured grows allowed.known stands.0)
         (λ page is below. elim (cases_lt page next) [ inl low ↦ right page is (inl low) | inr past ↦ right page is (inr (placed.0 page past below)) ]))
         ∙ read_reply (core.passes by).call (files_now opening core) stands.0

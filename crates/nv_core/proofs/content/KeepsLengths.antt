@@ -10,7 +10,7 @@ use Rattle.nv_plain.specs.declared.call.Reply.{Reply}
 use Rattle.nv_core.proofs.content.MadeLaws.{made_now}
 use Rattle.nv_core.specs.state.Words.{Sizes, Word, STOP, ORDER, HEAD, TAIL, SIZE, LENGTH, STORE, ENTRY, PAGE, DIRTY, index, HINT, CLEANUP, ready, is_entry_of, slot_of_entry}
 use Rattle.nv_core.specs.state.Values.{CallEnding, Made, Failed, Refused}
-use Rattle.nv_core.specs.state.Passes.{Control, Idle, TakePage, LoadLength, TakeSize, LoadStop, LoadOrder, VisitPage, TakeStore, ReadStore, GiveStore, TakeCleanup, WriteLoadHead, WriteLoadTail, DrawNumbers, SeizeEntry, CommitGroup, PledgePage, ReadyEntry, TakePlace, GrowLength, GiveSize, GivePage, GiveBack, SetStopAfterRead, SetStopAfterCommit, BreakEntry, Pass, file_of, at_of, len_of, is_write, is_read, page_count, first_page, end_page, without, times, Searching, ReadLoadHead, LoadEntry, HoldEntry, ReadPiece, GiveCleanup, SetStopAfterPiece, Cleaning, plain_call}
+use Rattle.nv_core.specs.state.Passes.{Control, Idle, TakePage, LoadLength, TakeSize, LoadStop, LoadOrder, VisitPage, TakeStore, ReadStore, GiveStore, TakeCleanup, WriteLoadHead, WriteLoadTail, DrawNumbers, SeizeEntry, CommitGroup, PledgePage, ReadyEntry, TakePlace, GrowLength, GiveSize, GivePage, GiveBack, SetStopAfterRead, SetStopAfterCommit, BreakEntry, Pass, file_of, at_of, len_of, is_write, is_read, page_count, first_page, end_page, without, times, Searching, ReadLoadHead, LoadEntry, HoldEntry, ReadPiece, GiveCleanup, SetStopAfterPiece, Cleaning, plain_call, page_of_unit}
 use Rattle.nv_core.specs.steps.Ops.{Op, Load, Take, Give, Place, Stop, Draw, Seize, Pledge, Ready, Grow, Break, Split, PutBack, Join, Turn, Hint, Hold, Return, ByCleaner, cleaner_move, moved}
 use Rattle.nv_core.specs.steps.ControlSteps.{control_after, after_load, after_give, after_stop, leaving, giving, ending, ordered, copying, exceeds, scanning, after_head, after_tail, after_look, after_hold, after_return}
 use Rattle.nv_core.specs.steps.PassSteps.{added, as_answered}
@@ -31,7 +31,7 @@ use Rattle.nv_core.proofs.steps.WordLaws.{untouched, touches}
 use Rattle.nv_core.proofs.invariant.KeepsLoaded.{holds_size, held_by_one}
 use Rattle.nv_core.proofs.steps.Placed.{IsUnplaced, same_history}
 use Rattle.nv_core.proofs.content.FileLaws.{files_same, files_grow, files_written}
-use Rattle.nv_core.proofs.steps.SearchLaws.{turned_at, looked_at, hinting_next, tried_at}
+use Rattle.nv_core.proofs.steps.SearchLaws.{turned_at, looked_at, hinting_next, tried_at, clearing_next, pledged_next, hinted_next}
 use Rattle.nv_core.proofs.invariant.ControlFactLaws.{worked_control}
 use Rattle.nv_core.proofs.steps.CleanerControls.{tended, tended_to, of_cleaner_worked}
 
@@ -52,15 +52,15 @@ load_growing sizes values pass ORDER may = unlike _ may (λ z. z)
 load_growing sizes values pass HEAD may = elim may [ inl here ↦ unlike _ here (λ z. z) | inr here ↦ unlike _ here.1 (λ z. z) ]
 load_growing sizes values pass TAIL may = elim may [ inl here ↦ unlike _ here (λ z. z) | inr here ↦ unlike _ here.1 (λ z. z) ]
 load_growing sizes values pass (ENTRY slot) may = unlike _ may.2 (λ z. z)
-load_growing sizes values pass (DIRTY page) may = looked_at (λ s. s ≡ GrowLength → ⊥) sizes values pass page (λ _. unlike _ refl (λ z. z)) (λ _ _. unlike _ refl (λ z. z)) may
+load_growing sizes values pass (DIRTY unit) may = looked_at (λ s. s ≡ GrowLength → ⊥) sizes values pass may.0 (λ _. unlike _ refl (λ z. z)) (λ _ _. unlike _ refl (λ z. z)) may.1
 load_growing sizes values pass (HINT buffer) may = unlike _ may.is (λ z. z)
 load_growing sizes values pass word may = absurd may
 
 take_growing : (pass : Pass) (word : Word) → MayTake pass word → pass.control ≡ GrowLength → ⊥
-take_growing pass (PAGE page) may = tried_at (λ s. s ≡ GrowLength → ⊥) pass page (unlike _ refl (λ z. z)) (λ _ _ _. unlike _ refl (λ z. z)) may
+take_growing pass (PAGE page) may = tried_at (λ s. s ≡ GrowLength → ⊥) pass page (λ _. unlike _ refl (λ z. z)) (λ _ _ _. unlike _ refl (λ z. z)) may
 take_growing pass (SIZE file) may = unlike _ may.0 (λ z. z)
 take_growing pass (STORE file) may = unlike _ may.2 (λ z. z)
-take_growing pass (CLEANUP page) may = unlike _ may (λ z. z)
+take_growing pass (CLEANUP page) may = unlike _ may.1 (λ z. z)
 take_growing pass word may = absurd may
 
 pub place_growing : (sizes : Sizes) (values : Values) (pass : Pass) (reply : Reply) → MayPlace sizes values pass reply pass.control → pass.control ≡ GrowLength → ⊥
@@ -78,7 +78,7 @@ step_growing sizes values pass (Place reply) un may = place_growing sizes values
 step_growing sizes values pass Stop un may = λ is. subst IsFailing is may
 step_growing sizes values pass Draw un may = unlike _ may (λ z. z)
 step_growing sizes values pass (Seize number) un may = unlike _ may (λ z. z)
-step_growing sizes values pass (Pledge page) un may = unlike _ may (λ z. z)
+step_growing sizes values pass (Pledge page) un may = unlike _ may.1 (λ z. z)
 step_growing sizes values pass (Ready number) un may = unlike _ may (λ z. z)
 step_growing sizes values pass Grow un may = absurd un
 step_growing sizes values pass (Break number) un may = unlike _ may (λ z. z)
@@ -119,17 +119,17 @@ load_grows sizes values pass TAIL found may = elim may [
   | inr here ↦ subst (λ s. IsGrow (after_tail sizes pass found s) → ⊥) (sym here.1) (ungrown_scanning pass here.0 found)
 ]
 load_grows sizes values pass (ENTRY slot) found may = subst (λ s. IsGrow (after_look pass found s) → ⊥) (sym may.2)
-    (if_both (λ s. IsGrow s → ⊥) (is_entry_of ready may.0 found) (HoldEntry may.0 may.1) (scanning pass may.0 (may.1 + 1)) (λ _ z. z) (λ _. ungrown_scanning pass may.0 (may.1 + 1)))
-load_grows sizes values pass (DIRTY page) found may = if_both (λ s. IsGrow s → ⊥) (found == 0) (TakeStore page false) (TakeCleanup page) (λ _ z. z) (λ _ z. z)
+    (if_both (λ s. IsGrow s → ⊥) (is_entry_of ready (pass.units may.0) found) (HoldEntry may.0 may.1) (scanning pass may.0 (may.1 + 1)) (λ _ z. z) (λ _. ungrown_scanning pass may.0 (may.1 + 1)))
+load_grows sizes values pass (DIRTY unit) found may = if_both (λ s. IsGrow s → ⊥) (found == 0) (TakeStore (page_of_unit sizes pass unit) false) (TakeCleanup (page_of_unit sizes pass unit)) (λ _ z. z) (λ _ z. z)
 load_grows sizes values pass (HINT buffer) found may = hinting_next (λ s. IsGrow s → ⊥) sizes pass buffer found may (λ z. z)
 load_grows sizes values pass word found may = absurd may
 
 take_grows : (sizes : Sizes) (pass : Pass) (cell : Word) (found : ℕ) → MayTake pass cell → IsGrow (control_after sizes pass (Take cell) found) → ⊥
-take_grows sizes pass (PAGE page) found may = page_tried (λ s. IsGrow s → ⊥) sizes pass page found (λ z. z) (λ z. z) (ungrown_leaving pass.owned) (λ _ _ _ z. z) may
+take_grows sizes pass (PAGE page) found may = page_tried (λ s. IsGrow s → ⊥) sizes pass page found (λ z. z) (λ _ z. z) (ungrown_leaving pass.owned) (λ _ _ _ z. z) may
 take_grows sizes pass (SIZE file) found may = if_both (λ s. IsGrow s → ⊥) (found == 0) LoadLength (leaving pass.owned) (λ _ z. z) (λ _. ungrown_leaving pass.owned)
 take_grows sizes pass (STORE file) found may = if_both (λ s. IsGrow s → ⊥) (found == 0) (copying pass.control) (leaving pass.owned)
     (λ _. subst (λ s. IsGrow (copying s) → ⊥) (sym may.2) (λ z. z)) (λ _. ungrown_leaving pass.owned)
-take_grows sizes pass (CLEANUP page) found may = if_both (λ s. IsGrow s → ⊥) (found == 0) (TakeStore page true) (leaving pass.owned) (λ _ z. z) (λ _. ungrown_leaving pass.owned)
+take_grows sizes pass (CLEANUP unit) found may = clearing_next (λ s. IsGrow s → ⊥) sizes pass unit found may (if_both (λ s. IsGrow s → ⊥) (found == 0) (TakeStore may.0 true) (leaving pass.owned) (λ _ z. z) (λ _. ungrown_leaving pass.owned))
 take_grows sizes pass cell found may = absurd may
 
 give_grows : (sizes : Sizes) (pass : Pass) (cell : Word) (control : Control) → IsGivingBack control → IsGrow (after_give sizes pass cell control) → ⊥
@@ -155,7 +155,7 @@ none_grows sizes values pass found Stop un may = stops pass.control may
     stops control may = absurd may
 none_grows sizes values pass found Draw un may = if_both (λ s. IsGrow s → ⊥) (found == pass.head) (SeizeEntry found) (leaving pass.owned) (λ _ z. z) (λ _. ungrown_leaving pass.owned)
 none_grows sizes values pass found (Seize next) un may = if_both (λ s. IsGrow s → ⊥) (next + 1 == pass.first + pass.entries) (CommitGroup 0) (SeizeEntry (next + 1)) (λ _ z. z) (λ _ z. z)
-none_grows sizes values pass found (Pledge page) un may = if_both (λ s. IsGrow s → ⊥) (page + 1 == end_page sizes pass.call) (ReadyEntry (if pass.entries == 1 then pass.first else pass.first + 1)) (PledgePage (page + 1)) (λ _ z. z) (λ _ z. z)
+none_grows sizes values pass found (Pledge unit) un may = pledged_next (λ s. IsGrow s → ⊥) sizes pass may.0 may.1 (if_both (λ s. IsGrow s → ⊥) (may.0 + 1 == end_page sizes pass.call) (ReadyEntry (if pass.entries == 1 then pass.first else pass.first + 1)) (PledgePage (may.0 + 1)) (λ _ z. z) (λ _ z. z))
 none_grows sizes values pass found (Ready next) un may = if_both (λ s. IsGrow s → ⊥) (next == pass.first) TakePlace (ReadyEntry (if next + 1 == pass.first + pass.entries then pass.first else next + 1)) (λ _ z. z) (λ _ z. z)
 none_grows sizes values pass found Grow un may = ungrown_ending sizes pass
 none_grows sizes values pass found (Break next) un may = if_both (λ s. IsGrow s → ⊥) (next + 1 == pass.first + pass.entries) (leaving (without (ENTRY (slot_of_entry sizes next)) pass.owned)) (BreakEntry (next + 1))
@@ -165,7 +165,7 @@ none_grows sizes values pass found (Return next) un may = subst (λ s. IsGrow (a
     (if_both (λ s. IsGrow s → ⊥) may.1 (leaving (without (ENTRY (slot_of_entry sizes next)) pass.owned)) (scanning pass may.0 (next + 1))
     (λ _. ungrown_leaving (without (ENTRY (slot_of_entry sizes next)) pass.owned)) (λ _. ungrown_scanning pass may.0 (next + 1)))
 none_grows sizes values pass found (Turn page) un may = λ z. z
-none_grows sizes values pass found (Hint buffer page) un may = λ z. z
+none_grows sizes values pass found (Hint buffer unit) un may = hinted_next (λ s. IsGrow s → ⊥) values pass buffer unit may (λ z. z)
 none_grows sizes values pass found (ByCleaner cleaner_op) un may = tended_to (λ s. IsGrow s → ⊥) (λ z. z) (λ batch inner z. z) sizes pass (moved (cleaner_move sizes cleaner_op found) pass.owned) cleaner_op found pass.control may
 none_grows sizes values pass found op un may = absurd may
 

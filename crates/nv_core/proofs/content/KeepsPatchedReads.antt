@@ -11,10 +11,10 @@ use Rattle.nv_pmem.specs.Laws.{LoadsAreAnImage}
 use Rattle.nv_entry.specs.Commits.{after_some, GroupsBecomeWhole}
 use Rattle.nv_core.specs.state.Words.{Sizes, Word, STOP, ORDER, HEAD, TAIL, SIZE, LENGTH, STORE, ENTRY, PAGE, CLEANUP, DIRTY, kind_of, page_of, filling, ready, held, is_entry_of, is_shut, HINT, slot_of_entry}
 use Rattle.nv_core.specs.state.Values.{Value, Bare, APart, AStore, ABuffer, PageRead, PieceRead, CallEnding, Made, Failed, Refused}
-use Rattle.nv_core.specs.state.Passes.{Control, Idle, TakePage, LoadLength, TakeSize, LoadStop, LoadOrder, VisitPage, TakeCleanup, TakeStore, ReadStore, GiveStore, ReadLoadHead, ReadLoadTail, LoadEntry, HoldEntry, ReadPiece, ReturnEntry, GiveCleanup, WriteLoadHead, WriteLoadTail, DrawNumbers, SeizeEntry, CommitGroup, PledgePage, ReadyEntry, TakePlace, GrowLength, GiveSize, GivePage, GiveBack, SetStopAfterRead, SetStopAfterPiece, SetStopAfterCommit, BreakEntry, Pass, fetched_bytes, IsHeldEntry, file_of, is_write, is_read, page_count, first_page, end_page, without, times, Searching, Cleaning, IsHeldByCleaner, plain_call}
+use Rattle.nv_core.specs.state.Passes.{Control, Idle, TakePage, LoadLength, TakeSize, LoadStop, LoadOrder, VisitPage, TakeCleanup, TakeStore, ReadStore, GiveStore, ReadLoadHead, ReadLoadTail, LoadEntry, HoldEntry, ReadPiece, ReturnEntry, GiveCleanup, WriteLoadHead, WriteLoadTail, DrawNumbers, SeizeEntry, CommitGroup, PledgePage, ReadyEntry, TakePlace, GrowLength, GiveSize, GivePage, GiveBack, SetStopAfterRead, SetStopAfterPiece, SetStopAfterCommit, BreakEntry, Pass, fetched_bytes, IsHeldEntry, file_of, is_write, is_read, page_count, first_page, end_page, without, times, Searching, Cleaning, IsHeldByCleaner, plain_call, page_of_unit}
 use Rattle.nv_core.specs.steps.Ops.{Op, Load, Take, Give, Place, Stop, Draw, Seize, Pledge, Ready, Grow, Break, Hold, Return, Split, PutBack, Join, Turn, Hint, ByCleaner, cleaner_move, moved}
 use Rattle.nv_core.specs.steps.ControlSteps.{control_after, after_load, after_give, after_stop, after_head, after_tail, after_look, after_hold, after_return, scanning, leaving, giving, ending, ordered, copying, exceeds}
-use Rattle.nv_core.specs.steps.PassSteps.{head_after, begun, pages_after}
+use Rattle.nv_core.specs.steps.PassSteps.{head_after, begun}
 use Rattle.nv_core.specs.steps.Order.{Values, Work, CallEnabled, IsFailing, CallDue, IsPageRead, IsPieceRead, SaysPiece, SaysPieceOf, page_start, commit_steps, CallMayLeave}
 use Rattle.nv_core.specs.steps.StepKinds.{MayTake, EnabledByKind}
 use Rattle.nv_core.specs.state.Core.{Core, changes, changed_pass, after_step, after_begin, after_work, worked, control_worked, fetched_worked}
@@ -63,11 +63,12 @@ use Rattle.nv_core.proofs.log.KeepsGroups.{log_group}
 use Rattle.nv_core.proofs.log.WrittenLaws.{some_length}
 use Rattle.nv_core.proofs.content.PatchLaws.{page_is_patched, still_held, ready_leader, leader_in, leader_group, store_page}
 use Rattle.nv_core.proofs.content.PatchSteps.{patch_none, patch_one, patch_same, patch_skip, word_page, is_fresh, fresh_held, fresh_is, fresh_high, reads_piece, IsClear, step_patches, risen_off, word_unit}
-use Rattle.nv_core.proofs.steps.SearchLaws.{hinting_next}
+use Rattle.nv_core.proofs.steps.SearchLaws.{hinting_next, clearing_next, pledged_next, hinted_next}
+use Rattle.nv_core.proofs.invariant.IndexLaws.{same_unit}
 
 -- a step leaves a page that its pass doesn't hold
 page_stays : (plain : PlainLaws) (sizes : Sizes) (first : Values) (opening : Files) (core : Core) (by : ℕ) (op : Op) (found : ℕ) → length opening.contents ≡ sizes.files → Sound sizes first core → FoundEnabledByKind sizes by core op found
-    → (page : ℕ) → times (PAGE page) (core.passes by).owned ≡ 0 → page_now sizes opening (after_step sizes by op found core) page ≡ page_now sizes opening core page
+    → (page : ℕ) → times (PAGE ((core.passes by).units page)) (core.passes by).owned ≡ 0 → page_now sizes opening (after_step sizes by op found core) page ≡ page_now sizes opening core page
 page_stays plain sizes first opening core by (Place reply) found count sound may page none =
     ap (λ f. page_in sizes f page) (files_placed plain sizes first opening by core reply sound)
     ∙ page_else plain sizes (core.passes by).call (files_now opening core) page ((sound.control_facts by).allowed (step_idle sizes core.values (core.passes by) (Place reply) may.may))
@@ -79,7 +80,7 @@ page_stays plain sizes first opening core by op found count sound may page none 
 
 -- a pass reads, and holds a page and its CLEANUP
 abbrev IsReading : Core → Pass → (page : ℕ) → Type 0
-IsReading core pass page = (is_read pass.call ≡ true) × (times (PAGE page) pass.owned ≡ 1) × (times (CLEANUP page) pass.owned ≡ 1)
+IsReading core pass page = (is_read pass.call ≡ true) × (times (PAGE (pass.units page)) pass.owned ≡ 1) × (times (CLEANUP (pass.units page)) pass.owned ≡ 1)
 
 -- HEAD as it was loaded is no higher than HEAD
 abbrev IsBelow : Core → (head : ℕ) → Type 0
@@ -99,11 +100,11 @@ WritesBack sizes log opening core pass fetched head control = Unit {0}
 
 module _ (sizes : Sizes) (first : Values) (log : Log) (opening : Files) (core : Core) (sound : Sound sizes first core) where
   reading_at : (n : ℕ) (control : Control) → IsWhole control → (core.passes n).control ≡ control → (page : ℕ) → ReadsPage sizes (core.passes n) page
-      → (HoldsLocks sizes (core.passes n) control → times (CLEANUP page) (core.passes n).owned ≡ one_if (page == page)) → IsReading core (core.passes n) page
+      → (HoldsLocks sizes (core.passes n) control → times (CLEANUP ((core.passes n).units page)) (core.passes n).owned ≡ one_if ((core.passes n).units page == (core.passes n).units page)) → IsReading core (core.passes n) page
   reading_at n control whole at page reads cleans = (
     reads.0,
     whole_holds sizes (core.passes n) control whole (subst (PagesAt sizes (core.passes n)) at (sound.control_facts n).pages) (subst (HoldsLocks sizes (core.passes n)) at (sound.ownership n).locks) page reads.1,
-    cleans (subst (HoldsLocks sizes (core.passes n)) at (sound.ownership n).locks) ∙ ap one_if (eq-eqb page page refl),
+    cleans (subst (HoldsLocks sizes (core.passes n)) at (sound.ownership n).locks) ∙ ap one_if (eq-eqb ((core.passes n).units page) ((core.passes n).units page) refl),
   )
 
   -- CLEANUP of a page is no entry
@@ -111,24 +112,24 @@ module _ (sizes : Sizes) (first : Values) (log : Log) (opening : Files) (core : 
   no_entry page slot = differ (CLEANUP page) (ENTRY slot) refl
 
   -- so it is of every pass
-  writes_back : (n : ℕ) (control : Control) → (core.passes n).control ≡ control → PatchedAt sizes log opening core (core.passes n).pages (core.passes n).fetched (core.passes n).head control
+  writes_back : (n : ℕ) (control : Control) → (core.passes n).control ≡ control → PatchedAt sizes log opening core (core.passes n).fetched (core.passes n).head control
       → WritesBack sizes log opening core (core.passes n) (core.passes n).fetched (core.passes n).head control
-  writes_back n (GiveStore page true) at was = (reading_at n (GiveStore page true) tt at page (subst (FactsAt sizes (core.passes n)) at (sound.control_facts n).at) (λ held. held (CLEANUP page) (no_entry page)), was)
-  writes_back n (ReadLoadHead page) at was = (reading_at n (ReadLoadHead page) tt at page (subst (FactsAt sizes (core.passes n)) at (sound.control_facts n).at) (λ held. held (CLEANUP page) (no_entry page)), was)
-  writes_back n (ReadLoadTail page) at was = (reading_at n (ReadLoadTail page) tt at page (subst (FactsAt sizes (core.passes n)) at (sound.control_facts n).at) (λ held. held (CLEANUP page) (no_entry page)), sound.loaded.head n, was)
+  writes_back n (GiveStore page true) at was = (reading_at n (GiveStore page true) tt at page (subst (FactsAt sizes (core.passes n)) at (sound.control_facts n).at) (λ held. held (CLEANUP ((core.passes n).units page)) (no_entry ((core.passes n).units page))), was)
+  writes_back n (ReadLoadHead page) at was = (reading_at n (ReadLoadHead page) tt at page (subst (FactsAt sizes (core.passes n)) at (sound.control_facts n).at) (λ held. held (CLEANUP ((core.passes n).units page)) (no_entry ((core.passes n).units page))), was)
+  writes_back n (ReadLoadTail page) at was = (reading_at n (ReadLoadTail page) tt at page (subst (FactsAt sizes (core.passes n)) at (sound.control_facts n).at) (λ held. held (CLEANUP ((core.passes n).units page)) (no_entry ((core.passes n).units page))), sound.loaded.head n, was)
   writes_back n (LoadEntry page number) at was =
       let stands : FactsAt sizes (core.passes n) (LoadEntry page number) = subst (FactsAt sizes (core.passes n)) at (sound.control_facts n).at in
-      (reading_at n (LoadEntry page number) tt at page stands.0 (λ held. held (CLEANUP page) (no_entry page)), sound.loaded.head n, was)
+      (reading_at n (LoadEntry page number) tt at page stands.0 (λ held. held (CLEANUP ((core.passes n).units page)) (no_entry ((core.passes n).units page))), sound.loaded.head n, was)
   writes_back n (HoldEntry page number) at was =
       let stands : FactsAt sizes (core.passes n) (HoldEntry page number) = subst (FactsAt sizes (core.passes n)) at (sound.control_facts n).at in
-      (reading_at n (HoldEntry page number) tt at page stands.0 (λ held. held (CLEANUP page) (no_entry page)), sound.loaded.head n, was)
+      (reading_at n (HoldEntry page number) tt at page stands.0 (λ held. held (CLEANUP ((core.passes n).units page)) (no_entry ((core.passes n).units page))), sound.loaded.head n, was)
   writes_back n (ReadPiece page number) at was =
       let stands : FactsAt sizes (core.passes n) (ReadPiece page number) = subst (FactsAt sizes (core.passes n)) at (sound.control_facts n).at in
-      (reading_at n (ReadPiece page number) tt at page stands.0 (λ held. held (CLEANUP page) (no_entry page)), sound.loaded.head n, was)
+      (reading_at n (ReadPiece page number) tt at page stands.0 (λ held. held (CLEANUP ((core.passes n).units page)) (no_entry ((core.passes n).units page))), sound.loaded.head n, was)
   writes_back n (ReturnEntry page number false) at was =
       let stands : FactsAt sizes (core.passes n) (ReturnEntry page number false) = subst (FactsAt sizes (core.passes n)) at (sound.control_facts n).at in
-      (reading_at n (ReturnEntry page number false) tt at page stands.0 (λ held. held (CLEANUP page) (no_entry page)), sound.loaded.head n, was)
-  writes_back n (GiveCleanup page) at was = (reading_at n (GiveCleanup page) tt at page (subst (FactsAt sizes (core.passes n)) at (sound.control_facts n).at) (λ held. held (CLEANUP page) (no_entry page)), was)
+      (reading_at n (ReturnEntry page number false) tt at page stands.0 (λ held. held (CLEANUP ((core.passes n).units page)) (no_entry ((core.passes n).units page))), sound.loaded.head n, was)
+  writes_back n (GiveCleanup page) at was = (reading_at n (GiveCleanup page) tt at page (subst (FactsAt sizes (core.passes n)) at (sound.control_facts n).at) (λ held. held (CLEANUP ((core.passes n).units page)) (no_entry ((core.passes n).units page))), was)
   writes_back n control at was = tt
 
 -- ---- an entry that a scan passes by
@@ -151,7 +152,7 @@ of_cleaner_place batch owned (SetStop held) number stands is = let a = is.0 in l
 of_cleaner_place batch owned inner number stands is = absurd is
 
 -- no other pass holds an entry of a page that a read scans
-module _ (sizes : Sizes) (first : Values) (core : Core) (sound : Sound sizes first core) (by page number : ℕ) (at : (core.passes by).control ≡ LoadEntry page number) (has : times (CLEANUP page) (core.passes by).owned ≡ 1) where
+module _ (sizes : Sizes) (first : Values) (core : Core) (sound : Sound sizes first core) (by page number : ℕ) (at : (core.passes by).control ≡ LoadEntry page number) (has : times (CLEANUP ((core.passes by).units page)) (core.passes by).owned ≡ 1) where
   -- the page of an entry that a pass holds, whose CLEANUP it holds
   abbrev HasCleanup : (m other : ℕ) → Type 0
   HasCleanup m other = (next : ℕ) × (1 ≤ times (CLEANUP next) (core.passes m).owned) × (page_of (entry_word_at sizes core other) ≡ next)
@@ -166,11 +167,11 @@ module _ (sizes : Sizes) (first : Values) (core : Core) (sound : Sound sizes fir
 
   held_of : (m other : ℕ) (control : Control) → (core.passes m).control ≡ control → IsHeldEntry control other → HasCleanup m other
   held_of m other (ReadPiece next one) control is =
-      let looks : LooksSound sizes core (core.passes m).pages (ReadPiece next one) = subst (LooksSound sizes core (core.passes m).pages) control (sound.loaded.looks m) in read_cleanup m next one other (ReadPiece next one) control (λ held. held (CLEANUP next) (λ slot. differ (CLEANUP next) (ENTRY slot) refl)) looks.1 is
+      let looks : LooksSound sizes core (core.passes m).units (ReadPiece next one) = subst (LooksSound sizes core (core.passes m).units) control (sound.loaded.looks m) in read_cleanup m ((core.passes m).units next) one other (ReadPiece next one) control (λ held. held (CLEANUP ((core.passes m).units next)) (λ slot. differ (CLEANUP ((core.passes m).units next)) (ENTRY slot) refl)) looks.1 is
   held_of m other (ReturnEntry next one failed) control is =
-      let looks : LooksSound sizes core (core.passes m).pages (ReturnEntry next one failed) = subst (LooksSound sizes core (core.passes m).pages) control (sound.loaded.looks m) in read_cleanup m next one other (ReturnEntry next one failed) control (λ held. held (CLEANUP next) (λ slot. differ (CLEANUP next) (ENTRY slot) refl)) looks.1 is
+      let looks : LooksSound sizes core (core.passes m).units (ReturnEntry next one failed) = subst (LooksSound sizes core (core.passes m).units) control (sound.loaded.looks m) in read_cleanup m ((core.passes m).units next) one other (ReturnEntry next one failed) control (λ held. held (CLEANUP ((core.passes m).units next)) (λ slot. differ (CLEANUP ((core.passes m).units next)) (ENTRY slot) refl)) looks.1 is
   held_of m other (SetStopAfterPiece next one) control is =
-      let looks : LooksSound sizes core (core.passes m).pages (SetStopAfterPiece next one) = subst (LooksSound sizes core (core.passes m).pages) control (sound.loaded.looks m) in read_cleanup m next one other (SetStopAfterPiece next one) control (λ held. held (CLEANUP next) (λ slot. differ (CLEANUP next) (ENTRY slot) refl)) looks.1 is
+      let looks : LooksSound sizes core (core.passes m).units (SetStopAfterPiece next one) = subst (LooksSound sizes core (core.passes m).units) control (sound.loaded.looks m) in read_cleanup m ((core.passes m).units next) one other (SetStopAfterPiece next one) control (λ held. held (CLEANUP ((core.passes m).units next)) (λ slot. differ (CLEANUP ((core.passes m).units next)) (ENTRY slot) refl)) looks.1 is
   held_of m other (Cleaning batch inner) control is =
       let stands : CleanerFactsAt batch (core.passes m).owned inner = subst (FactsAt sizes (core.passes m)) control (sound.control_facts m).at in
       let place = of_cleaner_place batch (core.passes m).owned inner other stands is in
@@ -184,7 +185,7 @@ module _ (sizes : Sizes) (first : Values) (core : Core) (sound : Sound sizes fir
       (group_page batch i, omega (arith, c, e), subst (λ k. page_of (entry_word_at sizes core k) ≡ group_page batch i) n looked.page)
   held_of m other control at_control is = absurd is
 
-  none_held : (slot : ℕ) → kind_of (core.words (ENTRY slot)) ≡ held → page_of (core.words (ENTRY slot)) ≡ page → ⊥
+  none_held : (slot : ℕ) → kind_of (core.words (ENTRY slot)) ≡ held → page_of (core.words (ENTRY slot)) ≡ (core.passes by).units page → ⊥
   none_held slot kind own =
       let once = (sound.locks.keyed (ENTRY slot)).held (shut (core.words (ENTRY slot)) kind) in
       let m = once.by in
@@ -193,11 +194,11 @@ module _ (sizes : Sizes) (first : Values) (core : Core) (sound : Sound sizes fir
       let three : held ≡ filling = sym kind ∙ ap kind_of word in omega (arith, three))
       (λ n is e.
       let of = held_of m n (core.passes m).control refl is in
-      let same : of.0 ≡ page = sym of.2 ∙ ap (λ s. page_of (core.words (ENTRY s))) e ∙ own in
-      let holds : 1 ≤ times (CLEANUP page) (core.passes m).owned = subst (λ p. 1 ≤ times (CLEANUP p) (core.passes m).owned) same of.1 in
+      let same : of.0 ≡ (core.passes by).units page = sym of.2 ∙ ap (λ s. page_of (core.words (ENTRY s))) e ∙ own in
+      let holds : 1 ≤ times (CLEANUP ((core.passes by).units page)) (core.passes m).owned = subst (λ p. 1 ≤ times (CLEANUP p) (core.passes m).owned) same of.1 in
       elim (cases_eq m by) [
         | inl one ↦ subst (λ s. IsHeldEntry s n) (ap (λ k. (core.passes k).control) one ∙ at) is
-        | inr ne ↦ let z = (only_holder (sound.locks.keyed (CLEANUP page)) by (omega (arith, has))).2 m ne in omega (arith, z, holds)
+        | inr ne ↦ let z = (only_holder (sound.locks.keyed (CLEANUP ((core.passes by).units page))) by (omega (arith, has))).2 m ne in omega (arith, z, holds)
       ]) in
       let o = once.once in omega (arith, none, o)
     where
@@ -206,7 +207,7 @@ module _ (sizes : Sizes) (first : Values) (core : Core) (sound : Sound sizes fir
 
 -- an entry of the window that a scan finds not ready, or of another page, is none of its page's
 pub passed_by : (sizes : Sizes) (first : Values) (opening : Files) (tails : Tails) (log : Log) (placed : ℕ → Bool) (core : Core) → Sound sizes first core → LogContent sizes first opening tails log placed core
-    → (by page number : ℕ) → (core.passes by).control ≡ LoadEntry page number → times (CLEANUP page) (core.passes by).owned ≡ 1 → InWindow core number → is_entry_of ready page (entry_word_at sizes core number) ≡ false → is_on sizes log core page number ≡ false
+    → (by page number : ℕ) → (core.passes by).control ≡ LoadEntry page number → times (CLEANUP ((core.passes by).units page)) (core.passes by).owned ≡ 1 → InWindow core number → is_entry_of ready ((core.passes by).units page) (entry_word_at sizes core number) ≡ false → is_on sizes log core page number ≡ false
 passed_by sizes first opening tails log placed core sound content by page number at has within not_so = go (cases_Bool (is_on sizes log core page number))
   where
     go : (is_on sizes log core page number ≡ true) ⊎ (is_on sizes log core page number ≡ false) → is_on sizes log core page number ≡ false
@@ -214,9 +215,9 @@ passed_by sizes first opening tails log placed core sound content by page number
     go (inl is) = absurd (
         let both = and_parts (is_fresh (entry_word_at sizes core number)) (page_of_number sizes (log.group number) number == page) is in
         let fresh = fresh_is (entry_word_at sizes core number) both.0 in
-        let own = word_unit sizes log core sound.index content.groups content.pieces number page page (sound.index.direct page) within fresh.0 (eqb-true (page_of_number sizes (log.group number) number) page both.1) in
+        let own = word_unit sizes log core sound.index content.groups content.pieces number ((core.passes by).units page) page (sound.index.known by page) within fresh.0 (eqb-true (page_of_number sizes (log.group number) number) page both.1) in
         elim fresh.2 [
-          | inl two ↦ not_both (and_from (kind_of (entry_word_at sizes core number) == ready) (page_of (entry_word_at sizes core number) == page) (eq-eqb (kind_of (entry_word_at sizes core number)) ready two) (eq-eqb (page_of (entry_word_at sizes core number)) page own)) not_so
+          | inl two ↦ not_both (and_from (kind_of (entry_word_at sizes core number) == ready) (page_of (entry_word_at sizes core number) == (core.passes by).units page) (eq-eqb (kind_of (entry_word_at sizes core number)) ready two) (eq-eqb (page_of (entry_word_at sizes core number)) ((core.passes by).units page) own)) not_so
           | inr three ↦ none_held sizes first core sound by page number at has (slot_of_entry sizes number) three own
         ])
 
@@ -235,7 +236,7 @@ module _ (plain : PlainLaws) (sizes : Sizes) (first : Values) (opening : Files) 
   grounded n read flies = not_both (content.flight.drawn n flies).write (read_only (core.passes n).call read)
 
   still_page : (n page : ℕ) → IsReading core (core.passes n) page → IsStill sizes core page
-  still_page n page is = subst (IsStill sizes core) (sound.index.direct page) (still_held sizes first core page n sound is.1 (grounded n is.0))
+  still_page n page is = subst (IsStill sizes core) (sound.index.known n page) (still_held sizes first core ((core.passes n).units page) n sound is.1 (grounded n is.0))
 
   c_leaving : (head : ℕ) (owned : List Word) → At head (leaving owned)
   c_leaving head owned = leaving_both (At head) owned (λ _. tt) (λ _. tt)
@@ -306,22 +307,22 @@ module _ (plain : PlainLaws) (sizes : Sizes) (first : Values) (opening : Files) 
       (let page = may.may.0 in let number = may.may.1 in
       let scans = at_control (LoadEntry page number) may.may.2 before in
       let word : entry_word_at sizes core number ≡ found = ap (λ s. core.words (ENTRY s)) (sym may.may.3) ∙ may.is in
-      if_both (At pass.head) (is_entry_of ready page found) (HoldEntry page number) (scanning pass page (number + 1)) (λ _. scans)
+      if_both (At pass.head) (is_entry_of ready (pass.units page) found) (HoldEntry page number) (scanning pass page (number + 1)) (λ _. scans)
       (λ other.
       let stands : FactsAt sizes pass (LoadEntry page number) = subst (FactsAt sizes pass) may.may.2 (sound.control_facts by).at in
       let below : number < pass.head = stands.1 in
       let top = scans.1 in
       c_scanning page (number + 1) scans.0 scans.1
-      (lacks_next page number below (λ inside. passed_by sizes first opening tails log placed core sound content by page number may.may.2 scans.0.2 (inside, omega (arith, below, top)) (ap (is_entry_of ready page) word ∙ other)) scans.2)))
-  c_load (DIRTY next) found may before = if_both (At pass.head) (found == 0) (TakeStore next false) (TakeCleanup next) (λ _. tt) (λ _. tt)
+      (lacks_next page number below (λ inside. passed_by sizes first opening tails log placed core sound content by page number may.may.2 scans.0.2 (inside, omega (arith, below, top)) (ap (is_entry_of ready (pass.units page)) word ∙ other)) scans.2)))
+  c_load (DIRTY unit) found may before = if_both (At pass.head) (found == 0) (TakeStore (page_of_unit sizes pass unit) false) (TakeCleanup (page_of_unit sizes pass unit)) (λ _. tt) (λ _. tt)
   c_load (HINT buffer) found may before = hinting_next (At pass.head) sizes pass buffer found may.may tt
   c_load word found may before = absurd may.may
 
   c_take : (cell : Word) (found : ℕ) → MayTake pass cell → At pass.head (control_after sizes pass (Take cell) found)
-  c_take (PAGE page) found may = page_tried (At pass.head) sizes pass page found tt tt (c_leaving pass.head pass.owned) (λ _ _ _. tt) may
+  c_take (PAGE page) found may = page_tried (At pass.head) sizes pass page found tt (λ _. tt) (c_leaving pass.head pass.owned) (λ _ _ _. tt) may
   c_take (SIZE file) found may = if_both (At pass.head) (found == 0) LoadLength (leaving pass.owned) (λ _. tt) (λ _. c_leaving pass.head pass.owned)
   c_take (STORE file) found may = if_both (At pass.head) (found == 0) (copying pass.control) (leaving pass.owned) (λ _. subst (λ s. At pass.head (copying s)) (sym may.2) tt) (λ _. c_leaving pass.head pass.owned)
-  c_take (CLEANUP page) found may = if_both (At pass.head) (found == 0) (TakeStore page true) (leaving pass.owned) (λ _. tt) (λ _. c_leaving pass.head pass.owned)
+  c_take (CLEANUP unit) found may = clearing_next (At pass.head) sizes pass unit found may (if_both (At pass.head) (found == 0) (TakeStore may.0 true) (leaving pass.owned) (λ _. tt) (λ _. c_leaving pass.head pass.owned))
   c_take cell found may = absurd may
 
   c_give : (cell : Word) (control : Control) → IsGivingBack control → At pass.head control → At pass.head (after_give sizes pass cell control)
@@ -352,7 +353,7 @@ module _ (plain : PlainLaws) (sizes : Sizes) (first : Values) (opening : Files) 
   c_step Stop found un may step before = c_stop pass.control step
   c_step Draw found un may step before = if_both (At (head_after sizes pass Draw found)) (found == pass.head) (SeizeEntry found) (leaving pass.owned) (λ _. tt) (λ _. c_leaving (head_after sizes pass Draw found) pass.owned)
   c_step (Seize next) found un may step before = if_both (At pass.head) (next + 1 == pass.first + pass.entries) (CommitGroup 0) (SeizeEntry (next + 1)) (λ _. tt) (λ _. tt)
-  c_step (Pledge page) found un may step before = if_both (At pass.head) (page + 1 == end_page sizes pass.call) (ReadyEntry (if pass.entries == 1 then pass.first else pass.first + 1)) (PledgePage (page + 1)) (λ _. tt) (λ _. tt)
+  c_step (Pledge unit) found un may step before = pledged_next (At pass.head) sizes pass step.0 step.1 (if_both (At pass.head) (step.0 + 1 == end_page sizes pass.call) (ReadyEntry (if pass.entries == 1 then pass.first else pass.first + 1)) (PledgePage (step.0 + 1)) (λ _. tt) (λ _. tt))
   c_step (Ready next) found un may step before = if_both (At pass.head) (next == pass.first) TakePlace (ReadyEntry (if next + 1 == pass.first + pass.entries then pass.first else next + 1)) (λ _. tt) (λ _. tt)
   c_step Grow found un may step before = c_ending pass.head
   c_step (Break next) found un may step before = if_both (At pass.head) (next + 1 == pass.first + pass.entries) (leaving (without (ENTRY (slot_of_entry sizes next)) pass.owned)) (BreakEntry (next + 1)) (λ _. c_leaving pass.head (without (ENTRY (slot_of_entry sizes next)) pass.owned)) (λ _. tt)
@@ -360,7 +361,7 @@ module _ (plain : PlainLaws) (sizes : Sizes) (first : Values) (opening : Files) 
   c_step (Return number) found un may step before = subst (λ s. At pass.head (after_return sizes pass s)) (sym step.2) (c_return step.0 number step.1 (at_control (ReturnEntry step.0 number step.1) step.2 before))
   c_step (ByCleaner cleaner_op) found un may step before = tended_to (At (head_after sizes pass (ByCleaner cleaner_op) found)) tt (λ _ _. tt) sizes pass (moved (cleaner_move sizes cleaner_op found) pass.owned) cleaner_op found pass.control step
   c_step (Turn page) found un may step before = tt
-  c_step (Hint buffer page) found un may step before = tt
+  c_step (Hint buffer unit) found un may step before = hinted_next (At pass.head) core.values pass buffer unit step tt
   c_step op found un may step before = absurd step
 
 -- ---- what a step leaves of that
@@ -384,8 +385,8 @@ module _ (plain : PlainLaws) (sizes : Sizes) (first : Values) (opening : Files) 
   later = log_stepped sizes (core.passes by) op found log
 
   -- a cleaner that makes a step doesn't hold CLEANUP of a page that another pass reads
-  clear_of : (op : Op) (n page : ℕ) → (n ≢ by) ⊎ IsMild op → IsReading core (core.passes n) page → IsClear core by page op
-  clear_of (ByCleaner cleaner_op) n page (inl ne) is = let c = is.2 in (only_holder (sound.locks.keyed (CLEANUP page)) n (omega (arith, c))).2 by (λ e. ne (sym e))
+  clear_of : (op : Op) (n page : ℕ) → (n ≢ by) ⊎ IsMild op → IsReading core (core.passes n) page → IsClear core by ((core.passes n).units page) op
+  clear_of (ByCleaner cleaner_op) n page (inl ne) is = let c = is.2 in (only_holder (sound.locks.keyed (CLEANUP ((core.passes n).units page))) n (omega (arith, c))).2 by (λ e. ne (sym e))
   clear_of (ByCleaner cleaner_op) n page (inr mild) is = absurd mild
   clear_of op n page moves is = tt
 
@@ -399,7 +400,8 @@ module _ (plain : PlainLaws) (sizes : Sizes) (first : Values) (opening : Files) 
   module _ (n : ℕ) (moves : Moves n) (fetched : List (ℕ × List ℕ)) (head : ℕ) where
     kept_page : (page : ℕ) → IsReading core (core.passes n) page → page_now sizes opening now page ≡ page_now sizes opening core page
     kept_page page is = elim moves [
-      | inl ne ↦ page_stays plain sizes first opening core by op found count sound may page (others_none sizes first core sound page n by is.1 (λ e. ne (sym e)))
+      | inl ne ↦ page_stays plain sizes first opening core by op found count sound may page (ap (λ u. times (PAGE u) (core.passes by).owned) (same_unit core sound.index by n page)
+          ∙ others_none sizes first core sound ((core.passes n).units page) n by is.1 (λ e. ne (sym e)))
       | inr mild ↦ ap (λ h. page_in sizes (after h opening) page) (same_history by core op (mild_unplaced op mild))
     ]
 
@@ -407,25 +409,25 @@ module _ (plain : PlainLaws) (sizes : Sizes) (first : Values) (opening : Files) 
     kept_lacks page from is below lacks =
         let still = still_page plain sizes first opening tails log placed core by sound content was n page is in
         let up = tail_up sizes first by core found op sound may in
-        step_patches sizes first log by core found page page (sound.index.direct page) sound content.groups content.pieces still op (clear_of op n page moves is) may (in_window_from now from) (head - in_window_from now from) (fetched_bytes fetched page)
+        step_patches sizes first log by core found ((core.passes n).units page) page (sound.index.known n page) sound content.groups content.pieces still op (clear_of op n page moves is) may (in_window_from now from) (head - in_window_from now from) (fetched_bytes fetched page)
         (λ m low high. (omega (arith, low, up), omega (arith, low, high, below)))
         ∙ sym (patch_skip sizes log core page (in_window_from core from) (in_window_from now from) head (fetched_bytes fetched page) (omega (arith, up))
-        (λ m low high top. risen_off sizes first log by core found page page (sound.index.direct page) sound content.groups content.pieces still op may m (omega (arith, low), omega (arith, top, below)) (omega (arith, low, high))))
+        (λ m low high top. risen_off sizes first log by core found ((core.passes n).units page) page (sound.index.known n page) sound content.groups content.pieces still op may m (omega (arith, low), omega (arith, top, below)) (omega (arith, low, high))))
         ∙ lacks ∙ sym (kept_page page is)
 
     kept_stores : (page : ℕ) → HasStores sizes core fetched page → HasStores sizes now fetched page
     kept_stores page has = has ∙ sym (ap (λ f. page_in sizes f page) stores_now)
 
-    written_back : (pages : List ℕ) (control : Control) → WritesBack sizes log opening core (core.passes n) fetched head control → PatchedAt sizes later opening now pages fetched head control
-    written_back pages (GiveStore page true) is = kept_stores page is.1
-    written_back pages (ReadLoadHead page) is = kept_stores page is.1
-    written_back pages (ReadLoadTail page) is = kept_lacks page 0 is.0 is.1 is.2
-    written_back pages (LoadEntry page number) is = kept_lacks page number is.0 is.1 is.2
-    written_back pages (HoldEntry page number) is = kept_lacks page number is.0 is.1 is.2
-    written_back pages (ReadPiece page number) is = kept_lacks page number is.0 is.1 is.2
-    written_back pages (ReturnEntry page number false) is = kept_lacks page (number + 1) is.0 is.1 is.2
-    written_back pages (GiveCleanup page) is = is.1 ∙ sym (kept_page page is.0)
-    written_back pages control is = tt
+    written_back : (control : Control) → WritesBack sizes log opening core (core.passes n) fetched head control → PatchedAt sizes later opening now fetched head control
+    written_back (GiveStore page true) is = kept_stores page is.1
+    written_back (ReadLoadHead page) is = kept_stores page is.1
+    written_back (ReadLoadTail page) is = kept_lacks page 0 is.0 is.1 is.2
+    written_back (LoadEntry page number) is = kept_lacks page number is.0 is.1 is.2
+    written_back (HoldEntry page number) is = kept_lacks page number is.0 is.1 is.2
+    written_back (ReadPiece page number) is = kept_lacks page number is.0 is.1 is.2
+    written_back (ReturnEntry page number false) is = kept_lacks page (number + 1) is.0 is.1 is.2
+    written_back (GiveCleanup page) is = is.1 ∙ sym (kept_page page is.0)
+    written_back control is = tt
 
   before : (n : ℕ) → WritesBack sizes log opening core (core.passes n) (core.passes n).fetched (core.passes n).head (core.passes n).control
   before n = writes_back sizes first log opening core sound n (core.passes n).control refl (was.each n)
@@ -434,9 +436,9 @@ pub patched_step : (plain : PlainLaws) (sizes : Sizes) (first : Values) (opening
     → Sound sizes first core → LogContent sizes first opening tails log placed core → PatchedReads sizes log opening core → FoundEnabledByKind sizes by core op found
     → PatchedReads sizes (log_stepped sizes (core.passes by) op found log) opening (after_step sizes by op found core)
 patched_step plain sizes first opening tails log placed core by op found count sound content was may = record {
-  each = by_number (λ n (p : Pass). PatchedAt sizes (log_stepped sizes (core.passes by) op found log) opening (after_step sizes by op found core) p.pages p.fetched p.head p.control) core.passes (changes by core.made op) (changed_pass sizes by core op found)
+  each = by_number (λ n (p : Pass). PatchedAt sizes (log_stepped sizes (core.passes by) op found log) opening (after_step sizes by op found core) p.fetched p.head p.control) core.passes (changes by core.made op) (changed_pass sizes by core op found)
       (here op may)
-      (λ n ne. written_back plain sizes first opening tails log placed core by op found count sound content was may n (moves op n ne) (core.passes n).fetched (core.passes n).head (core.passes n).pages (core.passes n).control (before plain sizes first opening tails log placed core by op found count sound content was may n));
+      (λ n ne. written_back plain sizes first opening tails log placed core by op found count sound content was may n (moves op n ne) (core.passes n).fetched (core.passes n).head (core.passes n).control (before plain sizes first opening tails log placed core by op found count sound content was may n));
 }
   where
     moves : (op : Op) (n : ℕ) → n ≢ changes by core.made op → (n ≢ by) ⊎ IsMild op
@@ -445,20 +447,20 @@ patched_step plain sizes first opening tails log placed core by op found count s
     moves op n ne = inr tt
 
     own : (op : Op) → IsMild op → FoundEnabledByKind sizes by core op found → EnabledByKind sizes core.values (core.passes by) op
-        → PatchedAt sizes (log_stepped sizes (core.passes by) op found log) opening (after_step sizes by op found core) (pages_after (core.passes by) op found (core.passes by).control) (core.passes by).fetched (head_after sizes (core.passes by) op found) (control_after sizes (core.passes by) op found)
-    own op mild may step = written_back plain sizes first opening tails log placed core by op found count sound content was may by (inr mild) (core.passes by).fetched (head_after sizes (core.passes by) op found) (pages_after (core.passes by) op found (core.passes by).control) (control_after sizes (core.passes by) op found)
+        → PatchedAt sizes (log_stepped sizes (core.passes by) op found log) opening (after_step sizes by op found core) (core.passes by).fetched (head_after sizes (core.passes by) op found) (control_after sizes (core.passes by) op found)
+    own op mild may step = written_back plain sizes first opening tails log placed core by op found count sound content was may by (inr mild) (core.passes by).fetched (head_after sizes (core.passes by) op found) (control_after sizes (core.passes by) op found)
         (c_step plain sizes first opening tails log placed core by sound content was op found (mild_unplaced op mild) may step (writes_back sizes first log opening core sound by (core.passes by).control refl (was.each by)))
 
     here : (op : Op) → FoundEnabledByKind sizes by core op found
-        → PatchedAt sizes (log_stepped sizes (core.passes by) op found log) opening (after_step sizes by op found core) (changed_pass sizes by core op found).pages (changed_pass sizes by core op found).fetched (changed_pass sizes by core op found).head (changed_pass sizes by core op found).control
+        → PatchedAt sizes (log_stepped sizes (core.passes by) op found log) opening (after_step sizes by op found core) (changed_pass sizes by core op found).fetched (changed_pass sizes by core op found).head (changed_pass sizes by core op found).control
     here Split may = tt
-    here (PutBack cell) may = written_back plain sizes first opening tails log placed core by (PutBack cell) found count sound content was may by (inr tt) (core.passes by).fetched (core.passes by).head (core.passes by).pages (core.passes by).control (before plain sizes first opening tails log placed core by (PutBack cell) found count sound content was may by)
-    here (Join number) may = written_back plain sizes first opening tails log placed core by (Join number) found count sound content was may by (inr tt) (core.passes by).fetched (core.passes by).head (core.passes by).pages (core.passes by).control (before plain sizes first opening tails log placed core by (Join number) found count sound content was may by)
+    here (PutBack cell) may = written_back plain sizes first opening tails log placed core by (PutBack cell) found count sound content was may by (inr tt) (core.passes by).fetched (core.passes by).head (core.passes by).control (before plain sizes first opening tails log placed core by (PutBack cell) found count sound content was may by)
+    here (Join number) may = written_back plain sizes first opening tails log placed core by (Join number) found count sound content was may by (inr tt) (core.passes by).fetched (core.passes by).head (core.passes by).control (before plain sizes first opening tails log placed core by (Join number) found count sound content was may by)
     here (Place reply) may =
-        if_both (PatchedAt sizes log opening (after_step sizes by (Place reply) found core) (core.passes by).pages (core.passes by).fetched (core.passes by).head) (is_write (core.passes by).call && exceeds (core.passes by) (core.passes by).length) GrowLength (ending sizes (core.passes by))
-        (λ _. tt) (λ _. if_both (PatchedAt sizes log opening (after_step sizes by (Place reply) found core) (core.passes by).pages (core.passes by).fetched (core.passes by).head) (core.passes by).sized GiveSize (giving sizes (core.passes by).call)
-        (λ _. tt) (λ _. if_both (PatchedAt sizes log opening (after_step sizes by (Place reply) found core) (core.passes by).pages (core.passes by).fetched (core.passes by).head) (page_count sizes (core.passes by).call == 0) Idle (GivePage (first_page sizes (core.passes by).call)) (λ _. tt) (λ _. tt)))
-    here (ByCleaner cleaner_op) may = tended_to (PatchedAt sizes (log_stepped sizes (core.passes by) (ByCleaner cleaner_op) found log) opening (after_step sizes by (ByCleaner cleaner_op) found core) (core.passes by).pages (core.passes by).fetched (head_after sizes (core.passes by) (ByCleaner cleaner_op) found)) tt (λ _ _. tt)
+        if_both (PatchedAt sizes log opening (after_step sizes by (Place reply) found core) (core.passes by).fetched (core.passes by).head) (is_write (core.passes by).call && exceeds (core.passes by) (core.passes by).length) GrowLength (ending sizes (core.passes by))
+        (λ _. tt) (λ _. if_both (PatchedAt sizes log opening (after_step sizes by (Place reply) found core) (core.passes by).fetched (core.passes by).head) (core.passes by).sized GiveSize (giving sizes (core.passes by).call)
+        (λ _. tt) (λ _. if_both (PatchedAt sizes log opening (after_step sizes by (Place reply) found core) (core.passes by).fetched (core.passes by).head) (page_count sizes (core.passes by).call == 0) Idle (GivePage (first_page sizes (core.passes by).call)) (λ _. tt) (λ _. tt)))
+    here (ByCleaner cleaner_op) may = tended_to (PatchedAt sizes (log_stepped sizes (core.passes by) (ByCleaner cleaner_op) found log) opening (after_step sizes by (ByCleaner cleaner_op) found core) (core.passes by).fetched (head_after sizes (core.passes by) (ByCleaner cleaner_op) found)) tt (λ _ _. tt)
         sizes (core.passes by) (moved (cleaner_move sizes cleaner_op found) (core.passes by).owned) cleaner_op found (core.passes by).control may.may
     here (Load word) may = own (Load word) tt may may.may
     here (Take cell) may = own (Take cell) tt may may.may
@@ -493,22 +495,22 @@ module _ (sizes : Sizes) (opening : Files) (log later : Log) (core now : Core) (
       (λ n low high. (ap₂ (λ w g. is_fresh w && page_of_number sizes g n == page) (words (ENTRY (slot_of_entry sizes n))) (groups n), groups n))
       ∙ is ∙ sym (page_same page)
 
-  patched_same : (pages : List ℕ) (fetched : List (ℕ × List ℕ)) (head : ℕ) (control : Control) → Stores control → PatchedAt sizes log opening core pages fetched head control → PatchedAt sizes later opening now pages fetched head control
-  patched_same pages fetched head (GiveStore page true) stores is = is ∙ sym stores
-  patched_same pages fetched head (ReadLoadHead page) stores is = is ∙ sym stores
-  patched_same pages fetched head (ReadLoadTail page) stores is = lacks_same fetched head page 0 is
-  patched_same pages fetched head (LoadEntry page number) stores is = lacks_same fetched head page number is
-  patched_same pages fetched head (HoldEntry page number) stores is = lacks_same fetched head page number is
-  patched_same pages fetched head (ReadPiece page number) stores is = lacks_same fetched head page number is
-  patched_same pages fetched head (ReturnEntry page number false) stores is = lacks_same fetched head page (number + 1) is
-  patched_same pages fetched head (GiveCleanup page) stores is = is ∙ sym (page_same page)
-  patched_same pages fetched head control stores is = tt
+  patched_same : (fetched : List (ℕ × List ℕ)) (head : ℕ) (control : Control) → Stores control → PatchedAt sizes log opening core fetched head control → PatchedAt sizes later opening now fetched head control
+  patched_same fetched head (GiveStore page true) stores is = is ∙ sym stores
+  patched_same fetched head (ReadLoadHead page) stores is = is ∙ sym stores
+  patched_same fetched head (ReadLoadTail page) stores is = lacks_same fetched head page 0 is
+  patched_same fetched head (LoadEntry page number) stores is = lacks_same fetched head page number is
+  patched_same fetched head (HoldEntry page number) stores is = lacks_same fetched head page number is
+  patched_same fetched head (ReadPiece page number) stores is = lacks_same fetched head page number is
+  patched_same fetched head (ReturnEntry page number false) stores is = lacks_same fetched head page (number + 1) is
+  patched_same fetched head (GiveCleanup page) stores is = is ∙ sym (page_same page)
+  patched_same fetched head control stores is = tt
 
 pub patched_begin : (sizes : Sizes) (log : Log) (opening : Files) (core : Core) (by : ℕ) (call : FileCall) → PatchedReads sizes log opening core → PatchedReads sizes log opening (after_begin sizes by call core)
 patched_begin sizes log opening core by call was = record {
-  each = by_number (λ n (p : Pass). PatchedAt sizes log opening (after_begin sizes by call core) p.pages p.fetched p.head p.control) core.passes by (begun sizes call (core.passes by))
-      (if_both (PatchedAt sizes log opening (after_begin sizes by call core) [] [] (core.passes by).head) (page_count sizes (plain_call call) == 0) LoadStop (TakePage (first_page sizes (plain_call call))) (λ _. tt) (λ _. tt))
-      (λ n ne. patched_same sizes opening log log core (after_begin sizes by call core) (λ word. refl) (λ m. refl) (λ page. refl) (core.passes n).pages (core.passes n).fetched (core.passes n).head (core.passes n).control (begun_stores (core.passes n).control) (was.each n));
+  each = by_number (λ n (p : Pass). PatchedAt sizes log opening (after_begin sizes by call core) p.fetched p.head p.control) core.passes by (begun sizes call (core.passes by))
+      (if_both (PatchedAt sizes log opening (after_begin sizes by call core) [] (core.passes by).head) (page_count sizes (plain_call call) == 0) LoadStop (TakePage (first_page sizes (plain_call call))) (λ _. tt) (λ _. tt))
+      (λ n ne. patched_same sizes opening log log core (after_begin sizes by call core) (λ word. refl) (λ m. refl) (λ page. refl) (core.passes n).fetched (core.passes n).head (core.passes n).control (begun_stores (core.passes n).control) (was.each n));
 }
   where
     begun_stores : (control : Control) → Stores sizes opening log log core (after_begin sizes by call core) (λ word. refl) (λ m. refl) (λ page. refl) control
@@ -574,21 +576,21 @@ module _ (plain : PlainLaws) (loads : LoadsAreAnImage) (becomes : GroupsBecomeWh
       → LacksFrom sizes worked_log opening worked_now fetched_now (core.passes by).head page (number + 1)
   fetched_piece page number at how due =
       let stands : FactsAt sizes (core.passes by) (ReadPiece page number) = subst (FactsAt sizes (core.passes by)) at (sound.control_facts by).at in
-      let looks : LooksSound sizes core (core.passes by).pages (ReadPiece page number) = subst (LooksSound sizes core (core.passes by).pages) at (sound.loaded.looks by) in
+      let looks : LooksSound sizes core (core.passes by).units (ReadPiece page number) = subst (LooksSound sizes core (core.passes by).units) at (sound.loaded.looks by) in
       let within : InWindow core number = looks.0 in
-      let says = entry_is held page (entry_word_at sizes core number) looks.1 in
+      let says = entry_is held ((core.passes by).units page) (entry_word_at sizes core number) looks.1 in
       let was_ready : is_ready sizes core number ≡ true = held_was (entry_word_at sizes core number) says.0 in
-      let on : page_of_number sizes (log.group number) number ≡ page = sym (word_page sizes log core content.groups content.pieces number within was_ready) ∙ ap core.names says.1 ∙ sound.index.direct page in
+      let on : page_of_number sizes (log.group number) number ≡ page = sym (word_page sizes log core content.groups content.pieces number within was_ready) ∙ ap core.names says.1 ∙ sound.index.known by page in
       let fresh = fresh_held (entry_word_at sizes core number) says.0 in
       let is : is_on sizes log core page number ≡ true = and_from (is_fresh (entry_word_at sizes core number)) (page_of_number sizes (log.group number) number == page) fresh (eq-eqb (page_of_number sizes (log.group number) number) page on) in
-      let holds : IsReading core (core.passes by) page = reading_at sizes first log opening core sound by (ReadPiece page number) tt at page stands.0 (λ held. held (CLEANUP page) (λ slot. differ (CLEANUP page) (ENTRY slot) refl)) in
+      let holds : IsReading core (core.passes by) page = reading_at sizes first log opening core sound by (ReadPiece page number) tt at page stands.0 (λ held. held (CLEANUP ((core.passes by).units page)) (λ slot. differ (CLEANUP ((core.passes by).units page)) (ENTRY slot) refl)) in
       let still = still_page plain sizes first opening tails log placed core by sound content was by page holds in
       let leads = ready_leader plain sizes first log core page sound content.groups content.leaders still number within was_ready (fresh_is (entry_word_at sizes core number) fresh).1 on in
       let high = le_trans content.retired.order (fresh_high sizes first tails log core sound content.groups content.retired number within fresh) in
       let part = its_part number within in
       let piece = says_piece sizes due.at due.bytes (core.values (ENTRY (slot_of_entry sizes number))) part.0 part.1 due.says in
       let below : number < (core.passes by).head = stands.1 in
-      let lacks : LacksFrom sizes log opening core (core.passes by).fetched (core.passes by).head page number = subst (PatchedAt sizes log opening core (core.passes by).pages (core.passes by).fetched (core.passes by).head) at (was.each by) in
+      let lacks : LacksFrom sizes log opening core (core.passes by).fetched (core.passes by).head page number = subst (PatchedAt sizes log opening core (core.passes by).fetched (core.passes by).head) at (was.each by) in
       let now : fetched_bytes fetched_now page ≡ with_own_pieces sizes (log.group number).call page (fetched_bytes (core.passes by).fetched page) =
       ap (λ f. fetched_bytes f page)
       (ap (λ j. fetched_worked sizes (core.passes by) j work.ending (core.passes by).control) due.job ∙ ap₂ (λ h s. fetched_worked sizes (core.passes by) (PieceRead due.at due.bytes) h s) how at)
@@ -619,25 +621,25 @@ module _ (plain : PlainLaws) (loads : LoadsAreAnImage) (becomes : GroupsBecomeWh
 
   pub patched_work : PatchedReads sizes worked_log opening worked_now
   patched_work = record {
-    each = by_number (λ n (p : Pass). PatchedAt sizes worked_log opening worked_now p.pages p.fetched p.head p.control) core.passes by (worked sizes work (core.passes by))
+    each = by_number (λ n (p : Pass). PatchedAt sizes worked_log opening worked_now p.fetched p.head p.control) core.passes by (worked sizes work (core.passes by))
         (here work.ending refl (core.passes by).control refl may.due)
-        (λ n ne. patched_same sizes opening log worked_log core worked_now (λ word. refl) worked_groups (λ page. refl) (core.passes n).pages (core.passes n).fetched (core.passes n).head (core.passes n).control (others n ne (core.passes n).control (writes_back sizes first log opening core sound n (core.passes n).control refl (was.each n))) (was.each n));
+        (λ n ne. patched_same sizes opening log worked_log core worked_now (λ word. refl) worked_groups (λ page. refl) (core.passes n).fetched (core.passes n).head (core.passes n).control (others n ne (core.passes n).control (writes_back sizes first log opening core sound n (core.passes n).control refl (was.each n))) (was.each n));
   }
     where
       others : (n : ℕ) → n ≢ by → (control : Control) → WritesBack sizes log opening core (core.passes n) (core.passes n).fetched (core.passes n).head control
           → Stores sizes opening log worked_log core worked_now (λ word. refl) worked_groups (λ page. refl) control
-      others n ne (GiveStore page true) is = page_left plain loads becomes sizes first opening tails log placed core sound content tell by work may n page page (sound.index.direct page) ne (let c = is.0.2 in omega (arith, c))
-      others n ne (ReadLoadHead page) is = page_left plain loads becomes sizes first opening tails log placed core sound content tell by work may n page page (sound.index.direct page) ne (let c = is.0.2 in omega (arith, c))
+      others n ne (GiveStore page true) is = page_left plain loads becomes sizes first opening tails log placed core sound content tell by work may n ((core.passes n).units page) page (sound.index.known n page) ne (let c = is.0.2 in omega (arith, c))
+      others n ne (ReadLoadHead page) is = page_left plain loads becomes sizes first opening tails log placed core sound content tell by work may n ((core.passes n).units page) page (sound.index.known n page) ne (let c = is.0.2 in omega (arith, c))
       others n ne control is = tt
 
       here : (how : CallEnding) → work.ending ≡ how → (control : Control) → (core.passes by).control ≡ control → CallDue sizes core.values (core.passes by) work control
-          → PatchedAt sizes worked_log opening worked_now (core.passes by).pages fetched_now (core.passes by).head (control_worked sizes (core.passes by) work.ending (core.passes by).control)
-      here how ending control at due = subst (λ h. PatchedAt sizes worked_log opening worked_now (core.passes by).pages fetched_now (core.passes by).head (control_worked sizes (core.passes by) h (core.passes by).control)) (sym ending)
-          (subst (λ s. PatchedAt sizes worked_log opening worked_now (core.passes by).pages fetched_now (core.passes by).head (control_worked sizes (core.passes by) how s)) (sym at) (go how ending control at due))
+          → PatchedAt sizes worked_log opening worked_now fetched_now (core.passes by).head (control_worked sizes (core.passes by) work.ending (core.passes by).control)
+      here how ending control at due = subst (λ h. PatchedAt sizes worked_log opening worked_now fetched_now (core.passes by).head (control_worked sizes (core.passes by) h (core.passes by).control)) (sym ending)
+          (subst (λ s. PatchedAt sizes worked_log opening worked_now fetched_now (core.passes by).head (control_worked sizes (core.passes by) how s)) (sym at) (go how ending control at due))
         where
           go : (how : CallEnding) → work.ending ≡ how → (control : Control) → (core.passes by).control ≡ control → CallDue sizes core.values (core.passes by) work control
-              → PatchedAt sizes worked_log opening worked_now (core.passes by).pages fetched_now (core.passes by).head (control_worked sizes (core.passes by) how control)
-          go Made how (CommitGroup calls) at due = if_both (PatchedAt sizes worked_log opening worked_now (core.passes by).pages fetched_now (core.passes by).head)
+              → PatchedAt sizes worked_log opening worked_now fetched_now (core.passes by).head (control_worked sizes (core.passes by) how control)
+          go Made how (CommitGroup calls) at due = if_both (PatchedAt sizes worked_log opening worked_now fetched_now (core.passes by).head)
               (calls + 1 == length (commit_steps sizes (core.passes by) (core.passes by).call)) (PledgePage (first_page sizes (core.passes by).call)) (CommitGroup (calls + 1)) (λ _. tt) (λ _. tt)
           go Made how (ReadStore page false) at due = tt
           go Made how (ReadStore page true) at due = fetched_stores page at how due
@@ -645,9 +647,9 @@ module _ (plain : PlainLaws) (loads : LoadsAreAnImage) (becomes : GroupsBecomeWh
           go (Failed came faults) how (CommitGroup calls) at due = tt
           go (Failed came faults) how (ReadStore page dirty) at due = tt
           go (Failed came faults) how (ReadPiece page number) at due = tt
-          go Made how (Cleaning batch inner) at due = of_cleaner_worked (PatchedAt sizes worked_log opening worked_now (core.passes by).pages fetched_now (core.passes by).head) tt (λ _ _. tt) batch Made inner
-          go (Failed came faults) how (Cleaning batch inner) at due = of_cleaner_worked (PatchedAt sizes worked_log opening worked_now (core.passes by).pages fetched_now (core.passes by).head) tt (λ _ _. tt) batch (Failed came faults) inner
-          go Refused how (Cleaning batch inner) at due = of_cleaner_worked (PatchedAt sizes worked_log opening worked_now (core.passes by).pages fetched_now (core.passes by).head) tt (λ _ _. tt) batch Refused inner
+          go Made how (Cleaning batch inner) at due = of_cleaner_worked (PatchedAt sizes worked_log opening worked_now fetched_now (core.passes by).head) tt (λ _ _. tt) batch Made inner
+          go (Failed came faults) how (Cleaning batch inner) at due = of_cleaner_worked (PatchedAt sizes worked_log opening worked_now fetched_now (core.passes by).head) tt (λ _ _. tt) batch (Failed came faults) inner
+          go Refused how (Cleaning batch inner) at due = of_cleaner_worked (PatchedAt sizes worked_log opening worked_now fetched_now (core.passes by).head) tt (λ _ _. tt) batch Refused inner
           go Refused how (CommitGroup calls) at due = tt
           go Refused how (ReadStore page dirty) at due = tt
           go Refused how (ReadPiece page number) at due = absurd (no_refusal (core.values work.cell) work.job (ap keeps_stores due.job) (subst (CallMayLeave (core.values work.cell) work.job) how may.leaves))

@@ -14,7 +14,7 @@ use Rattle.nv_core.specs.steps.ControlSteps.{after_give, exceeds, ending}
 use Rattle.nv_core.specs.steps.PassSteps.{begun}
 use Rattle.nv_core.specs.steps.Order.{Values, Work, CallEnabled, CallDue, IsPageRead, SaysOf, SaysPage, page_start, page_bytes, commit_steps, CallMayLeave}
 use Rattle.nv_core.specs.steps.StepKinds.{MayGive, MayPlace, CleanerEnabled}
-use Rattle.nv_core.specs.state.Core.{Core, changes, changed_pass, with_value, after_step, after_begin, after_work, worked, control_worked, fetched_worked, values_given, values_stepped, values_read, values_worked, values_robbed}
+use Rattle.nv_core.specs.state.Core.{Core, changes, changed_pass, with_value, after_step, after_begin, after_work, worked, control_worked, fetched_worked, values_given, values_stepped, values_read, values_worked, values_robbed, pledging}
 use Rattle.nv_core.specs.steps.Events.{CallMayBegin}
 use Rattle.nv_core.proofs.steps.ByKind.{FoundEnabledByKind}
 use Rattle.nv_core.specs.invariant.ControlFacts.{FactsAt, PagesAt, IsPage}
@@ -45,7 +45,8 @@ use Rattle.nv_core.proofs.invariant.KeepsSearches.{robbed_apart, rob_stands, rob
 use Rattle.nv_core.proofs.content.GatheredLaws.{gathered_same, gathered_on, AreRight, at_ending, page_bytes_same}
 use Rattle.nv_core.specs.invariant.CleanerOwnership.{count_in}
 use Rattle.nv_core.proofs.invariant.PageLists.{count_taken, front_more, front_none, front_all, pages_once}
-use Rattle.nv_core.proofs.invariant.IndexLaws.{stands_for, is_stood_for}
+use Rattle.nv_core.proofs.invariant.IndexLaws.{unit_for, units_apart}
+use Rattle.nv_core.proofs.steps.SearchLaws.{pledged_next}
 
 -- ---- a step that neither places nor pledges
 
@@ -70,7 +71,7 @@ same_values sizes pass (Pledge page) values keeping still = absurd keeping
 same_values sizes pass (Give cell) values keeping still = absurd still
 same_values sizes pass op values keeping still = refl
 
-given_same : (pass : Pass) (control : Control) (values : Values) → ((page : ℕ) → control ≡ GiveCleanup page → ⊥) → values_given pass control values ≡ values_robbed pass.pages control values
+given_same : (pass : Pass) (control : Control) (values : Values) → ((page : ℕ) → control ≡ GiveCleanup page → ⊥) → values_given pass control values ≡ values_robbed pass.units control values
 given_same pass (GiveCleanup page) values other = absurd (other page refl)
 given_same pass control values other = refl
 
@@ -149,14 +150,15 @@ held_after sizes first opening by core found op keeping sound may was page has v
 
 -- what a call that has loaded STOP and not ORDER holds, is the pages as they are now
 ordering_right : (sizes : Sizes) (first : Values) (opening : Files) (by : ℕ) (core : Core) → Sound sizes first core → ValidBuffers sizes opening core → (control : Control) → IsWhole control → IsUnpatched control → (core.passes by).control ≡ control
-    → AreRight sizes (page_now sizes opening core) core.values (core.passes by).call
+    → AreRight sizes (page_now sizes opening core) core.values (core.passes by).call (core.passes by).units
 ordering_right sizes first opening by core sound was control whole un at page is valid =
-    was.held by page (whole_holds sizes (core.passes by) control whole (subst (PagesAt sizes (core.passes by)) at (sound.control_facts by).pages) (subst (HoldsLocks sizes (core.passes by)) at (sound.ownership by).locks) page is) valid
-    ∙ unpatched sizes (core.passes by).call (core.passes by).pages (core.passes by).control page (core.names page) (page_now sizes opening core (core.names page)) (subst IsUnpatched (sym at) un)
-    ∙ ap (page_now sizes opening core) (sound.index.direct page)
+    let unit = (core.passes by).units page in
+    was.held by unit (whole_holds sizes (core.passes by) control whole (subst (PagesAt sizes (core.passes by)) at (sound.control_facts by).pages) (subst (HoldsLocks sizes (core.passes by)) at (sound.ownership by).locks) page is) valid
+    ∙ unpatched sizes (core.passes by).call (core.passes by).pages (core.passes by).control unit (core.names unit) (page_now sizes opening core (core.names unit)) (subst IsUnpatched (sym at) un)
+    ∙ ap (page_now sizes opening core) (sound.index.known by page)
 
 abbrev HasGathered : Sizes → Files → Core → Pass → Type 0
-HasGathered sizes opening core pass = GatheredAt sizes (page_now sizes opening core) core.values pass.call pass.pages pass.fetched pass.control
+HasGathered sizes opening core pass = GatheredAt sizes (page_now sizes opening core) core.values pass.call pass.units pass.fetched pass.control
 
 gathered_after : (sizes : Sizes) (first : Values) (opening : Files) (by : ℕ) (core : Core) (found : ℕ) (op : Op) → IsKeeping op → IsUnfilling op (core.passes by).control → Sound sizes first core → FoundEnabledByKind sizes by core op found → ValidBuffers sizes opening core
     → HasGathered sizes opening core (changed_pass sizes by core op found)
@@ -164,7 +166,7 @@ gathered_after sizes first opening by core found Split keeping other sound may w
 gathered_after sizes first opening by core found (PutBack cell) keeping other sound may was = was.gathered by
 gathered_after sizes first opening by core found (Join number) keeping other sound may was = was.gathered by
 gathered_after sizes first opening by core found op keeping other sound may was =
-    gathered_on sizes (page_now sizes opening core) core.values (core.passes by) op found other may.may (sound.control_facts by).at (ordering_right sizes first opening by core sound was LoadOrder tt tt) (was.gathered by)
+    gathered_on sizes (page_now sizes opening core) core.values (core.passes by) (sound.control_facts by) op found other may.may (ordering_right sizes first opening by core sound was LoadOrder tt tt) (was.gathered by)
 
 -- before a victim's buffer moves
 buffers_still : (sizes : Sizes) (first : Values) (opening : Files) (by : ℕ) (core : Core) (found : ℕ) (op : Op) → IsKeeping op → IsUnfilling op (core.passes by).control → Sound sizes first core → FoundEnabledByKind sizes by core op found → ValidBuffers sizes opening core
@@ -180,31 +182,31 @@ buffers_still sizes first opening by core found op keeping other sound may was =
 -- and once it has
 buffers_robbed : (sizes : Sizes) (first : Values) (opening : Files) (by : ℕ) (core : Core) (found : ℕ) (cell : Word) → Sound sizes first core → ValidBuffers sizes opening core
     → ValidBuffers sizes opening (record (after_step sizes by (Give cell) found core) { history = core.history; values = core.values }) → (control : Control) → (core.passes by).control ≡ control
-    → ValidBuffers sizes opening (record (after_step sizes by (Give cell) found core) { history = core.history; values = values_robbed (core.passes by).pages control core.values })
+    → ValidBuffers sizes opening (record (after_step sizes by (Give cell) found core) { history = core.history; values = values_robbed (core.passes by).units control core.values })
 buffers_robbed sizes first opening by core found cell sound was kept (Searching missed tries (GiveVictim buffer victim)) at = record {
-  free = λ page free valid. let same = robbed_valid (core.passes by).pages (Searching missed tries (GiveVictim buffer victim)) core.values (PAGE page) valid in ap bytes_in same ∙ kept.free page free (sym (ap is_valid same) ∙ valid);
-  held = λ n page has valid. let same = robbed_valid (core.passes by).pages (Searching missed tries (GiveVictim buffer victim)) core.values (PAGE page) valid in ap bytes_in same ∙ kept.held n page has (sym (ap is_valid same) ∙ valid);
-  gathered = by_number (λ n (p : Pass). GatheredAt sizes (page_now sizes opening core) later p.call p.pages p.fetched p.control) core.passes by (changed_pass sizes by core (Give cell) found)
-      (subst (λ s. GatheredAt sizes (page_now sizes opening core) later (core.passes by).call (core.passes by).pages (core.passes by).fetched (after_give sizes (core.passes by) cell s)) (sym at) own)
+  free = λ page free valid. let same = robbed_valid (core.passes by).units (Searching missed tries (GiveVictim buffer victim)) core.values (PAGE page) valid in ap bytes_in same ∙ kept.free page free (sym (ap is_valid same) ∙ valid);
+  held = λ n page has valid. let same = robbed_valid (core.passes by).units (Searching missed tries (GiveVictim buffer victim)) core.values (PAGE page) valid in ap bytes_in same ∙ kept.held n page has (sym (ap is_valid same) ∙ valid);
+  gathered = by_number (λ n (p : Pass). GatheredAt sizes (page_now sizes opening core) later p.call p.units p.fetched p.control) core.passes by (changed_pass sizes by core (Give cell) found)
+      (subst (λ s. GatheredAt sizes (page_now sizes opening core) later (core.passes by).call (core.passes by).units (core.passes by).fetched (after_give sizes (core.passes by) cell s)) (sym at) own)
       (λ n ne. gathered_same sizes (page_now sizes opening core) (page_now sizes opening core) core.values later (core.passes n) (core.passes n).control (sound.control_facts n).at (sound.control_facts n).pages (sound.ownership n).locks
-      (λ page has. (rob_others sizes first by core missed tries buffer victim sound at n page ne (omega (arith, has)), refl)) (was.gathered n));
+      (λ page has. (rob_others sizes first by core missed tries buffer victim sound at n ((core.passes n).units page) ne (omega (arith, has)), refl)) (was.gathered n));
 }
   where
     later : Values
-    later = values_robbed (core.passes by).pages (Searching missed tries (GiveVictim buffer victim)) core.values
+    later = values_robbed (core.passes by).units (Searching missed tries (GiveVictim buffer victim)) core.values
 
-    before : Gathered sizes (page_now sizes opening core) core.values (core.passes by).call (core.passes by).pages (core.passes by).fetched missed
-    before = subst (GatheredAt sizes (page_now sizes opening core) core.values (core.passes by).call (core.passes by).pages (core.passes by).fetched) at (was.gathered by)
+    before : Gathered sizes (page_now sizes opening core) core.values (core.passes by).call (core.passes by).units (core.passes by).fetched missed
+    before = subst (GatheredAt sizes (page_now sizes opening core) core.values (core.passes by).call (core.passes by).units (core.passes by).fetched) at (was.gathered by)
 
-    own : Gathered sizes (page_now sizes opening core) (values_robbed (core.passes by).pages (Searching missed tries (GiveVictim buffer victim)) core.values) (core.passes by).call (core.passes by).pages (core.passes by).fetched missed
+    own : Gathered sizes (page_now sizes opening core) (values_robbed (core.passes by).units (Searching missed tries (GiveVictim buffer victim)) core.values) (core.passes by).call (core.passes by).units (core.passes by).fetched missed
     own page is passed = elim passed [
       | inl low ↦
-          page_bytes_same (core.passes by).fetched core.values (values_robbed (core.passes by).pages (Searching missed tries (GiveVictim buffer victim)) core.values) page
-          (robbed_apart (core.passes by).pages missed tries buffer victim core.values page (λ e. omega (arith, e, low)) (not_own sizes (core.passes by).call (core.passes by).pages (rob_pages sizes first by core missed tries buffer victim sound at) buffer victim page (rob_stands sizes first by core missed tries buffer victim sound at).2 is))
+          page_bytes_same (core.passes by).units (core.passes by).fetched core.values (values_robbed (core.passes by).units (Searching missed tries (GiveVictim buffer victim)) core.values) page
+          (robbed_apart (core.passes by).units missed tries buffer victim core.values ((core.passes by).units page) (λ e. let same = units_apart core sound.index by page missed e in omega (arith, same, low)) (not_own sizes (core.passes by).call (core.passes by).pages (rob_pages sizes first by core missed tries buffer victim sound at) buffer victim page (rob_stands sizes first by core missed tries buffer victim sound at).2 is))
           ∙ before page is (inl low)
       | inr valid ↦
-          let same = robbed_valid (core.passes by).pages (Searching missed tries (GiveVictim buffer victim)) core.values (PAGE page) valid in
-          page_bytes_same (core.passes by).fetched core.values (values_robbed (core.passes by).pages (Searching missed tries (GiveVictim buffer victim)) core.values) page same ∙ before page is (inr (sym (ap is_valid same) ∙ valid))
+          let same = robbed_valid (core.passes by).units (Searching missed tries (GiveVictim buffer victim)) core.values (PAGE ((core.passes by).units page)) valid in
+          page_bytes_same (core.passes by).units (core.passes by).fetched core.values (values_robbed (core.passes by).units (Searching missed tries (GiveVictim buffer victim)) core.values) page same ∙ before page is (inr (sym (ap is_valid same) ∙ valid))
     ]
 buffers_robbed sizes first opening by core found cell sound was kept control at = kept
 
@@ -256,14 +258,16 @@ module _ (plain : PlainLaws) (sizes : Sizes) (first : Values) (opening : Files) 
   now_else unit none =
       ap (λ f. page_in sizes f (core.names unit)) (files_placed plain sizes first opening by core reply sound)
       ∙ page_else plain sizes (core.passes by).call (files_now opening core) (core.names unit) allowed there
-      (λ is. let h = whole_holds sizes (core.passes by) (core.passes by).control whole (sound.control_facts by).pages (sound.ownership by).locks unit (is_stood_for sizes core sound.index (core.passes by).call unit is) in omega (arith, h, none))
+      (λ is. let h = whole_holds sizes (core.passes by) (core.passes by).control whole (sound.control_facts by).pages (sound.ownership by).locks (core.names unit) is in
+      let same = ap (λ u. times (PAGE u) (core.passes by).owned) (unit_for core sound.index by unit (core.names unit) refl) in omega (arith, h, none, same))
 
   now_own : (unit : ℕ) → times (PAGE unit) (core.passes by).owned ≡ 1
       → page_now sizes opening (after_step sizes by (Place reply) found core) (core.names unit) ≡ with_own_pieces sizes (core.passes by).call (core.names unit) (page_now sizes opening core (core.names unit))
   now_own unit has =
       ap (λ f. page_in sizes f (core.names unit)) (files_placed plain sizes first opening by core reply sound)
       ∙ page_placed plain sizes (core.passes by).call (files_now opening core) (core.names unit) allowed there
-      (stands_for sizes core sound.index (core.passes by).call unit (whole_page sizes (core.passes by) (core.passes by).control whole (sound.control_facts by).pages (sound.ownership by).locks unit has))
+      (let page = whole_page sizes (core.passes by) (core.passes by).control whole (sound.control_facts by).pages (sound.ownership by).locks unit has in
+      subst (IsPage sizes (core.passes by).call) (sym (ap core.names page.2 ∙ sound.index.known by page.0)) page.1)
 
   unpatched_then : (unit page : ℕ) (old : List ℕ) → patched_page sizes (core.passes by).call (changed_pass sizes by core (Place reply) found).pages (changed_pass sizes by core (Place reply) found).control unit page old ≡ old
   unpatched_then unit page old = if_both (λ s. patched_page sizes (core.passes by).call (core.passes by).pages s unit page old ≡ old) (is_write (core.passes by).call && exceeds (core.passes by) (core.passes by).length) GrowLength (ending sizes (core.passes by))
@@ -284,10 +288,14 @@ module _ (plain : PlainLaws) (sizes : Sizes) (first : Values) (opening : Files) 
         was.held n page has valid
         ∙ ap (patched_page sizes (core.passes n).call (core.passes n).pages (core.passes n).control page (core.names page)) (sym (now_else page (others_none sizes first core sound page n by has (λ e. ne (sym e)))))) n;
     gathered = by_number (λ n (p : Pass). HasGathered sizes opening (after_step sizes by (Place reply) found core) p) core.passes by (changed_pass sizes by core (Place reply) found)
-        (if_both (GatheredAt sizes (page_now sizes opening (after_step sizes by (Place reply) found core)) core.values (core.passes by).call (core.passes by).pages (core.passes by).fetched) (is_write (core.passes by).call && exceeds (core.passes by) (core.passes by).length)
-        GrowLength (ending sizes (core.passes by)) (λ _. tt) (λ _. at_ending sizes (page_now sizes opening (after_step sizes by (Place reply) found core)) core.values (core.passes by)))
+        (if_both (GatheredAt sizes (page_now sizes opening (after_step sizes by (Place reply) found core)) core.values (core.passes by).call (core.passes by).units (core.passes by).fetched) (is_write (core.passes by).call && exceeds (core.passes by) (core.passes by).length)
+        GrowLength (ending sizes (core.passes by)) (λ _. tt) (λ _. at_ending sizes (page_now sizes opening (after_step sizes by (Place reply) found core)) core.values (core.passes by) (sound.control_facts by)))
         (λ n ne. gathered_same sizes (page_now sizes opening core) (page_now sizes opening (after_step sizes by (Place reply) found core)) core.values core.values (core.passes n) (core.passes n).control (sound.control_facts n).at (sound.control_facts n).pages (sound.ownership n).locks
-        (λ page has. (refl, subst (λ p. page_now sizes opening (after_step sizes by (Place reply) found core) p ≡ page_now sizes opening core p) (sound.index.direct page) (now_else page (others_none sizes first core sound page n by has (λ e. ne (sym e)))))) (was.gathered n));
+        (λ page has. (
+          refl,
+          subst (λ p. page_now sizes opening (after_step sizes by (Place reply) found core) p ≡ page_now sizes opening core p) (sound.index.known n page)
+              (now_else ((core.passes n).units page) (others_none sizes first core sound ((core.passes n).units page) n by has (λ e. ne (sym e)))),
+        )) (was.gathered n));
   }
 
 -- ---- a step that pledges a page
@@ -306,48 +314,57 @@ bytes_patched sizes call page value valid = refl
 
 module _ (sizes : Sizes) (first : Values) (opening : Files) (by : ℕ) (core : Core) (own : ℕ) (found : ℕ)
     (sound : Sound sizes first core) (may : FoundEnabledByKind sizes by core (Pledge own) found) (was : ValidBuffers sizes opening core) where
-  locks : HoldsLocks sizes (core.passes by) (PledgePage own)
-  locks = subst (HoldsLocks sizes (core.passes by)) may.may (sound.ownership by).locks
+  -- the page whose unit it pledges
+  abbrev own_page : ℕ
+  own_page = may.may.0
 
-  pages_own : PagesAt sizes (core.passes by) (PledgePage own)
-  pages_own = subst (PagesAt sizes (core.passes by)) may.may (sound.control_facts by).pages
+  locks : HoldsLocks sizes (core.passes by) (PledgePage own_page)
+  locks = subst (HoldsLocks sizes (core.passes by)) may.may.1 (sound.ownership by).locks
+
+  pages_own : PagesAt sizes (core.passes by) (PledgePage own_page)
+  pages_own = subst (PagesAt sizes (core.passes by)) may.may.1 (sound.control_facts by).pages
 
   has_own : times (PAGE own) (core.passes by).owned ≡ 1
-  has_own = pledged_page sizes (core.passes by) own (subst (FactsAt sizes (core.passes by)) may.may (sound.control_facts by).at) pages_own locks
+  has_own = ap (λ u. times (PAGE u) (core.passes by).owned) may.may.2 ∙ pledged_page sizes (core.passes by) own_page (subst (FactsAt sizes (core.passes by)) may.may.1 (sound.control_facts by).at) pages_own locks
 
-  is_own : IsPage sizes (core.passes by).call own
-  is_own = let stands : FactsAt sizes (core.passes by) (PledgePage own) = subst (FactsAt sizes (core.passes by)) may.may (sound.control_facts by).at in stands.1
+  is_own : IsPage sizes (core.passes by).call own_page
+  is_own = let stands : FactsAt sizes (core.passes by) (PledgePage own_page) = subst (FactsAt sizes (core.passes by)) may.may.1 (sound.control_facts by).at in stands.1
 
   -- the front of its pages, and with this one
-  front_own : (page : ℕ) → count_in (take (nth_of sizes (core.passes by).call (own + 1)) (core.passes by).pages) page ≡ one_if (page == own) + count_in (take (nth_of sizes (core.passes by).call own) (core.passes by).pages) page
-  front_own page = front_more sizes (core.passes by).call (core.passes by).pages pages_own own page is_own
+  front_own : (page : ℕ) → count_in (take (nth_of sizes (core.passes by).call (own_page + 1)) (core.passes by).pages) page ≡ one_if (page == own) + count_in (take (nth_of sizes (core.passes by).call own_page) (core.passes by).pages) page
+  front_own page = front_more sizes (core.passes by).call (core.passes by).pages pages_own own_page page is_own
+      ∙ ap (λ u. one_if (page == u) + count_in (take (nth_of sizes (core.passes by).call own_page) (core.passes by).pages) page) (sym may.may.2)
 
   own_once : one_if (own == own) ≡ 1
   own_once = when_true (own == own) 1 0 (eq-eqb own own refl)
 
+  patched : values_stepped sizes (core.passes by) (Pledge own) core.values ≡ with_value core.values (PAGE own) (patched_by sizes (core.passes by).call own_page (core.values (PAGE own)))
+  patched = ap (λ s. with_value core.values (PAGE own) (patched_by sizes (core.passes by).call (pledging s) (core.values (PAGE own)))) may.may.1
+
   -- the buffers of other pages stay
   value_else : (page : ℕ) → page ≢ own → values_stepped sizes (core.passes by) (Pledge own) core.values (PAGE page) ≡ core.values (PAGE page)
-  value_else page ne = word_else core.values (PAGE own) (patched_by sizes (core.passes by).call own (core.values (PAGE own))) (PAGE page) (λ e. ne (ap index e))
+  value_else page ne = ap (λ (v : Values). v (PAGE page)) patched ∙ word_else core.values (PAGE own) (patched_by sizes (core.passes by).call own_page (core.values (PAGE own))) (PAGE page) (λ e. ne (ap index e))
 
-  value_own : values_stepped sizes (core.passes by) (Pledge own) core.values (PAGE own) ≡ patched_by sizes (core.passes by).call own (core.values (PAGE own))
-  value_own = word_here core.values (PAGE own) (patched_by sizes (core.passes by).call own (core.values (PAGE own)))
+  value_own : values_stepped sizes (core.passes by) (Pledge own) core.values (PAGE own) ≡ patched_by sizes (core.passes by).call own_page (core.values (PAGE own))
+  value_own = ap (λ (v : Values). v (PAGE own)) patched ∙ word_here core.values (PAGE own) (patched_by sizes (core.passes by).call own_page (core.values (PAGE own)))
 
   apart : (number page : ℕ) → number ≢ by → times (PAGE page) (core.passes number).owned ≡ 1 → page ≢ own
   apart number page ne has e = let z = others_none sizes first core sound page number by has (λ is. ne (sym is)) in let h = subst (λ p. times (PAGE p) (core.passes by).owned ≡ 1) (sym e) has_own in omega (arith, z, h)
 
   -- the page that is pledged is patched then, and the others as they were
   then_own : (page : ℕ) (old : List ℕ) → patched_page sizes (core.passes by).call (changed_pass sizes by core (Pledge own) found).pages (changed_pass sizes by core (Pledge own) found).control own page old ≡ with_own_pieces sizes (core.passes by).call page old
-  then_own page old = if_both (λ s. patched_page sizes (core.passes by).call (core.passes by).pages s own page old ≡ with_own_pieces sizes (core.passes by).call page old) (own + 1 == end_page sizes (core.passes by).call)
-      (ReadyEntry (if (core.passes by).entries == 1 then (core.passes by).first else (core.passes by).first + 1)) (PledgePage (own + 1))
-      (λ _. refl) (λ _. when_false (count_in (take (nth_of sizes (core.passes by).call (own + 1)) (core.passes by).pages) own == 0) old (with_own_pieces sizes (core.passes by).call page old)
-      (ne_eqb (count_in (take (nth_of sizes (core.passes by).call (own + 1)) (core.passes by).pages) own) 0 (λ none. let more = front_own own in omega (arith, more, own_once, none))))
+  then_own page old = pledged_next (λ s. patched_page sizes (core.passes by).call (core.passes by).pages s own page old ≡ with_own_pieces sizes (core.passes by).call page old) sizes (core.passes by) own_page may.may.1
+      (if_both (λ s. patched_page sizes (core.passes by).call (core.passes by).pages s own page old ≡ with_own_pieces sizes (core.passes by).call page old) (own_page + 1 == end_page sizes (core.passes by).call)
+      (ReadyEntry (if (core.passes by).entries == 1 then (core.passes by).first else (core.passes by).first + 1)) (PledgePage (own_page + 1))
+      (λ _. refl) (λ _. when_false (count_in (take (nth_of sizes (core.passes by).call (own_page + 1)) (core.passes by).pages) own == 0) old (with_own_pieces sizes (core.passes by).call page old)
+      (ne_eqb (count_in (take (nth_of sizes (core.passes by).call (own_page + 1)) (core.passes by).pages) own) 0 (λ none. let more = front_own own in omega (arith, more, own_once, none)))))
 
   before_own : (page : ℕ) (old : List ℕ) → patched_page sizes (core.passes by).call (core.passes by).pages (core.passes by).control own page old ≡ old
-  before_own page old = ap (λ s. patched_page sizes (core.passes by).call (core.passes by).pages s own page old) may.may
-      ∙ when_true (count_in (take (nth_of sizes (core.passes by).call own) (core.passes by).pages) own == 0) old (with_own_pieces sizes (core.passes by).call page old)
-      (eq-eqb (count_in (take (nth_of sizes (core.passes by).call own) (core.passes by).pages) own) 0 (
-      let more = front_own own in let few = count_taken (core.passes by).pages (nth_of sizes (core.passes by).call (own + 1)) own in
-      let once = pages_once sizes (core.passes by).call (core.passes by).pages pages_own own is_own in omega (arith, more, few, once, own_once)
+  before_own page old = ap (λ s. patched_page sizes (core.passes by).call (core.passes by).pages s own page old) may.may.1
+      ∙ when_true (count_in (take (nth_of sizes (core.passes by).call own_page) (core.passes by).pages) own == 0) old (with_own_pieces sizes (core.passes by).call page old)
+      (eq-eqb (count_in (take (nth_of sizes (core.passes by).call own_page) (core.passes by).pages) own) 0 (
+      let more = front_own own in let few = count_taken (core.passes by).pages (nth_of sizes (core.passes by).call (own_page + 1)) own in
+      let once = ap (count_in (core.passes by).pages) may.may.2 ∙ pages_once sizes (core.passes by).call (core.passes by).pages pages_own own_page is_own in omega (arith, more, few, once, own_once)
       ))
 
   then_else : (unit page : ℕ) (old : List ℕ) → unit ≢ own → times (PAGE unit) (core.passes by).owned ≡ 1
@@ -356,13 +373,14 @@ module _ (sizes : Sizes) (first : Values) (opening : Files) (by : ℕ) (core : C
       let holds = locks (PAGE unit) (λ slot. differ (PAGE unit) (ENTRY slot) refl) in
       let other : one_if (unit == own) ≡ 0 = when_false (unit == own) 1 0 (ne_eqb unit own ne) in
       let more = front_own unit in
-      ap (λ s. patched_page sizes (core.passes by).call (core.passes by).pages s unit page old) may.may
-      ∙ if_both (λ s. (if count_in (take (nth_of sizes (core.passes by).call own) (core.passes by).pages) unit == 0 then old else with_own_pieces sizes (core.passes by).call page old) ≡ patched_page sizes (core.passes by).call (core.passes by).pages s unit page old) (own + 1 == end_page sizes (core.passes by).call)
-      (ReadyEntry (if (core.passes by).entries == 1 then (core.passes by).first else (core.passes by).first + 1)) (PledgePage (own + 1))
-      (λ e. let all = front_all sizes (core.passes by).call (core.passes by).pages pages_own (own + 1) unit (eqb-true (own + 1) (end_page sizes (core.passes by).call) e) in
-      when_false (count_in (take (nth_of sizes (core.passes by).call own) (core.passes by).pages) unit == 0) old (with_own_pieces sizes (core.passes by).call page old)
-      (ne_eqb (count_in (take (nth_of sizes (core.passes by).call own) (core.passes by).pages) unit) 0 (λ none. omega (arith, all, more, other, holds, has, none))))
-      (λ _. ap (λ n. if n == 0 then old else with_own_pieces sizes (core.passes by).call page old) (omega (arith, more, other)))
+      ap (λ s. patched_page sizes (core.passes by).call (core.passes by).pages s unit page old) may.may.1
+      ∙ pledged_next (λ s. (if count_in (take (nth_of sizes (core.passes by).call own_page) (core.passes by).pages) unit == 0 then old else with_own_pieces sizes (core.passes by).call page old) ≡ patched_page sizes (core.passes by).call (core.passes by).pages s unit page old) sizes (core.passes by) own_page may.may.1
+      (if_both (λ s. (if count_in (take (nth_of sizes (core.passes by).call own_page) (core.passes by).pages) unit == 0 then old else with_own_pieces sizes (core.passes by).call page old) ≡ patched_page sizes (core.passes by).call (core.passes by).pages s unit page old) (own_page + 1 == end_page sizes (core.passes by).call)
+      (ReadyEntry (if (core.passes by).entries == 1 then (core.passes by).first else (core.passes by).first + 1)) (PledgePage (own_page + 1))
+      (λ e. let all = front_all sizes (core.passes by).call (core.passes by).pages pages_own (own_page + 1) unit (eqb-true (own_page + 1) (end_page sizes (core.passes by).call) e) in
+      when_false (count_in (take (nth_of sizes (core.passes by).call own_page) (core.passes by).pages) unit == 0) old (with_own_pieces sizes (core.passes by).call page old)
+      (ne_eqb (count_in (take (nth_of sizes (core.passes by).call own_page) (core.passes by).pages) unit) 0 (λ none. omega (arith, all, more, other, holds, has, none))))
+      (λ _. ap (λ n. if n == 0 then old else with_own_pieces sizes (core.passes by).call page old) (omega (arith, more, other))))
 
   buffers_pledge : ValidBuffers sizes opening (after_step sizes by (Pledge own) found core)
   buffers_pledge = subst (λ h. ValidBuffers sizes opening (record (after_step sizes by (Pledge own) found core) { history = h })) (sym (same_history by core (Pledge own) tt)) record {
@@ -375,75 +393,80 @@ module _ (sizes : Sizes) (first : Values) (opening : Files) (by : ℕ) (core : C
         (λ has. elim (cases_eq page own) [
           | inl e ↦ subst (λ q. is_valid (values_stepped sizes (core.passes by) (Pledge own) core.values (PAGE q)) ≡ true
               → bytes_in (values_stepped sizes (core.passes by) (Pledge own) core.values (PAGE q)) ≡ patched_page sizes (core.passes by).call (changed_pass sizes by core (Pledge own) found).pages (changed_pass sizes by core (Pledge own) found).control q (core.names q) (page_now sizes opening core (core.names q))) (sym e)
-              (λ valid. let old = sym (valid_patched sizes (core.passes by).call own (core.values (PAGE own))) ∙ sym (ap is_valid value_own) ∙ valid in
+              (λ valid. let old = sym (valid_patched sizes (core.passes by).call own_page (core.values (PAGE own))) ∙ sym (ap is_valid value_own) ∙ valid in
               ap bytes_in value_own
-              ∙ bytes_patched sizes (core.passes by).call own (core.values (PAGE own)) old
-              ∙ ap₂ (with_own_pieces sizes (core.passes by).call) (sym (sound.index.direct own)) (was.held by own has_own old ∙ before_own (core.names own) (page_now sizes opening core (core.names own)))
+              ∙ bytes_patched sizes (core.passes by).call own_page (core.values (PAGE own)) old
+              ∙ ap₂ (with_own_pieces sizes (core.passes by).call) (sym (ap core.names may.may.2 ∙ sound.index.known by own_page)) (was.held by own has_own old ∙ before_own (core.names own) (page_now sizes opening core (core.names own)))
               ∙ sym (then_own (core.names own) (page_now sizes opening core (core.names own))))
           | inr ne ↦ λ valid. ap bytes_in (value_else page ne) ∙ was.held by page has (sym (ap is_valid (value_else page ne)) ∙ valid) ∙ then_else page (core.names page) (page_now sizes opening core (core.names page)) ne has
         ])
         (λ n ne has valid. let far = apart n page ne has in ap bytes_in (value_else page far) ∙ was.held n page has (sym (ap is_valid (value_else page far)) ∙ valid)) n;
-    gathered = by_number (λ n (p : Pass). GatheredAt sizes (page_now sizes opening core) (values_stepped sizes (core.passes by) (Pledge own) core.values) p.call p.pages p.fetched p.control) core.passes by (changed_pass sizes by core (Pledge own) found)
-        (if_both (GatheredAt sizes (page_now sizes opening core) (values_stepped sizes (core.passes by) (Pledge own) core.values) (core.passes by).call (core.passes by).pages (core.passes by).fetched) (own + 1 == end_page sizes (core.passes by).call)
-        (ReadyEntry (if (core.passes by).entries == 1 then (core.passes by).first else (core.passes by).first + 1)) (PledgePage (own + 1)) (λ _. tt) (λ _. tt))
+    gathered = by_number (λ n (p : Pass). GatheredAt sizes (page_now sizes opening core) (values_stepped sizes (core.passes by) (Pledge own) core.values) p.call p.units p.fetched p.control) core.passes by (changed_pass sizes by core (Pledge own) found)
+        (pledged_next (GatheredAt sizes (page_now sizes opening core) (values_stepped sizes (core.passes by) (Pledge own) core.values) (core.passes by).call (core.passes by).units (core.passes by).fetched) sizes (core.passes by) own_page may.may.1
+        (if_both (GatheredAt sizes (page_now sizes opening core) (values_stepped sizes (core.passes by) (Pledge own) core.values) (core.passes by).call (core.passes by).units (core.passes by).fetched) (own_page + 1 == end_page sizes (core.passes by).call)
+        (ReadyEntry (if (core.passes by).entries == 1 then (core.passes by).first else (core.passes by).first + 1)) (PledgePage (own_page + 1)) (λ _. tt) (λ _. tt)))
         (λ n ne. gathered_same sizes (page_now sizes opening core) (page_now sizes opening core) core.values (values_stepped sizes (core.passes by) (Pledge own) core.values) (core.passes n) (core.passes n).control (sound.control_facts n).at (sound.control_facts n).pages (sound.ownership n).locks
-        (λ page has. (value_else page (apart n page ne has), refl)) (was.gathered n));
+        (λ page has. (value_else ((core.passes n).units page) (apart n ((core.passes n).units page) ne has), refl)) (was.gathered n));
   }
 
 -- ---- a step that gives back CLEANUP, and fills a buffer
 
 -- what a read has fetched of a page is what it has of it
-page_bytes_fetched : (fetched : List (ℕ × List ℕ)) (values : Values) (page : ℕ) → HasFetched fetched page → page_bytes fetched values page ≡ fetched_bytes fetched page
-page_bytes_fetched [] values page has = absurd has
-page_bytes_fetched (one ∷ rest) values page (inl is) =
-    when_true (one.0 == page) one.1 (page_bytes rest values page) (eq-eqb one.0 page is) ∙ sym (when_true (one.0 == page) one.1 (fetched_bytes rest page) (eq-eqb one.0 page is))
-page_bytes_fetched (one ∷ rest) values page (inr has) = ap (λ b. if one.0 == page then one.1 else b) (page_bytes_fetched rest values page has)
+page_bytes_fetched : (units : ℕ → ℕ) (fetched : List (ℕ × List ℕ)) (values : Values) (page : ℕ) → HasFetched fetched page → page_bytes units fetched values page ≡ fetched_bytes fetched page
+page_bytes_fetched units [] values page has = absurd has
+page_bytes_fetched units (one ∷ rest) values page (inl is) =
+    when_true (one.0 == page) one.1 (page_bytes units rest values page) (eq-eqb one.0 page is) ∙ sym (when_true (one.0 == page) one.1 (fetched_bytes rest page) (eq-eqb one.0 page is))
+page_bytes_fetched units (one ∷ rest) values page (inr has) = ap (λ b. if one.0 == page then one.1 else b) (page_bytes_fetched units rest values page has)
 
 filled_bytes : (bytes : List ℕ) (value : Value) → is_valid (filled bytes value) ≡ true → bytes_in (filled bytes value) ≡ bytes
 filled_bytes bytes (ABuffer (Some buffer)) valid = refl
 filled_bytes bytes (ABuffer None) valid = absurd (true≢false (sym valid))
 filled_bytes bytes value valid = absurd (true≢false (sym valid))
 
-unlock_cell : (pass : Pass) (cell : Word) (page : ℕ) → MayGive pass cell (GiveCleanup page) → cell ≡ CLEANUP page
+unlock_cell : (pass : Pass) (cell : Word) (page : ℕ) → MayGive pass cell (GiveCleanup page) → cell ≡ CLEANUP (pass.units page)
 unlock_cell pass (CLEANUP other) page may = ap CLEANUP may
 unlock_cell pass cell page may = absurd may
 
 module _ (sizes : Sizes) (first : Values) (opening : Files) (by : ℕ) (core : Core) (cell : Word) (own : ℕ) (found : ℕ) (at : (core.passes by).control ≡ GiveCleanup own)
     (sound : Sound sizes first core) (may : FoundEnabledByKind sizes by core (Give cell) found) (all : fetched_bytes (core.passes by).fetched own ≡ page_now sizes opening core own) (was : ValidBuffers sizes opening core) where
+  -- its unit
+  abbrev unlocked : ℕ
+  unlocked = (core.passes by).units own
+
   locks_unlock : HoldsLocks sizes (core.passes by) (GiveCleanup own)
   locks_unlock = subst (HoldsLocks sizes (core.passes by)) at (sound.ownership by).locks
 
-  has_unlock : times (PAGE own) (core.passes by).owned ≡ 1
+  has_unlock : times (PAGE unlocked) (core.passes by).owned ≡ 1
   has_unlock = whole_holds sizes (core.passes by) (GiveCleanup own) tt (subst (PagesAt sizes (core.passes by)) at (sound.control_facts by).pages) locks_unlock own (subst (FactsAt sizes (core.passes by)) at (sound.control_facts by).at).1
 
-  cell_is : cell ≡ CLEANUP own
+  cell_is : cell ≡ CLEANUP unlocked
   cell_is = unlock_cell (core.passes by) cell own (subst (MayGive (core.passes by) cell) at may.may)
 
   word_page : (page : ℕ) → (after_step sizes by (Give cell) found core).words (PAGE page) ≡ core.words (PAGE page)
-  word_page page = word_else core.words cell 0 (PAGE page) (λ e. differ (PAGE page) (CLEANUP own) refl (e ∙ cell_is))
+  word_page page = word_else core.words cell 0 (PAGE page) (λ e. differ (PAGE page) (CLEANUP unlocked) refl (e ∙ cell_is))
 
-  values_unlock : values_stepped sizes (core.passes by) (Give cell) core.values ≡ with_value core.values (PAGE own) (filled (fetched_bytes (core.passes by).fetched own) (core.values (PAGE own)))
+  values_unlock : values_stepped sizes (core.passes by) (Give cell) core.values ≡ with_value core.values (PAGE unlocked) (filled (fetched_bytes (core.passes by).fetched own) (core.values (PAGE unlocked)))
   values_unlock = ap (λ s. values_given (core.passes by) s core.values) at
 
-  filled_own : values_stepped sizes (core.passes by) (Give cell) core.values (PAGE own) ≡ filled (fetched_bytes (core.passes by).fetched own) (core.values (PAGE own))
-  filled_own = ap (λ (v : Values). v (PAGE own)) values_unlock ∙ word_here core.values (PAGE own) (filled (fetched_bytes (core.passes by).fetched own) (core.values (PAGE own)))
+  filled_own : values_stepped sizes (core.passes by) (Give cell) core.values (PAGE unlocked) ≡ filled (fetched_bytes (core.passes by).fetched own) (core.values (PAGE unlocked))
+  filled_own = ap (λ (v : Values). v (PAGE unlocked)) values_unlock ∙ word_here core.values (PAGE unlocked) (filled (fetched_bytes (core.passes by).fetched own) (core.values (PAGE unlocked)))
 
-  filled_else : (page : ℕ) → page ≢ own → values_stepped sizes (core.passes by) (Give cell) core.values (PAGE page) ≡ core.values (PAGE page)
+  filled_else : (page : ℕ) → page ≢ unlocked → values_stepped sizes (core.passes by) (Give cell) core.values (PAGE page) ≡ core.values (PAGE page)
   filled_else page ne = ap (λ (v : Values). v (PAGE page)) values_unlock
-      ∙ word_else core.values (PAGE own) (filled (fetched_bytes (core.passes by).fetched own) (core.values (PAGE own))) (PAGE page) (λ e. ne (ap index e))
+      ∙ word_else core.values (PAGE unlocked) (filled (fetched_bytes (core.passes by).fetched own) (core.values (PAGE unlocked))) (PAGE page) (λ e. ne (ap index e))
 
   control_unlock : (changed_pass sizes by core (Give cell) found).control ≡ VisitPage (own + 1)
   control_unlock = ap (after_give sizes (core.passes by) cell) at
 
-  off_unlock : (number page : ℕ) → number ≢ by → times (PAGE page) (core.passes number).owned ≡ 1 → page ≢ own
+  off_unlock : (number page : ℕ) → number ≢ by → times (PAGE page) (core.passes number).owned ≡ 1 → page ≢ unlocked
   off_unlock number page ne has e = let z = others_none sizes first core sound page number by has (λ is. ne (sym is)) in let h = subst (λ p. times (PAGE p) (core.passes by).owned ≡ 1) (sym e) has_unlock in omega (arith, z, h)
 
   held_unlock : (page : ℕ) → times (PAGE page) (changed_pass sizes by core (Give cell) found).owned ≡ 1 → is_valid (values_stepped sizes (core.passes by) (Give cell) core.values (PAGE page)) ≡ true
       → bytes_in (values_stepped sizes (core.passes by) (Give cell) core.values (PAGE page)) ≡ patched_page sizes (core.passes by).call (changed_pass sizes by core (Give cell) found).pages (changed_pass sizes by core (Give cell) found).control page (core.names page) (page_now sizes opening core (core.names page))
   held_unlock page has valid =
-      elim (cases_eq page own) [
+      elim (cases_eq page unlocked) [
         | inl e ↦ subst (λ p. is_valid (values_stepped sizes (core.passes by) (Give cell) core.values (PAGE p)) ≡ true → bytes_in (values_stepped sizes (core.passes by) (Give cell) core.values (PAGE p)) ≡ page_now sizes opening core (core.names p)) (sym e)
-            (λ fits. ap bytes_in filled_own ∙ filled_bytes (fetched_bytes (core.passes by).fetched own) (core.values (PAGE own)) (sym (ap is_valid filled_own) ∙ fits) ∙ all ∙ sym (ap (page_now sizes opening core) (sound.index.direct own))) valid
+            (λ fits. ap bytes_in filled_own ∙ filled_bytes (fetched_bytes (core.passes by).fetched own) (core.values (PAGE unlocked)) (sym (ap is_valid filled_own) ∙ fits) ∙ all ∙ sym (ap (page_now sizes opening core) (sound.index.known by own))) valid
         | inr ne ↦
             let less = no_more sizes (Give cell) found page (core.passes by).owned tt in
             ap bytes_in (filled_else page ne)
@@ -452,31 +475,31 @@ module _ (sizes : Sizes) (first : Values) (opening : Files) (by : ℕ) (core : C
       ]
       ∙ sym (ap (λ s. patched_page sizes (core.passes by).call (core.passes by).pages s page (core.names page) (page_now sizes opening core (core.names page))) control_unlock)
 
-  gathered_unlock : Gathered sizes (page_now sizes opening core) (values_stepped sizes (core.passes by) (Give cell) core.values) (core.passes by).call (core.passes by).pages (core.passes by).fetched (own + 1)
+  gathered_unlock : Gathered sizes (page_now sizes opening core) (values_stepped sizes (core.passes by) (Give cell) core.values) (core.passes by).call (core.passes by).units (core.passes by).fetched (own + 1)
   gathered_unlock page is passed = elim (cases_eq page own) [
-    | inl e ↦ subst (λ p. page_bytes (core.passes by).fetched (values_stepped sizes (core.passes by) (Give cell) core.values) p ≡ page_now sizes opening core p) (sym e)
-        (page_bytes_fetched (core.passes by).fetched (values_stepped sizes (core.passes by) (Give cell) core.values) own before.1 ∙ all)
-    | inr ne ↦ page_bytes_same (core.passes by).fetched core.values (values_stepped sizes (core.passes by) (Give cell) core.values) page (filled_else page ne)
-        ∙ before.0 page is ne (elim passed [ inl low ↦ inl (omega (arith, low, ne)) | inr valid ↦ inr (sym (ap is_valid (filled_else page ne)) ∙ valid) ])
+    | inl e ↦ subst (λ p. page_bytes (core.passes by).units (core.passes by).fetched (values_stepped sizes (core.passes by) (Give cell) core.values) p ≡ page_now sizes opening core p) (sym e)
+        (page_bytes_fetched (core.passes by).units (core.passes by).fetched (values_stepped sizes (core.passes by) (Give cell) core.values) own before.1 ∙ all)
+    | inr ne ↦ page_bytes_same (core.passes by).units (core.passes by).fetched core.values (values_stepped sizes (core.passes by) (Give cell) core.values) page (filled_else ((core.passes by).units page) (λ e. ne (units_apart core sound.index by page own e)))
+        ∙ before.0 page is ne (elim passed [ inl low ↦ inl (omega (arith, low, ne)) | inr valid ↦ inr (sym (ap is_valid (filled_else ((core.passes by).units page) (λ e. ne (units_apart core sound.index by page own e)))) ∙ valid) ])
   ]
     where
-      before : Halfway sizes (page_now sizes opening core) core.values (core.passes by).call (core.passes by).pages (core.passes by).fetched own
-      before = subst (GatheredAt sizes (page_now sizes opening core) core.values (core.passes by).call (core.passes by).pages (core.passes by).fetched) at (was.gathered by)
+      before : Halfway sizes (page_now sizes opening core) core.values (core.passes by).call (core.passes by).units (core.passes by).fetched own
+      before = subst (GatheredAt sizes (page_now sizes opening core) core.values (core.passes by).call (core.passes by).units (core.passes by).fetched) at (was.gathered by)
 
   buffers_unlock : ValidBuffers sizes opening (after_step sizes by (Give cell) found core)
   buffers_unlock = subst (λ h. ValidBuffers sizes opening (record (after_step sizes by (Give cell) found core) { history = h })) (sym (same_history by core (Give cell) tt)) record {
     free = λ page free valid.
         let none : core.words (PAGE page) ≡ 0 = sym (word_page page) ∙ free in
-        let ne : page ≢ own = λ e. (let z = unheld sizes first core sound page none by in let h = subst (λ p. times (PAGE p) (core.passes by).owned ≡ 1) (sym e) has_unlock in omega (arith, z, h)) in
+        let ne : page ≢ unlocked = λ e. (let z = unheld sizes first core sound page none by in let h = subst (λ p. times (PAGE p) (core.passes by).owned ≡ 1) (sym e) has_unlock in omega (arith, z, h)) in
         ap bytes_in (filled_else page ne) ∙ was.free page none (sym (ap is_valid (filled_else page ne)) ∙ valid);
     held = λ n page. by_number (λ n (p : Pass). times (PAGE page) p.owned ≡ 1 → is_valid (values_stepped sizes (core.passes by) (Give cell) core.values (PAGE page)) ≡ true
         → bytes_in (values_stepped sizes (core.passes by) (Give cell) core.values (PAGE page)) ≡ patched_page sizes p.call p.pages p.control page (core.names page) (page_now sizes opening core (core.names page))) core.passes by (changed_pass sizes by core (Give cell) found)
         (held_unlock page)
         (λ n ne has valid. let far = filled_else page (off_unlock n page ne has) in ap bytes_in far ∙ was.held n page has (sym (ap is_valid far) ∙ valid)) n;
-    gathered = by_number (λ n (p : Pass). GatheredAt sizes (page_now sizes opening core) (values_stepped sizes (core.passes by) (Give cell) core.values) p.call p.pages p.fetched p.control) core.passes by (changed_pass sizes by core (Give cell) found)
-        (subst (GatheredAt sizes (page_now sizes opening core) (values_stepped sizes (core.passes by) (Give cell) core.values) (core.passes by).call (core.passes by).pages (core.passes by).fetched) (sym control_unlock) gathered_unlock)
+    gathered = by_number (λ n (p : Pass). GatheredAt sizes (page_now sizes opening core) (values_stepped sizes (core.passes by) (Give cell) core.values) p.call p.units p.fetched p.control) core.passes by (changed_pass sizes by core (Give cell) found)
+        (subst (GatheredAt sizes (page_now sizes opening core) (values_stepped sizes (core.passes by) (Give cell) core.values) (core.passes by).call (core.passes by).units (core.passes by).fetched) (sym control_unlock) gathered_unlock)
         (λ n ne. gathered_same sizes (page_now sizes opening core) (page_now sizes opening core) core.values (values_stepped sizes (core.passes by) (Give cell) core.values) (core.passes n) (core.passes n).control (sound.control_facts n).at (sound.control_facts n).pages (sound.ownership n).locks
-        (λ page has. (filled_else page (off_unlock n page ne has), refl)) (was.gathered n));
+        (λ page has. (filled_else ((core.passes n).units page) (off_unlock n ((core.passes n).units page) ne has), refl)) (was.gathered n));
   }
 
 -- ---- each step
@@ -506,15 +529,15 @@ valid_step plain sizes first opening by core op found count sound may all was = 
 
 -- what changes one pass, and no page's value
 buffers_one : (sizes : Sizes) (first : Values) (opening : Files) (core : Core) (by : ℕ) (pass : Pass) (values : Values) → ((page : ℕ) → values (PAGE page) ≡ core.values (PAGE page))
-    → ((page : ℕ) → HasHeld sizes opening core page pass) → GatheredAt sizes (page_now sizes opening core) values pass.call pass.pages pass.fetched pass.control
+    → ((page : ℕ) → HasHeld sizes opening core page pass) → GatheredAt sizes (page_now sizes opening core) values pass.call pass.units pass.fetched pass.control
     → Sound sizes first core → ValidBuffers sizes opening core → ValidBuffers sizes opening record core { values = values; passes = (λ n. if n == by then pass else core.passes n) }
 buffers_one sizes first opening core by pass values same held gathered sound was = record {
   free = λ page free valid. ap bytes_in (same page) ∙ was.free page free (sym (ap is_valid (same page)) ∙ valid);
   held = λ n page. by_number (λ n (p : Pass). times (PAGE page) p.owned ≡ 1 → is_valid (values (PAGE page)) ≡ true → bytes_in (values (PAGE page)) ≡ patched_page sizes p.call p.pages p.control page (core.names page) (page_now sizes opening core (core.names page))) core.passes by pass
       (λ has valid. ap bytes_in (same page) ∙ held page has (sym (ap is_valid (same page)) ∙ valid))
       (λ n ne has valid. ap bytes_in (same page) ∙ was.held n page has (sym (ap is_valid (same page)) ∙ valid)) n;
-  gathered = by_number (λ n (p : Pass). GatheredAt sizes (page_now sizes opening core) values p.call p.pages p.fetched p.control) core.passes by pass gathered
-      (λ n ne. gathered_same sizes (page_now sizes opening core) (page_now sizes opening core) core.values values (core.passes n) (core.passes n).control (sound.control_facts n).at (sound.control_facts n).pages (sound.ownership n).locks (λ page has. (same page, refl)) (was.gathered n));
+  gathered = by_number (λ n (p : Pass). GatheredAt sizes (page_now sizes opening core) values p.call p.units p.fetched p.control) core.passes by pass gathered
+      (λ n ne. gathered_same sizes (page_now sizes opening core) (page_now sizes opening core) core.values values (core.passes n) (core.passes n).control (sound.control_facts n).at (sound.control_facts n).pages (sound.ownership n).locks (λ page has. (same ((core.passes n).units page), refl)) (was.gathered n));
 }
 
 pub valid_begin : (sizes : Sizes) (first : Values) (opening : Files) (by : ℕ) (core : Core) (call : FileCall) → Sound sizes first core → CallMayBegin sizes call (core.passes by) → ValidBuffers sizes opening core
@@ -523,7 +546,7 @@ valid_begin sizes first opening by core call sound may was =
     let held : HoldsLocks sizes (core.passes by) Idle = subst (HoldsLocks sizes (core.passes by)) may.idle (sound.ownership by).locks in
     buffers_one sizes first opening core by (begun sizes call (core.passes by)) core.values (λ page. refl)
     (λ page has valid. absurd (let z = held (PAGE page) (λ slot. differ (PAGE page) (ENTRY slot) refl) in omega (arith, z, has)))
-    (if_both (GatheredAt sizes (page_now sizes opening core) core.values (plain_call call) [] []) (page_count sizes (plain_call call) == 0) LoadStop (TakePage (first_page sizes (plain_call call))) (λ _. refl) (λ _. refl))
+    (if_both (GatheredAt sizes (page_now sizes opening core) core.values (plain_call call) (core.passes by).units []) (page_count sizes (plain_call call) == 0) LoadStop (TakePage (first_page sizes (plain_call call))) (λ _. refl) (λ _. refl))
     sound was
 
 -- the cell of a device call is no page
@@ -537,14 +560,14 @@ work_cell sizes values pass work (Cleaning batch (SyncStores (file ∷ rest))) d
 work_cell sizes values pass work (Cleaning batch (MoveHeaderTail calls)) due page e = differ (PAGE page) HEADER refl (e ∙ due.cell)
 work_cell sizes values pass work control due page e = due
 
-read_else : (pages : List ℕ) (job : Job) (how : CallEnding) (control : Control) (values : Values) (page : ℕ) → (control ≡ ReadStore page false → ⊥) → values_read pages job how control values (PAGE page) ≡ values (PAGE page)
-read_else pages (PageRead at bytes) Made (ReadStore other false) values page ne = word_else values (PAGE other) (filled bytes (values (PAGE other))) (PAGE page) (λ e. ne (ap (λ p. ReadStore p false) (sym (ap index e))))
-read_else pages job how control values page ne = refl
+read_else : (units : ℕ → ℕ) (job : Job) (how : CallEnding) (control : Control) (values : Values) (unit : ℕ) → ((page : ℕ) → control ≡ ReadStore page false → unit ≢ units page) → values_read units job how control values (PAGE unit) ≡ values (PAGE unit)
+read_else units (PageRead at bytes) Made (ReadStore other false) values unit ne = word_else values (PAGE (units other)) (filled bytes (values (PAGE (units other)))) (PAGE unit) (λ e. ne other refl (ap index e))
+read_else units job how control values unit ne = refl
 
-read_failed : (pages : List ℕ) (job : Job) (came : Bool) (faults : ℕ) (control : Control) (values : Values) → values_read pages job (Failed came faults) control values ≡ values
-read_failed pages (PageRead at bytes) came faults control values = refl
-read_failed pages (PartStep step spares) came faults control values = refl
-read_failed pages job came faults control values = refl
+read_failed : (units : ℕ → ℕ) (job : Job) (came : Bool) (faults : ℕ) (control : Control) (values : Values) → values_read units job (Failed came faults) control values ≡ values
+read_failed units (PageRead at bytes) came faults control values = refl
+read_failed units (PartStep step spares) came faults control values = refl
+read_failed units job came faults control values = refl
 
 -- what stands patched stays so
 work_patched : (sizes : Sizes) (values : Values) (pass : Pass) (work : Work) (how : CallEnding) (control : Control) (unit page : ℕ) (old : List ℕ) → PagesAt sizes pass control → HoldsLocks sizes pass control → CallDue sizes values pass work control → times (PAGE unit) pass.owned ≡ 1
@@ -583,47 +606,47 @@ module _ (sizes : Sizes) (first : Values) (opening : Files) (by : ℕ) (core : C
       ∙ work_patched sizes core.values (core.passes by) work work.ending (core.passes by).control page (core.names page) (page_now sizes opening core (core.names page)) (sound.control_facts by).pages (sound.ownership by).locks may.due has
 
   buffers_unread : ((page : ℕ) → values_worked (core.passes by) work core.values (PAGE page) ≡ core.values (PAGE page))
-      → GatheredAt sizes (page_now sizes opening core) (values_worked (core.passes by) work core.values) (core.passes by).call (worked sizes work (core.passes by)).pages (worked sizes work (core.passes by)).fetched (worked sizes work (core.passes by)).control
+      → GatheredAt sizes (page_now sizes opening core) (values_worked (core.passes by) work core.values) (core.passes by).call (worked sizes work (core.passes by)).units (worked sizes work (core.passes by)).fetched (worked sizes work (core.passes by)).control
       → ValidBuffers sizes opening (after_work sizes by work core)
   buffers_unread same gathered = buffers_one sizes first opening core by (worked sizes work (core.passes by)) (values_worked (core.passes by) work core.values) same still_held gathered sound was
 
   failed : (came : Bool) (faults : ℕ) → work.ending ≡ Failed came faults → ValidBuffers sizes opening (after_work sizes by work core)
   failed came faults how = buffers_unread
-      (λ page. ap (λ h. values_read (core.passes by).pages work.job h (core.passes by).control (with_value core.values work.cell (called work.job work.ending (core.values work.cell))) (PAGE page)) how
-      ∙ ap (λ (v : Values). v (PAGE page)) (read_failed (core.passes by).pages work.job came faults (core.passes by).control (with_value core.values work.cell (called work.job work.ending (core.values work.cell))))
+      (λ page. ap (λ h. values_read (core.passes by).units work.job h (core.passes by).control (with_value core.values work.cell (called work.job work.ending (core.values work.cell))) (PAGE page)) how
+      ∙ ap (λ (v : Values). v (PAGE page)) (read_failed (core.passes by).units work.job came faults (core.passes by).control (with_value core.values work.cell (called work.job work.ending (core.values work.cell))))
       ∙ called_else page)
-      (subst (λ h. GatheredAt sizes (page_now sizes opening core) (values_worked (core.passes by) work core.values) (core.passes by).call (core.passes by).pages (worked sizes work (core.passes by)).fetched (control_worked sizes (core.passes by) h (core.passes by).control)) (sym how)
+      (subst (λ h. GatheredAt sizes (page_now sizes opening core) (values_worked (core.passes by) work core.values) (core.passes by).call (core.passes by).units (worked sizes work (core.passes by)).fetched (control_worked sizes (core.passes by) h (core.passes by).control)) (sym how)
       (ends (core.passes by).control may.due))
     where
       ends : (control : Control) → CallDue sizes core.values (core.passes by) work control
-          → GatheredAt sizes (page_now sizes opening core) (values_worked (core.passes by) work core.values) (core.passes by).call (core.passes by).pages (worked sizes work (core.passes by)).fetched (control_worked sizes (core.passes by) (Failed came faults) control)
+          → GatheredAt sizes (page_now sizes opening core) (values_worked (core.passes by) work core.values) (core.passes by).call (core.passes by).units (worked sizes work (core.passes by)).fetched (control_worked sizes (core.passes by) (Failed came faults) control)
       ends (CommitGroup calls) due = tt
       ends (ReadStore page dirty) due = tt
       ends (ReadPiece page number) due = tt
-      ends (Cleaning batch inner) due = of_cleaner_worked (GatheredAt sizes (page_now sizes opening core) (values_worked (core.passes by) work core.values) (core.passes by).call (core.passes by).pages (worked sizes work (core.passes by)).fetched) tt (λ _ _. tt) batch (Failed came faults) inner
+      ends (Cleaning batch inner) due = of_cleaner_worked (GatheredAt sizes (page_now sizes opening core) (values_worked (core.passes by) work core.values) (core.passes by).call (core.passes by).units (worked sizes work (core.passes by)).fetched) tt (λ _ _. tt) batch (Failed came faults) inner
       ends control due = absurd due
 
   -- a cleaner's
   of_cleaner : (batch : Batch) (inner : CleanerControl) → (core.passes by).control ≡ Cleaning batch inner → ValidBuffers sizes opening (after_work sizes by work core)
   of_cleaner batch inner at = buffers_unread
-      (λ page. read_else (core.passes by).pages work.job work.ending (core.passes by).control (with_value core.values work.cell (called work.job work.ending (core.values work.cell))) page (λ e. true≢false (ap is_cleaning (sym at ∙ e))) ∙ called_else page)
-      (subst (λ s. GatheredAt sizes (page_now sizes opening core) (values_worked (core.passes by) work core.values) (core.passes by).call (core.passes by).pages (worked sizes work (core.passes by)).fetched (control_worked sizes (core.passes by) work.ending s)) (sym at) (go work.ending))
+      (λ page. read_else (core.passes by).units work.job work.ending (core.passes by).control (with_value core.values work.cell (called work.job work.ending (core.values work.cell))) page (λ _ e. absurd (true≢false (ap is_cleaning (sym at ∙ e)))) ∙ called_else page)
+      (subst (λ s. GatheredAt sizes (page_now sizes opening core) (values_worked (core.passes by) work core.values) (core.passes by).call (core.passes by).units (worked sizes work (core.passes by)).fetched (control_worked sizes (core.passes by) work.ending s)) (sym at) (go work.ending))
     where
       is_cleaning : Control → Bool
       is_cleaning (Cleaning batch inner) = true
       is_cleaning control = false
 
-      go : (how : CallEnding) → GatheredAt sizes (page_now sizes opening core) (values_worked (core.passes by) work core.values) (core.passes by).call (core.passes by).pages (worked sizes work (core.passes by)).fetched (control_worked sizes (core.passes by) how (Cleaning batch inner))
-      go Made = of_cleaner_worked (GatheredAt sizes (page_now sizes opening core) (values_worked (core.passes by) work core.values) (core.passes by).call (core.passes by).pages (worked sizes work (core.passes by)).fetched) tt (λ _ _. tt) batch Made inner
-      go (Failed came faults) = of_cleaner_worked (GatheredAt sizes (page_now sizes opening core) (values_worked (core.passes by) work core.values) (core.passes by).call (core.passes by).pages (worked sizes work (core.passes by)).fetched) tt (λ _ _. tt) batch (Failed came faults) inner
-      go Refused = of_cleaner_worked (GatheredAt sizes (page_now sizes opening core) (values_worked (core.passes by) work core.values) (core.passes by).call (core.passes by).pages (worked sizes work (core.passes by)).fetched) tt (λ _ _. tt) batch Refused inner
+      go : (how : CallEnding) → GatheredAt sizes (page_now sizes opening core) (values_worked (core.passes by) work core.values) (core.passes by).call (core.passes by).units (worked sizes work (core.passes by)).fetched (control_worked sizes (core.passes by) how (Cleaning batch inner))
+      go Made = of_cleaner_worked (GatheredAt sizes (page_now sizes opening core) (values_worked (core.passes by) work core.values) (core.passes by).call (core.passes by).units (worked sizes work (core.passes by)).fetched) tt (λ _ _. tt) batch Made inner
+      go (Failed came faults) = of_cleaner_worked (GatheredAt sizes (page_now sizes opening core) (values_worked (core.passes by) work core.values) (core.passes by).call (core.passes by).units (worked sizes work (core.passes by)).fetched) tt (λ _ _. tt) batch (Failed came faults) inner
+      go Refused = of_cleaner_worked (GatheredAt sizes (page_now sizes opening core) (values_worked (core.passes by) work core.values) (core.passes by).call (core.passes by).units (worked sizes work (core.passes by)).fetched) tt (λ _ _. tt) batch Refused inner
 
   committed : (calls : ℕ) → (core.passes by).control ≡ CommitGroup calls → work.ending ≡ Made → ValidBuffers sizes opening (after_work sizes by work core)
   committed calls at how = buffers_unread
-      (λ page. read_else (core.passes by).pages work.job work.ending (core.passes by).control (with_value core.values work.cell (called work.job work.ending (core.values work.cell))) page (λ e. apart (sym at ∙ e)) ∙ called_else page)
-      (subst (λ s. GatheredAt sizes (page_now sizes opening core) (values_worked (core.passes by) work core.values) (core.passes by).call (core.passes by).pages (worked sizes work (core.passes by)).fetched (control_worked sizes (core.passes by) work.ending s)) (sym at)
-      (subst (λ h. GatheredAt sizes (page_now sizes opening core) (values_worked (core.passes by) work core.values) (core.passes by).call (core.passes by).pages (worked sizes work (core.passes by)).fetched (control_worked sizes (core.passes by) h (CommitGroup calls))) (sym how)
-      (if_both (GatheredAt sizes (page_now sizes opening core) (values_worked (core.passes by) work core.values) (core.passes by).call (core.passes by).pages (worked sizes work (core.passes by)).fetched)
+      (λ page. read_else (core.passes by).units work.job work.ending (core.passes by).control (with_value core.values work.cell (called work.job work.ending (core.values work.cell))) page (λ _ e. absurd (apart (sym at ∙ e))) ∙ called_else page)
+      (subst (λ s. GatheredAt sizes (page_now sizes opening core) (values_worked (core.passes by) work core.values) (core.passes by).call (core.passes by).units (worked sizes work (core.passes by)).fetched (control_worked sizes (core.passes by) work.ending s)) (sym at)
+      (subst (λ h. GatheredAt sizes (page_now sizes opening core) (values_worked (core.passes by) work core.values) (core.passes by).call (core.passes by).units (worked sizes work (core.passes by)).fetched (control_worked sizes (core.passes by) h (CommitGroup calls))) (sym how)
+      (if_both (GatheredAt sizes (page_now sizes opening core) (values_worked (core.passes by) work core.values) (core.passes by).call (core.passes by).units (worked sizes work (core.passes by)).fetched)
       (calls + 1 == length (commit_steps sizes (core.passes by) (core.passes by).call)) (PledgePage (first_page sizes (core.passes by).call)) (CommitGroup (calls + 1)) (λ _. tt) (λ _. tt))))
     where
       is_copying : Control → Bool
@@ -637,41 +660,45 @@ module _ (sizes : Sizes) (first : Values) (opening : Files) (by : ℕ) (core : C
 module _ (sizes : Sizes) (first : Values) (opening : Files) (by : ℕ) (core : Core) (work : Work)
     (sound : Sound sizes first core) (may : CallEnabled sizes core.values (core.passes by) work) (was : ValidBuffers sizes opening core) where
   buffers_fetch : (own : ℕ) (control : Control) → (core.passes by).control ≡ control → work.ending ≡ Made → ((page : ℕ) → control ≡ ReadStore page false → ⊥)
-      → GatheredAt sizes (page_now sizes opening core) (values_worked (core.passes by) work core.values) (core.passes by).call (core.passes by).pages (worked sizes work (core.passes by)).fetched (control_worked sizes (core.passes by) Made control)
-      ≡ Halfway sizes (page_now sizes opening core) (values_worked (core.passes by) work core.values) (core.passes by).call (core.passes by).pages (worked sizes work (core.passes by)).fetched own
-      → (GatheredAt sizes (page_now sizes opening core) core.values (core.passes by).call (core.passes by).pages (core.passes by).fetched control → GatheredBut sizes (page_now sizes opening core) core.values (core.passes by).call (core.passes by).pages (core.passes by).fetched own)
+      → GatheredAt sizes (page_now sizes opening core) (values_worked (core.passes by) work core.values) (core.passes by).call (core.passes by).units (worked sizes work (core.passes by)).fetched (control_worked sizes (core.passes by) Made control)
+      ≡ Halfway sizes (page_now sizes opening core) (values_worked (core.passes by) work core.values) (core.passes by).call (core.passes by).units (worked sizes work (core.passes by)).fetched own
+      → (GatheredAt sizes (page_now sizes opening core) core.values (core.passes by).call (core.passes by).units (core.passes by).fetched control → GatheredBut sizes (page_now sizes opening core) core.values (core.passes by).call (core.passes by).units (core.passes by).fetched own)
       → (bytes : List ℕ) → (worked sizes work (core.passes by)).fetched ≡ (own, bytes) ∷ (core.passes by).fetched
       → ValidBuffers sizes opening (after_work sizes by work core)
   buffers_fetch own control at how other half before bytes fetched = buffers_unread sizes first opening by core work sound may was same
-      (subst (λ h. GatheredAt sizes (page_now sizes opening core) (values_worked (core.passes by) work core.values) (core.passes by).call (core.passes by).pages (worked sizes work (core.passes by)).fetched (control_worked sizes (core.passes by) h (core.passes by).control)) (sym how)
-      (subst (λ s. GatheredAt sizes (page_now sizes opening core) (values_worked (core.passes by) work core.values) (core.passes by).call (core.passes by).pages (worked sizes work (core.passes by)).fetched (control_worked sizes (core.passes by) Made s)) (sym at)
+      (subst (λ h. GatheredAt sizes (page_now sizes opening core) (values_worked (core.passes by) work core.values) (core.passes by).call (core.passes by).units (worked sizes work (core.passes by)).fetched (control_worked sizes (core.passes by) h (core.passes by).control)) (sym how)
+      (subst (λ s. GatheredAt sizes (page_now sizes opening core) (values_worked (core.passes by) work core.values) (core.passes by).call (core.passes by).units (worked sizes work (core.passes by)).fetched (control_worked sizes (core.passes by) Made s)) (sym at)
       (subst (λ T. T) (sym half)
-      (subst (λ f. Halfway sizes (page_now sizes opening core) (values_worked (core.passes by) work core.values) (core.passes by).call (core.passes by).pages f own) (sym fetched) (but, inl refl)))))
+      (subst (λ f. Halfway sizes (page_now sizes opening core) (values_worked (core.passes by) work core.values) (core.passes by).call (core.passes by).units f own) (sym fetched) (but, inl refl)))))
     where
       same : (page : ℕ) → values_worked (core.passes by) work core.values (PAGE page) ≡ core.values (PAGE page)
       same page =
-          read_else (core.passes by).pages work.job work.ending (core.passes by).control (with_value core.values work.cell (called work.job work.ending (core.values work.cell))) page (λ e. other page (sym at ∙ e))
+          read_else (core.passes by).units work.job work.ending (core.passes by).control (with_value core.values work.cell (called work.job work.ending (core.values work.cell))) page (λ p e. absurd (other p (sym at ∙ e)))
           ∙ called_else sizes first opening by core work sound may was page
 
-      but : GatheredBut sizes (page_now sizes opening core) (values_worked (core.passes by) work core.values) (core.passes by).call (core.passes by).pages ((own, bytes) ∷ (core.passes by).fetched) own
+      but : GatheredBut sizes (page_now sizes opening core) (values_worked (core.passes by) work core.values) (core.passes by).call (core.passes by).units ((own, bytes) ∷ (core.passes by).fetched) own
       but page is ne passed =
-          when_false (own == page) bytes (page_bytes (core.passes by).fetched (values_worked (core.passes by) work core.values) page) (ne_eqb own page (λ e. ne (sym e)))
-          ∙ page_bytes_same (core.passes by).fetched core.values (values_worked (core.passes by) work core.values) page (same page)
-          ∙ before (subst (GatheredAt sizes (page_now sizes opening core) core.values (core.passes by).call (core.passes by).pages (core.passes by).fetched) at (was.gathered by)) page is ne
-          (elim passed [ inl low ↦ inl low | inr valid ↦ inr (sym (ap is_valid (same page)) ∙ valid) ])
+          when_false (own == page) bytes (page_bytes (core.passes by).units (core.passes by).fetched (values_worked (core.passes by) work core.values) page) (ne_eqb own page (λ e. ne (sym e)))
+          ∙ page_bytes_same (core.passes by).units (core.passes by).fetched core.values (values_worked (core.passes by) work core.values) page (same ((core.passes by).units page))
+          ∙ before (subst (GatheredAt sizes (page_now sizes opening core) core.values (core.passes by).call (core.passes by).units (core.passes by).fetched) at (was.gathered by)) page is ne
+          (elim passed [ inl low ↦ inl low | inr valid ↦ inr (sym (ap is_valid (same ((core.passes by).units page))) ∙ valid) ])
 
 -- a call that reads a page without entries from its store
 module _ (sizes : Sizes) (first : Values) (opening : Files) (by : ℕ) (core : Core) (work : Work) (own : ℕ)
     (sound : Sound sizes first core) (tells : StoresTell sizes core.values) (clean : StorePages sizes opening core)
     (at : (core.passes by).control ≡ ReadStore own false) (how : work.ending ≡ Made) (due : IsPageRead sizes core.values (core.passes by) own work)
     (may : CallEnabled sizes core.values (core.passes by) work) (was : ValidBuffers sizes opening core) where
+  -- its unit
+  abbrev copied : ℕ
+  copied = (core.passes by).units own
+
   stands : FactsAt sizes (core.passes by) (ReadStore own false)
   stands = subst (FactsAt sizes (core.passes by)) at (sound.control_facts by).at
 
   locks_read : HoldsLocks sizes (core.passes by) (ReadStore own false)
   locks_read = subst (HoldsLocks sizes (core.passes by)) at (sound.ownership by).locks
 
-  has_read : times (PAGE own) (core.passes by).owned ≡ 1
+  has_read : times (PAGE copied) (core.passes by).owned ≡ 1
   has_read = whole_holds sizes (core.passes by) (ReadStore own false) tt (subst (PagesAt sizes (core.passes by)) at (sound.control_facts by).pages) locks_read own stands.1
 
   allowed_read : IsAllowed sizes (core.passes by).call
@@ -682,32 +709,32 @@ module _ (sizes : Sizes) (first : Values) (opening : Files) (by : ℕ) (core : C
   read_now =
       let place = page_place sizes (core.passes by).call allowed_read own stands.1 in
       let told = tells.each (file_of (core.passes by).call) allowed_read.known in
-      let clear : core.words (DIRTY own) ≡ 0 = sound.loaded.clean by own (subst (λ s. SawClean (core.passes by).pages s own) (sym at) refl) in
+      let clear : core.words (DIRTY copied) ≡ 0 = sound.loaded.clean by copied (subst (λ s. SawClean (core.passes by).units s copied) (sym at) refl) in
       says_is sizes (page_start sizes (core.passes by).call own) due.bytes told.0 (core.values (STORE (file_of (core.passes by).call))) told.1 due.says
       ∙ ap (λ n. page_from told.0.seen (n * sizes.page) sizes.page) (sym place.1)
-      ∙ sym (subst (λ p. file_of_page sizes p < sizes.files → store_of_value (core.values (STORE (file_of_page sizes p))) ≡ Some told.0 → page_now sizes opening core p ≡ page_from told.0.seen (start_of_page sizes p) sizes.page) (sound.index.direct own)
-      (clean.clean by own told.0 stands.0 has_read clear) (subst (λ f. f < sizes.files) (sym place.0) allowed_read.known) (ap (λ f. store_of_value (core.values (STORE f))) place.0 ∙ told.1))
+      ∙ sym (subst (λ p. file_of_page sizes p < sizes.files → store_of_value (core.values (STORE (file_of_page sizes p))) ≡ Some told.0 → page_now sizes opening core p ≡ page_from told.0.seen (start_of_page sizes p) sizes.page) (sound.index.known by own)
+      (clean.clean by copied told.0 stands.0 has_read clear) (subst (λ f. f < sizes.files) (sym place.0) allowed_read.known) (ap (λ f. store_of_value (core.values (STORE f))) place.0 ∙ told.1))
 
-  value_read : values_worked (core.passes by) work core.values (PAGE own) ≡ filled due.bytes (core.values (PAGE own))
+  value_read : values_worked (core.passes by) work core.values (PAGE copied) ≡ filled due.bytes (core.values (PAGE copied))
   value_read =
       let vals = with_value core.values work.cell (called work.job work.ending (core.values work.cell)) in
-      ap (λ j. values_read (core.passes by).pages j work.ending (core.passes by).control vals (PAGE own)) due.job
-      ∙ ap (λ h. values_read (core.passes by).pages (PageRead (page_start sizes (core.passes by).call own) due.bytes) h (core.passes by).control vals (PAGE own)) how
-      ∙ ap (λ s. values_read (core.passes by).pages (PageRead (page_start sizes (core.passes by).call own) due.bytes) Made s vals (PAGE own)) at
-      ∙ word_here vals (PAGE own) (filled due.bytes (vals (PAGE own)))
-      ∙ ap (filled due.bytes) (called_else sizes first opening by core work sound may was own)
+      ap (λ j. values_read (core.passes by).units j work.ending (core.passes by).control vals (PAGE copied)) due.job
+      ∙ ap (λ h. values_read (core.passes by).units (PageRead (page_start sizes (core.passes by).call own) due.bytes) h (core.passes by).control vals (PAGE copied)) how
+      ∙ ap (λ s. values_read (core.passes by).units (PageRead (page_start sizes (core.passes by).call own) due.bytes) Made s vals (PAGE copied)) at
+      ∙ word_here vals (PAGE copied) (filled due.bytes (vals (PAGE copied)))
+      ∙ ap (filled due.bytes) (called_else sizes first opening by core work sound may was copied)
 
-  value_apart : (page : ℕ) → page ≢ own → values_worked (core.passes by) work core.values (PAGE page) ≡ core.values (PAGE page)
+  value_apart : (page : ℕ) → page ≢ copied → values_worked (core.passes by) work core.values (PAGE page) ≡ core.values (PAGE page)
   value_apart page ne =
-      read_else (core.passes by).pages work.job work.ending (core.passes by).control (with_value core.values work.cell (called work.job work.ending (core.values work.cell))) page (λ e. ne (copied (sym e ∙ at)))
+      read_else (core.passes by).units work.job work.ending (core.passes by).control (with_value core.values work.cell (called work.job work.ending (core.values work.cell))) page (λ p e same. ne (same ∙ ap (core.passes by).units (read_of (sym e ∙ at))))
       ∙ called_else sizes first opening by core work sound may was page
     where
       page_of_copy : Control → ℕ
       page_of_copy (ReadStore next dirty) = next
       page_of_copy control = 0
 
-      copied : {one other : ℕ} → ReadStore one false ≡ ReadStore other false → one ≡ other
-      copied e = ap page_of_copy e
+      read_of : {one other : ℕ} → ReadStore one false ≡ ReadStore other false → one ≡ other
+      read_of e = ap page_of_copy e
 
   fetched_read : (worked sizes work (core.passes by)).fetched ≡ (own, due.bytes) ∷ (core.passes by).fetched
   fetched_read =
@@ -718,46 +745,46 @@ module _ (sizes : Sizes) (first : Values) (opening : Files) (by : ℕ) (core : C
   control_read : (worked sizes work (core.passes by)).control ≡ GiveStore own false
   control_read = ap (λ h. control_worked sizes (core.passes by) h (core.passes by).control) how ∙ ap (λ s. control_worked sizes (core.passes by) Made s) at
 
-  far : (number page : ℕ) → number ≢ by → times (PAGE page) (core.passes number).owned ≡ 1 → page ≢ own
+  far : (number page : ℕ) → number ≢ by → times (PAGE page) (core.passes number).owned ≡ 1 → page ≢ copied
   far number page ne has e = let z = others_none sizes first core sound page number by has (λ is. ne (sym is)) in let h = subst (λ p. times (PAGE p) (core.passes by).owned ≡ 1) (sym e) has_read in omega (arith, z, h)
 
   read_held : (page : ℕ) → times (PAGE page) (core.passes by).owned ≡ 1 → is_valid (values_worked (core.passes by) work core.values (PAGE page)) ≡ true
       → bytes_in (values_worked (core.passes by) work core.values (PAGE page)) ≡ patched_page sizes (core.passes by).call (worked sizes work (core.passes by)).pages (worked sizes work (core.passes by)).control page (core.names page) (page_now sizes opening core (core.names page))
-  read_held page has valid = elim (cases_eq page own) [
+  read_held page has valid = elim (cases_eq page copied) [
     | inl e ↦ subst (λ p. is_valid (values_worked (core.passes by) work core.values (PAGE p)) ≡ true
         → bytes_in (values_worked (core.passes by) work core.values (PAGE p)) ≡ patched_page sizes (core.passes by).call (worked sizes work (core.passes by)).pages (worked sizes work (core.passes by)).control p (core.names p) (page_now sizes opening core (core.names p))) (sym e)
-        (λ fits. ap bytes_in value_read ∙ filled_bytes due.bytes (core.values (PAGE own)) (sym (ap is_valid value_read) ∙ fits) ∙ read_now ∙ sym (ap (page_now sizes opening core) (sound.index.direct own))
-        ∙ sym (ap (λ s. patched_page sizes (core.passes by).call (core.passes by).pages s own (core.names own) (page_now sizes opening core (core.names own))) control_read)) valid
+        (λ fits. ap bytes_in value_read ∙ filled_bytes due.bytes (core.values (PAGE copied)) (sym (ap is_valid value_read) ∙ fits) ∙ read_now ∙ sym (ap (page_now sizes opening core) (sound.index.known by own))
+        ∙ sym (ap (λ s. patched_page sizes (core.passes by).call (core.passes by).pages s copied (core.names copied) (page_now sizes opening core (core.names copied))) control_read)) valid
     | inr ne ↦ ap bytes_in (value_apart page ne) ∙ still_held sizes first opening by core work sound may was page has (sym (ap is_valid (value_apart page ne)) ∙ valid)
   ]
 
-  read_gathered : Gathered sizes (page_now sizes opening core) (values_worked (core.passes by) work core.values) (core.passes by).call (core.passes by).pages ((own, due.bytes) ∷ (core.passes by).fetched) (own + 1)
+  read_gathered : Gathered sizes (page_now sizes opening core) (values_worked (core.passes by) work core.values) (core.passes by).call (core.passes by).units ((own, due.bytes) ∷ (core.passes by).fetched) (own + 1)
   read_gathered page is passed = elim (cases_eq page own) [
-    | inl e ↦ subst (λ p. page_bytes ((own, due.bytes) ∷ (core.passes by).fetched) (values_worked (core.passes by) work core.values) p ≡ page_now sizes opening core p) (sym e)
-        (when_true (own == own) due.bytes (page_bytes (core.passes by).fetched (values_worked (core.passes by) work core.values) own) (eq-eqb own own refl) ∙ read_now)
+    | inl e ↦ subst (λ p. page_bytes (core.passes by).units ((own, due.bytes) ∷ (core.passes by).fetched) (values_worked (core.passes by) work core.values) p ≡ page_now sizes opening core p) (sym e)
+        (when_true (own == own) due.bytes (page_bytes (core.passes by).units (core.passes by).fetched (values_worked (core.passes by) work core.values) own) (eq-eqb own own refl) ∙ read_now)
     | inr ne ↦
-        when_false (own == page) due.bytes (page_bytes (core.passes by).fetched (values_worked (core.passes by) work core.values) page) (ne_eqb own page (λ e. ne (sym e)))
-        ∙ page_bytes_same (core.passes by).fetched core.values (values_worked (core.passes by) work core.values) page (value_apart page ne)
-        ∙ before page is (elim passed [ inl low ↦ inl (omega (arith, low, ne)) | inr valid ↦ inr (sym (ap is_valid (value_apart page ne)) ∙ valid) ])
+        when_false (own == page) due.bytes (page_bytes (core.passes by).units (core.passes by).fetched (values_worked (core.passes by) work core.values) page) (ne_eqb own page (λ e. ne (sym e)))
+        ∙ page_bytes_same (core.passes by).units (core.passes by).fetched core.values (values_worked (core.passes by) work core.values) page (value_apart ((core.passes by).units page) (λ e. ne (units_apart core sound.index by page own e)))
+        ∙ before page is (elim passed [ inl low ↦ inl (omega (arith, low, ne)) | inr valid ↦ inr (sym (ap is_valid (value_apart ((core.passes by).units page) (λ e. ne (units_apart core sound.index by page own e)))) ∙ valid) ])
   ]
     where
-      before : Gathered sizes (page_now sizes opening core) core.values (core.passes by).call (core.passes by).pages (core.passes by).fetched own
-      before = subst (GatheredAt sizes (page_now sizes opening core) core.values (core.passes by).call (core.passes by).pages (core.passes by).fetched) at (was.gathered by)
+      before : Gathered sizes (page_now sizes opening core) core.values (core.passes by).call (core.passes by).units (core.passes by).fetched own
+      before = subst (GatheredAt sizes (page_now sizes opening core) core.values (core.passes by).call (core.passes by).units (core.passes by).fetched) at (was.gathered by)
 
   buffers_read : ValidBuffers sizes opening (after_work sizes by work core)
   buffers_read = record {
     free = λ page free valid.
-        let ne : page ≢ own = λ e. (let z = unheld sizes first core sound page free by in let h = subst (λ p. times (PAGE p) (core.passes by).owned ≡ 1) (sym e) has_read in omega (arith, z, h)) in
+        let ne : page ≢ copied = λ e. (let z = unheld sizes first core sound page free by in let h = subst (λ p. times (PAGE p) (core.passes by).owned ≡ 1) (sym e) has_read in omega (arith, z, h)) in
         ap bytes_in (value_apart page ne) ∙ was.free page free (sym (ap is_valid (value_apart page ne)) ∙ valid);
     held = λ n page. by_number (λ n (p : Pass). times (PAGE page) p.owned ≡ 1 → is_valid (values_worked (core.passes by) work core.values (PAGE page)) ≡ true
         → bytes_in (values_worked (core.passes by) work core.values (PAGE page)) ≡ patched_page sizes p.call p.pages p.control page (core.names page) (page_now sizes opening core (core.names page))) core.passes by (worked sizes work (core.passes by))
         (read_held page)
         (λ n ne has valid. let apart = value_apart page (far n page ne has) in ap bytes_in apart ∙ was.held n page has (sym (ap is_valid apart) ∙ valid)) n;
-    gathered = by_number (λ n (p : Pass). GatheredAt sizes (page_now sizes opening core) (values_worked (core.passes by) work core.values) p.call p.pages p.fetched p.control) core.passes by (worked sizes work (core.passes by))
-        (subst (λ s. GatheredAt sizes (page_now sizes opening core) (values_worked (core.passes by) work core.values) (core.passes by).call (core.passes by).pages (worked sizes work (core.passes by)).fetched s) (sym control_read)
-        (subst (λ f. Gathered sizes (page_now sizes opening core) (values_worked (core.passes by) work core.values) (core.passes by).call (core.passes by).pages f (own + 1)) (sym fetched_read) read_gathered))
+    gathered = by_number (λ n (p : Pass). GatheredAt sizes (page_now sizes opening core) (values_worked (core.passes by) work core.values) p.call p.units p.fetched p.control) core.passes by (worked sizes work (core.passes by))
+        (subst (λ s. GatheredAt sizes (page_now sizes opening core) (values_worked (core.passes by) work core.values) (core.passes by).call (core.passes by).units (worked sizes work (core.passes by)).fetched s) (sym control_read)
+        (subst (λ f. Gathered sizes (page_now sizes opening core) (values_worked (core.passes by) work core.values) (core.passes by).call (core.passes by).units f (own + 1)) (sym fetched_read) read_gathered))
         (λ n ne. gathered_same sizes (page_now sizes opening core) (page_now sizes opening core) core.values (values_worked (core.passes by) work core.values) (core.passes n) (core.passes n).control (sound.control_facts n).at (sound.control_facts n).pages (sound.ownership n).locks
-        (λ page has. (value_apart page (far n page ne has), refl)) (was.gathered n));
+        (λ page has. (value_apart ((core.passes n).units page) (far n ((core.passes n).units page) ne has), refl)) (was.gathered n));
   }
 
 abbrev is_dirty : Control → Bool

@@ -41,7 +41,7 @@ use Rattle.nv_core.proofs.crash.CommutingLaws.{after_both}
 use Rattle.nv_core.proofs.log.KeepsLive.{files_length, after_length, stores_length}
 use Rattle.nv_core.proofs.log.OpeningLogContent.{told_seen}
 use Rattle.nv_core.proofs.invariant.PageLists.{pages_once}
-use Rattle.nv_core.proofs.invariant.IndexLaws.{is_stood_for}
+use Rattle.nv_core.proofs.invariant.IndexLaws.{unit_for}
 
 -- ---- a piece as a write of its own
 
@@ -361,24 +361,26 @@ pages_are_patched plain sizes first opened tails log placed core page store soun
 -- ---- where a page is still
 
 -- a write in flight holds its pages
-flying_holds : (sizes : Sizes) (pass : Pass) (control : Control) → IsFlying pass control → PagesAt sizes pass control → HoldsLocks sizes pass control → (page : ℕ) → IsPage sizes pass.call page → times (PAGE page) pass.owned ≡ 1
-flying_holds sizes pass (SeizeEntry number) flies pages held page is = held (PAGE page) (λ slot. differ (PAGE page) (ENTRY slot) refl) ∙ pages_once sizes pass.call pass.pages pages page is
-flying_holds sizes pass (CommitGroup calls) flies pages held page is = held (PAGE page) (λ slot. differ (PAGE page) (ENTRY slot) refl) ∙ pages_once sizes pass.call pass.pages pages page is
-flying_holds sizes pass (PledgePage next) flies pages held page is = held (PAGE page) (λ slot. differ (PAGE page) (ENTRY slot) refl) ∙ pages_once sizes pass.call pass.pages pages page is
-flying_holds sizes pass (ReadyEntry number) flies pages held page is = held (PAGE page) (λ slot. differ (PAGE page) (ENTRY slot) refl) ∙ pages_once sizes pass.call pass.pages pages page is
-flying_holds sizes pass TakePlace flies pages held page is = held (PAGE page) (λ slot. differ (PAGE page) (ENTRY slot) refl) ∙ pages_once sizes pass.call pass.pages pages page is
+flying_holds : (sizes : Sizes) (pass : Pass) (control : Control) → IsFlying pass control → PagesAt sizes pass control → HoldsLocks sizes pass control → (page : ℕ) → IsPage sizes pass.call page → times (PAGE (pass.units page)) pass.owned ≡ 1
+flying_holds sizes pass (SeizeEntry number) flies pages held page is = held (PAGE (pass.units page)) (λ slot. differ (PAGE (pass.units page)) (ENTRY slot) refl) ∙ pages_once sizes pass.call pass.pages pages page is
+flying_holds sizes pass (CommitGroup calls) flies pages held page is = held (PAGE (pass.units page)) (λ slot. differ (PAGE (pass.units page)) (ENTRY slot) refl) ∙ pages_once sizes pass.call pass.pages pages page is
+flying_holds sizes pass (PledgePage next) flies pages held page is = held (PAGE (pass.units page)) (λ slot. differ (PAGE (pass.units page)) (ENTRY slot) refl) ∙ pages_once sizes pass.call pass.pages pages page is
+flying_holds sizes pass (ReadyEntry number) flies pages held page is = held (PAGE (pass.units page)) (λ slot. differ (PAGE (pass.units page)) (ENTRY slot) refl) ∙ pages_once sizes pass.call pass.pages pages page is
+flying_holds sizes pass TakePlace flies pages held page is = held (PAGE (pass.units page)) (λ slot. differ (PAGE (pass.units page)) (ENTRY slot) refl) ∙ pages_once sizes pass.call pass.pages pages page is
 flying_holds sizes pass control flies pages held page is = absurd flies
 
 -- a free page is still, and so is one that a pass holds with no write in flight
 pub still_free : (sizes : Sizes) (first : Values) (core : Core) (unit : ℕ) → Sound sizes first core → core.words (PAGE unit) ≡ 0 → IsStill sizes core (core.names unit)
 still_free sizes first core unit sound free_ by flies is =
     let none = (sound.locks.keyed (PAGE unit)).free (ne_eqb (core.words (PAGE unit)) 1 (λ e. omega (arith, free_, e))) by in
-    let one = flying_holds sizes (core.passes by) (core.passes by).control flies (sound.control_facts by).pages (sound.ownership by).locks unit (is_stood_for sizes core sound.index (core.passes by).call unit is) in omega (arith, none, one)
+    let one = flying_holds sizes (core.passes by) (core.passes by).control flies (sound.control_facts by).pages (sound.ownership by).locks (core.names unit) is in
+    let same = ap (λ u. times (PAGE u) (core.passes by).owned) (unit_for core sound.index by unit (core.names unit) refl) in omega (arith, none, one, same)
 
 pub still_held : (sizes : Sizes) (first : Values) (core : Core) (unit number : ℕ) → Sound sizes first core → times (PAGE unit) (core.passes number).owned ≡ 1 → (IsFlying (core.passes number) (core.passes number).control → ⊥) → IsStill sizes core (core.names unit)
 still_held sizes first core unit number sound has grounded by flies is = elim (cases_eq by number) [
   | inl same ↦ grounded (subst (λ n. IsFlying (core.passes n) (core.passes n).control) same flies)
   | inr ne ↦
       let none = (only_holder (sound.locks.keyed (PAGE unit)) number (omega (arith, has))).2 by ne in
-      let one = flying_holds sizes (core.passes by) (core.passes by).control flies (sound.control_facts by).pages (sound.ownership by).locks unit (is_stood_for sizes core sound.index (core.passes by).call unit is) in omega (arith, none, one)
+      let one = flying_holds sizes (core.passes by) (core.passes by).control flies (sound.control_facts by).pages (sound.ownership by).locks (core.names unit) is in
+      let same = ap (λ u. times (PAGE u) (core.passes by).owned) (unit_for core sound.index by unit (core.names unit) refl) in omega (arith, none, one, same)
 ]

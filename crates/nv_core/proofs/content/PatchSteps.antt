@@ -322,14 +322,14 @@ module _ (sizes : Sizes) (first : Values) (log : Log) (by : ℕ) (core : Core) (
 
   hold_on : (next : ℕ) → FoundEnabledByKind sizes by core (Hold next) found → KeepsOn (Hold next)
   hold_on next may n within =
-      let looks : LooksSound sizes core (core.passes by).pages (HoldEntry may.may.0 next) = subst (LooksSound sizes core (core.passes by).pages) may.may.1 (sound.loaded.looks by) in
-      let k = (entry_is ready may.may.0 (entry_word_at sizes core next) looks.1).0 in let is : entry_word_at sizes core next ≡ found = may.is in
+      let looks : LooksSound sizes core (core.passes by).units (HoldEntry may.may.0 next) = subst (LooksSound sizes core (core.passes by).units) may.may.1 (sound.loaded.looks by) in
+      let k = (entry_is ready ((core.passes by).units may.may.0) (entry_word_at sizes core next) looks.1).0 in let is : entry_word_at sizes core next ≡ found = may.is in
       (alike_on (Hold next) next (found + 1) n (fresh_held (found + 1) (omega (arith, k, is)) ∙ sym (fresh_ready (entry_word_at sizes core next) k)), refl)
 
   return_on : (next : ℕ) → FoundEnabledByKind sizes by core (Return next) found → KeepsOn (Return next)
   return_on next may n within =
-      let looks : LooksSound sizes core (core.passes by).pages (ReturnEntry may.may.0 next may.may.1) = subst (LooksSound sizes core (core.passes by).pages) may.may.2 (sound.loaded.looks by) in
-      let k = (entry_is held may.may.0 (entry_word_at sizes core next) looks.1).0 in let is : entry_word_at sizes core next ≡ found = may.is in
+      let looks : LooksSound sizes core (core.passes by).units (ReturnEntry may.may.0 next may.may.1) = subst (LooksSound sizes core (core.passes by).units) may.may.2 (sound.loaded.looks by) in
+      let k = (entry_is held ((core.passes by).units may.may.0) (entry_word_at sizes core next) looks.1).0 in let is : entry_word_at sizes core next ≡ found = may.is in
       (alike_on (Return next) next (found - 1) n (fresh_ready (found - 1) (omega (arith, k, is)) ∙ sym (fresh_held (entry_word_at sizes core next) k)), refl)
 
   -- a cleaner's: one that is cleaned is of another page, if CLEANUP of the page isn't the cleaner's

@@ -253,7 +253,7 @@ module _ (laws : LogLaws) (sizes : Sizes) (first : Values) (opened : Files) (nam
       (worked_within by work.ending).0 persistent
     where
       told : (part : Part) × IsPart (values_worked (core.passes by) work core.values HEADER) part
-      told = subst (λ v. (part : Part) × IsPart v part) (sym (header_read (core.passes by).pages work.job work.ending (core.passes by).control (with_value core.values work.cell (called work.job work.ending (core.values work.cell)))))
+      told = subst (λ v. (part : Part) × IsPart v part) (sym (header_read (core.passes by).units work.job work.ending (core.passes by).control (with_value core.values work.cell (called work.job work.ending (core.values work.cell)))))
           (by_word (λ w v. (part : Part) × IsPart (core.values w) part → (now : Part) × IsPart v now) core.values work.cell (called work.job work.ending (core.values work.cell))
           (λ was. called_tells work.job work.ending (core.values work.cell) was.0 was.1) (λ w ne was. was) HEADER now_told)
 

@@ -2,7 +2,7 @@
 use Rattle.std.proofs.Common.{◌≡◌, ◌≢◌, ℕ, ◌+◌, ◌==◌, nat_lt, nat_le, ◌^◌, not, ◌&&◌, if◌then◌else◌, List, refl, sym, subst, true, false, inl, inr}
 use Rattle.nv_plain.specs.declared.call.Reply.{Reply}
 use Rattle.nv_core.specs.state.Words.{Sizes, Word, STOP, ORDER, HEAD, TAIL, SIZE, LENGTH, STORE, ENTRY, HINT, PAGE, DIRTY, CLEANUP, ready, is_entry_of, slot_of_entry}
-use Rattle.nv_core.specs.state.Passes.{Control, Idle, LoadLength, TakeSize, LoadStop, LoadOrder, VisitPage, TakeStore, GiveStore, TakeCleanup, Searching, WriteLoadHead, WriteLoadTail, DrawNumbers, SeizeEntry, CommitGroup, PledgePage, ReadyEntry, TakePlace, GrowLength, GiveSize, GivePage, GiveBack, SetStopAfterRead, SetStopAfterCommit, BreakEntry, Pass, is_read, is_write, page_count, first_page, end_page, without, times, IsUnseized, IsFilling, ReadLoadHead, LoadEntry, HoldEntry, ReadPiece, ReturnEntry, GiveCleanup, SetStopAfterPiece, IsHeldEntry, Cleaning}
+use Rattle.nv_core.specs.state.Passes.{Control, Idle, LoadLength, TakeSize, LoadStop, LoadOrder, VisitPage, TakeStore, GiveStore, TakeCleanup, Searching, WriteLoadHead, WriteLoadTail, DrawNumbers, SeizeEntry, CommitGroup, PledgePage, ReadyEntry, TakePlace, GrowLength, GiveSize, GivePage, GiveBack, SetStopAfterRead, SetStopAfterCommit, BreakEntry, Pass, is_read, is_write, page_count, first_page, end_page, without, times, IsUnseized, IsFilling, ReadLoadHead, LoadEntry, HoldEntry, ReadPiece, ReturnEntry, GiveCleanup, SetStopAfterPiece, IsHeldEntry, Cleaning, page_of_unit}
 use Rattle.nv_core.specs.steps.Ops.{Op, Load, Take, Give, Place, Grow, Turn, Hint, Stays, Comes, moved, move_of, cleaner_move, Hold, Return, ByCleaner}
 use Rattle.nv_core.specs.steps.ControlSteps.{control_after, after_load, after_give, leaving, giving, ending, ordered, copying, exceeds, scanning, after_head, after_tail, after_look, after_hold, after_return}
 use Rattle.nv_core.specs.steps.Order.{Values}
@@ -10,7 +10,7 @@ use Rattle.nv_core.specs.steps.StepKinds.{MayLoad, MayTake, MayGive, MayPlace, E
 use Rattle.nv_core.proofs.state.Choices.{if_both, leaving_both, IsGivingBack, gives_back, page_tried}
 use Rattle.nv_core.proofs.steps.CleanerControls.{tended, tended_to}
 use Rattle.nv_core.proofs.state.Changes.{differ}
-use Rattle.nv_core.proofs.steps.SearchLaws.{looked_at, turned_at, hinting_at, hinting_next, hinted_at, tried_at}
+use Rattle.nv_core.proofs.steps.SearchLaws.{looked_at, turned_at, hinting_at, hinting_next, hinted_at, tried_at, clearing_next, hinted_next}
 use Rattle.nv_core.proofs.invariant.LockLaws.{times_else, times_without_else}
 
 abbrev pub IsClear : Control → Type 0
@@ -109,17 +109,17 @@ bare_loads sizes values pass TAIL found may = elim may [
   | inr at ↦ subst (λ s. IsBare (after_tail sizes pass found s)) (sym at.1) (bare_scanning pass at.0 found)
 ]
 bare_loads sizes values pass (ENTRY slot) found may = subst (λ s. IsBare (after_look pass found s)) (sym may.2)
-    (if_both IsBare (is_entry_of ready may.0 found) (HoldEntry may.0 may.1) (scanning pass may.0 (may.1 + 1)) (λ _. tt) (λ _. bare_scanning pass may.0 (may.1 + 1)))
-bare_loads sizes values pass (DIRTY page) found may = if_both IsBare (found == 0) (TakeStore page false) (TakeCleanup page) (λ _. tt) (λ _. tt)
+    (if_both IsBare (is_entry_of ready (pass.units may.0) found) (HoldEntry may.0 may.1) (scanning pass may.0 (may.1 + 1)) (λ _. tt) (λ _. bare_scanning pass may.0 (may.1 + 1)))
+bare_loads sizes values pass (DIRTY unit) found may = if_both IsBare (found == 0) (TakeStore (page_of_unit sizes pass unit) false) (TakeCleanup (page_of_unit sizes pass unit)) (λ _. tt) (λ _. tt)
 bare_loads sizes values pass (HINT buffer) found may = hinting_next IsBare sizes pass buffer found may tt
 bare_loads sizes values pass word found may = absurd may
 
 bare_takes : (sizes : Sizes) (pass : Pass) (cell : Word) (found : ℕ) → MayTake pass cell → IsBare (control_after sizes pass (Take cell) found)
-bare_takes sizes pass (PAGE page) found may = page_tried IsBare sizes pass page found tt tt (bare_leaving pass.owned) (λ _ _ _. tt) may
+bare_takes sizes pass (PAGE page) found may = page_tried IsBare sizes pass page found tt (λ _. tt) (bare_leaving pass.owned) (λ _ _ _. tt) may
 bare_takes sizes pass (SIZE file) found may = if_both IsBare (found == 0) LoadLength (leaving pass.owned) (λ _. tt) (λ _. bare_leaving pass.owned)
 bare_takes sizes pass (STORE file) found may = if_both IsBare (found == 0) (copying pass.control) (leaving pass.owned)
     (λ _. subst (λ s. IsBare (copying s)) (sym may.2) tt) (λ _. bare_leaving pass.owned)
-bare_takes sizes pass (CLEANUP page) found may = if_both IsBare (found == 0) (TakeStore page true) (leaving pass.owned) (λ _. tt) (λ _. bare_leaving pass.owned)
+bare_takes sizes pass (CLEANUP unit) found may = clearing_next IsBare sizes pass unit found may (if_both IsBare (found == 0) (TakeStore may.0 true) (leaving pass.owned) (λ _. tt) (λ _. bare_leaving pass.owned))
 bare_takes sizes pass cell found may = absurd may
 
 bare_gives : (sizes : Sizes) (pass : Pass) (cell : Word) (control : Control) → IsGivingBack control → IsBare (after_give sizes pass cell control)
@@ -139,7 +139,7 @@ bare_to sizes values pass (Place reply) found still may =
     if_both IsBare (is_write pass.call && exceeds pass pass.length) GrowLength (ending sizes pass) (λ _. tt) (λ _. bare_ending sizes pass)
 bare_to sizes values pass Grow found still may = bare_ending sizes pass
 bare_to sizes values pass (Turn page) found still may = tt
-bare_to sizes values pass (Hint buffer page) found still may = tt
+bare_to sizes values pass (Hint buffer unit) found still may = hinted_next IsBare values pass buffer unit may tt
 bare_to sizes values pass op found still may = absurd still
 
 -- and before
@@ -165,15 +165,15 @@ bare_load sizes values pass ORDER may = subst IsBare (sym may) tt
 bare_load sizes values pass HEAD may = elim may [ inl at ↦ subst IsBare (sym at) tt | inr at ↦ subst IsBare (sym at.1) tt ]
 bare_load sizes values pass TAIL may = elim may [ inl at ↦ subst IsBare (sym at) tt | inr at ↦ subst IsBare (sym at.1) tt ]
 bare_load sizes values pass (ENTRY slot) may = subst IsBare (sym may.2) tt
-bare_load sizes values pass (DIRTY page) may = looked_at IsBare sizes values pass page (λ _. tt) (λ _ _. tt) may
+bare_load sizes values pass (DIRTY unit) may = looked_at IsBare sizes values pass may.0 (λ _. tt) (λ _ _. tt) may.1
 bare_load sizes values pass (HINT buffer) may = hinting_at IsBare pass buffer (λ _ _. tt) may
 bare_load sizes values pass word may = absurd may
 
 bare_take : (pass : Pass) (cell : Word) → MayTake pass cell → IsBare pass.control
-bare_take pass (PAGE page) may = tried_at IsBare pass page tt (λ _ _ _. tt) may
+bare_take pass (PAGE page) may = tried_at IsBare pass page (λ _. tt) (λ _ _ _. tt) may
 bare_take pass (SIZE file) may = subst IsBare (sym may.0) tt
 bare_take pass (STORE file) may = subst IsBare (sym may.2) tt
-bare_take pass (CLEANUP page) may = subst IsBare (sym may) tt
+bare_take pass (CLEANUP unit) may = subst IsBare (sym may.1) tt
 bare_take pass cell may = absurd may
 
 pub bare_from : (sizes : Sizes) (values : Values) (pass : Pass) (op : Op) → IsStill op → EnabledByKind sizes values pass op → IsBare pass.control
@@ -183,7 +183,7 @@ bare_from sizes values pass (Give cell) still may = bare_give pass.control (give
 bare_from sizes values pass (Place reply) still may = bare_place sizes values pass reply pass.control may
 bare_from sizes values pass Grow still may = subst IsBare (sym may) tt
 bare_from sizes values pass (Turn page) still may = turned_at IsBare sizes values pass page (λ _. tt) (λ _ _. tt) may
-bare_from sizes values pass (Hint buffer page) still may = hinted_at IsBare values pass buffer page (λ _. tt) may
+bare_from sizes values pass (Hint buffer page) still may = hinted_at IsBare values pass buffer page (λ _ _. tt) may
 bare_from sizes values pass op still may = absurd still
 
 -- so a plain step goes from clear to clear

@@ -3,8 +3,8 @@ use Rattle.std.proofs.Common.{◌≡◌, ℕ, ◌+◌, ◌≤◌, ◌==◌, nat_
 use Rattle.std.proofs.lemmas.Bool.{true≢false, and_parts, not-true, eqb-false, leb-true, ltb-true, eqb-true}
 use Rattle.nv_plain.specs.Histories.{Answered}
 use Rattle.nv_plain.specs.declared.call.FileCall.{FileCall}
-use Rattle.nv_core.specs.state.Words.{Sizes, Word, STOP, ORDER, HEAD, TAIL, SIZE, LENGTH, STORE, ENTRY, HINT, PAGE, DIRTY, CLEANUP, ready, is_entry_of, slot_of_entry}
-use Rattle.nv_core.specs.state.Passes.{Control, Idle, TakePage, LoadLength, TakeSize, LoadStop, LoadOrder, VisitPage, TakeStore, ReadStore, GiveStore, TakeCleanup, Search, LoadHint, TakeVictim, GiveVictim, VictimGiven, NotFound, Searching, WriteLoadHead, WriteLoadTail, DrawNumbers, SeizeEntry, CommitGroup, PledgePage, ReadyEntry, TakePlace, GrowLength, GiveSize, GivePage, GiveBack, SetStopAfterRead, SetStopAfterCommit, BreakEntry, Pass, is_read, is_write, page_count, first_page, end_page, without, IsAmong, IsAllowed, ReadLoadHead, LoadEntry, HoldEntry, ReadPiece, GiveCleanup, SetStopAfterPiece, Cleaning, plain_call}
+use Rattle.nv_core.specs.state.Words.{Sizes, Word, STOP, ORDER, HEAD, TAIL, SIZE, LENGTH, STORE, ENTRY, HINT, PAGE, DIRTY, CLEANUP, ready, is_entry_of, slot_of_entry, page_total}
+use Rattle.nv_core.specs.state.Passes.{Control, Idle, TakePage, LoadLength, TakeSize, LoadStop, LoadOrder, VisitPage, TakeStore, ReadStore, GiveStore, TakeCleanup, Search, LoadHint, TakeVictim, GiveVictim, VictimGiven, NotFound, Searching, WriteLoadHead, WriteLoadTail, DrawNumbers, SeizeEntry, CommitGroup, PledgePage, ReadyEntry, TakePlace, GrowLength, GiveSize, GivePage, GiveBack, SetStopAfterRead, SetStopAfterCommit, BreakEntry, Pass, is_read, is_write, page_count, first_page, end_page, without, IsAmong, IsAllowed, ReadLoadHead, LoadEntry, HoldEntry, ReadPiece, GiveCleanup, SetStopAfterPiece, Cleaning, plain_call, page_of_unit}
 use Rattle.nv_core.specs.state.Cleaner.{Batch, CleanerControl, TakeHeader, CleanerOp, TakeCleaner}
 use Rattle.nv_core.specs.steps.CleanerSteps.{after_cleaner_op, after_cleaner_work, new_batch}
 use Rattle.nv_core.specs.log.Progress.{HasLoadedTail}
@@ -15,14 +15,15 @@ use Rattle.nv_core.specs.state.Values.{CallEnding, Made, Failed, Refused}
 use Rattle.nv_core.specs.state.Core.{worked, control_worked}
 use Rattle.nv_core.specs.steps.Order.{Values, Work, CallEnabled, CallDue, commit_steps, IsFailing}
 use Rattle.nv_core.specs.steps.StepKinds.{MayLoad, MayTake, IsMiss, JustNow, AfterTries, CleanerEnabled, EnabledByKind}
-use Rattle.nv_core.specs.invariant.ControlFacts.{IsPage, HasDrawn, IsSmall, LogHasRoom, IsElsewhere, FactsAt, CleanerFactsAt, ControlFacts, ReadsPage, has_call}
+use Rattle.nv_core.specs.invariant.ControlFacts.{IsPage, HasDrawn, IsSmall, LogHasRoom, IsElsewhere, FactsAt, CleanerFactsAt, HasTaken, PagesAt, ControlFacts, ReadsPage, has_call}
 use Rattle.nv_core.specs.invariant.CleanerOwnership.{count_in}
 use Rattle.nv_core.proofs.state.Choices.{if_both, when_true, not_both, leaving_both, HasCall, step_idle, IsGivingBack, gives_back}
 use Rattle.nv_core.proofs.steps.CleanerControls.{tended_to, of_cleaner_worked}
 use Rattle.nv_core.proofs.invariant.CleanerControlFacts.{StoodSweeping, cleaner_stands, cleaner_works}
-use Rattle.nv_core.proofs.steps.SearchLaws.{hinting_next, tried_next}
+use Rattle.nv_core.proofs.steps.SearchLaws.{looked_at, hinting_next, tried_next, clearing_next, pledged_next, hinted_next}
 use Rattle.nv_core.proofs.state.PageLaws.{write_pages, read_within}
 use Rattle.nv_core.proofs.invariant.PageSteps.{pages_steps, pages_begin, pages_work}
+use Rattle.nv_core.proofs.invariant.PageLists.{AreApart, found_page}
 
 -- a call on its way out
 out : (sizes : Sizes) (pass : Pass) (owned : List Word) → pass.owned ≡ owned → FactsAt sizes pass (leaving owned)
@@ -55,6 +56,12 @@ pursued_elsewhere pages (GiveVictim buffer victim) is = tt
 pursued_elsewhere pages search is = is
 
 -- ---- the steps
+
+-- the page whose DIRTY is loaded is the one that has this unit
+pub missed_found : (sizes : Sizes) (values : Values) (pass : Pass) (unit : ℕ) → PagesAt sizes pass pass.control → (may : MayLoad sizes values pass (DIRTY unit)) → IsPage sizes pass.call may.0 → page_of_unit sizes pass unit ≡ may.0
+missed_found sizes values pass unit pages may is =
+    ap (page_of_unit sizes pass) may.2
+    ∙ found_page sizes pass.call pass.pages (looked_at (λ s. PagesAt sizes pass s → HasTaken sizes pass.call pass.units pass.pages (page_count sizes pass.call)) sizes values pass may.0 (λ _ has. has) (λ _ _ has. has) may.1 pages) may.0 is
 
 loads : (sizes : Sizes) (values : Values) (pass : Pass) (word : Word) (found number : ℕ) (history : List Answered) → ControlFacts sizes pass → MayLoad sizes values pass word
     → FactsAt sizes (stepped sizes number history (Load word) found pass) (after_load sizes pass word found)
@@ -92,10 +99,13 @@ loads sizes values pass (ENTRY slot) found number history stands may =
     let now = stepped sizes number history (Load (ENTRY slot)) found pass in
     let at : ReadsPage sizes pass may.0 × (may.1 < pass.head) = subst (FactsAt sizes pass) may.2 stands.at in
     subst (λ s. FactsAt sizes now (after_look pass found s)) (sym may.2)
-    (if_both (FactsAt sizes now) (is_entry_of ready may.0 found) (HoldEntry may.0 may.1) (scanning pass may.0 (may.1 + 1)) (λ _. at) (λ _. scans sizes pass now may.0 (may.1 + 1) refl at.0))
-loads sizes values pass (DIRTY page) found number history stands may =
-    let here = missed_page sizes values pass page may.tries stands.at may.miss in
-    if_both (FactsAt sizes (stepped sizes number history (Load (DIRTY page)) found pass)) (found == 0) (TakeStore page false) (TakeCleanup page) (λ _. here) (λ _. here)
+    (if_both (FactsAt sizes now) (is_entry_of ready (pass.units may.0) found) (HoldEntry may.0 may.1) (scanning pass may.0 (may.1 + 1)) (λ _. at) (λ _. scans sizes pass now may.0 (may.1 + 1) refl at.0))
+loads sizes values pass (DIRTY unit) found number history stands may =
+    let now = stepped sizes number history (Load (DIRTY unit)) found pass in
+    let here : ReadsPage sizes pass may.0 = missed_page sizes values pass may.0 may.1.tries stands.at may.1.miss in
+    let same = missed_found sizes values pass unit stands.pages may here.1 in
+    subst (λ page. FactsAt sizes now (if found == 0 then TakeStore page false else TakeCleanup page)) (sym same)
+    (if_both (FactsAt sizes now) (found == 0) (TakeStore may.0 false) (TakeCleanup may.0) (λ _. here) (λ _. here))
 loads sizes values pass (HINT buffer) found number history stands may =
     let at : FactsAt sizes pass (Searching may.page may.tries (LoadHint buffer)) = subst (FactsAt sizes pass) may.is stands.at in
     hinting_next (FactsAt sizes (stepped sizes number history (Load (HINT buffer)) found pass)) sizes pass buffer found may (
@@ -113,17 +123,17 @@ missed sizes pass cell found number history e =
 
 takes : (sizes : Sizes) (pass : Pass) (cell : Word) (found number : ℕ) (history : List Answered) → ControlFacts sizes pass → MayTake pass cell
     → FactsAt sizes (stepped sizes number history (Take cell) found pass) (control_after sizes pass (Take cell) found)
-takes sizes pass (PAGE page) found number history stands may =
-    let now = stepped sizes number history (Take (PAGE page)) found pass in
-    tried_next (FactsAt sizes now) sizes pass page found
-    (λ is. let at : IsPage sizes pass.call page × (pass.sized ≡ false) = subst (FactsAt sizes pass) is stands.at in
+takes sizes pass (PAGE unit) found number history stands may =
+    let now = stepped sizes number history (Take (PAGE unit)) found pass in
+    tried_next (FactsAt sizes now) sizes pass unit found
+    (λ page is _. let at : IsPage sizes pass.call page × (pass.sized ≡ false) = subst (FactsAt sizes pass) is stands.at in
     if_both (FactsAt sizes now) (found == 0) (if page + 1 == end_page sizes pass.call then LoadLength else TakePage (page + 1)) (leaving pass.owned)
     (λ e. if_both (FactsAt sizes now) (page + 1 == end_page sizes pass.call) LoadLength (TakePage (page + 1)) (λ _. tt)
     (λ last. let ne = eqb-false (page + 1) (end_page sizes pass.call) last in let from = at.0.0 in let to = at.0.1 in
     let within : IsPage sizes pass.call (page + 1) = (omega arith, omega arith) in (within, at.1)))
-    (missed sizes pass (PAGE page) found number history))
-    (λ s. let at : FactsAt sizes pass (Searching s.page s.tries (TakeVictim s.buffer page)) = subst (FactsAt sizes pass) s.is stands.at in
-    if_both (FactsAt sizes now) (found == 0) (Searching s.page s.tries (GiveVictim s.buffer page)) (Searching s.page s.tries NotFound) (λ _. (at.0, at.1, ap (λ c. count_in (pages_after pass (Take (PAGE page)) found c) page) s.is ∙ at.2)) (λ _. (at.0, at.1, tt)))
+    (missed sizes pass (PAGE unit) found number history))
+    (λ s. let at : FactsAt sizes pass (Searching s.page s.tries (TakeVictim s.buffer unit)) = subst (FactsAt sizes pass) s.is stands.at in
+    if_both (FactsAt sizes now) (found == 0) (Searching s.page s.tries (GiveVictim s.buffer unit)) (Searching s.page s.tries NotFound) (λ _. (at.0, at.1, ap (λ c. count_in (pages_after pass (Take (PAGE unit)) found c) unit) s.is ∙ at.2)) (λ _. (at.0, at.1, tt)))
     may
 takes sizes pass (SIZE file) found number history stands may =
     if_both (FactsAt sizes (stepped sizes number history (Take (SIZE file)) found pass)) (found == 0) LoadLength (leaving pass.owned) (λ e. tt) (missed sizes pass (SIZE file) found number history)
@@ -133,9 +143,11 @@ takes sizes pass (STORE file) found number history stands may =
     if_both (FactsAt sizes now) (found == 0) (copying pass.control) (leaving pass.owned)
     (λ e. subst (λ s. FactsAt sizes now (copying s)) (sym may.2) at)
     (missed sizes pass (STORE file) found number history)
-takes sizes pass (CLEANUP page) found number history stands may =
-    if_both (FactsAt sizes (stepped sizes number history (Take (CLEANUP page)) found pass)) (found == 0) (TakeStore page true) (leaving pass.owned)
-    (λ _. subst (FactsAt sizes pass) may stands.at) (missed sizes pass (CLEANUP page) found number history)
+takes sizes pass (CLEANUP unit) found number history stands may =
+    let now = stepped sizes number history (Take (CLEANUP unit)) found pass in
+    clearing_next (FactsAt sizes now) sizes pass unit found may
+    (if_both (FactsAt sizes now) (found == 0) (TakeStore may.0 true) (leaving pass.owned)
+    (λ _. subst (FactsAt sizes pass) may.1 stands.at) (missed sizes pass (CLEANUP unit) found number history))
 takes sizes pass cell found number history stands may = absurd may
 
 gives_at : (sizes : Sizes) (pass : Pass) (cell : Word) (found number : ℕ) (history : List Answered) (control : Control) → FactsAt sizes pass control → IsGivingBack control
@@ -215,10 +227,12 @@ steps sizes values pass (Seize next) found number history stands tail_loaded may
     let drawn = at.0 in
     if_both (FactsAt sizes (stepped sizes number history (Seize next) found pass)) (next + 1 == pass.first + pass.entries) (CommitGroup 0) (SeizeEntry (next + 1))
     (λ e. drawn) (λ e. (drawn, next_among pass.first pass.entries next at.1 e))
-steps sizes values pass (Pledge page) found number history stands tail_loaded may =
-    let at : HasDrawn sizes pass.call pass.entries × IsPage sizes pass.call page = subst (FactsAt sizes pass) may stands.at in
+steps sizes values pass (Pledge unit) found number history stands tail_loaded may =
+    let page = may.0 in
+    let at : HasDrawn sizes pass.call pass.entries × IsPage sizes pass.call page = subst (FactsAt sizes pass) may.1 stands.at in
     let drawn = at.0 in
-    if_both (FactsAt sizes (stepped sizes number history (Pledge page) found pass)) (page + 1 == end_page sizes pass.call)
+    pledged_next (FactsAt sizes (stepped sizes number history (Pledge unit) found pass)) sizes pass page may.1
+    (if_both (FactsAt sizes (stepped sizes number history (Pledge unit) found pass)) (page + 1 == end_page sizes pass.call)
     (ReadyEntry (if pass.entries == 1 then pass.first else pass.first + 1)) (PledgePage (page + 1))
     (λ e. (
       drawn,
@@ -226,7 +240,7 @@ steps sizes values pass (Pledge page) found number history stands tail_loaded ma
           (λ one. let ne = eqb-false pass.entries 1 one in let some = at.0.some in (omega arith, omega arith)),
     ))
     (λ last. let ne = eqb-false (page + 1) (end_page sizes pass.call) last in let from = at.1.0 in let to = at.1.1 in
-    let within : IsPage sizes pass.call (page + 1) = (omega arith, omega arith) in (drawn, within))
+    let within : IsPage sizes pass.call (page + 1) = (omega arith, omega arith) in (drawn, within)))
 steps sizes values pass (Ready next) found number history stands tail_loaded may =
     let at : HasDrawn sizes pass.call pass.entries × IsAmong pass.first pass.entries next = subst (FactsAt sizes pass) may stands.at in
     let drawn = at.0 in
@@ -254,8 +268,9 @@ steps sizes values pass (Return next) found number history stands tail_loaded ma
     (if_both (FactsAt sizes now) may.1 (leaving (without (ENTRY (slot_of_entry sizes next)) pass.owned)) (scanning pass may.0 (next + 1))
     (λ _. out sizes now (without (ENTRY (slot_of_entry sizes next)) pass.owned) refl) (λ _. scans sizes pass now may.0 (next + 1) refl at.0))
 steps sizes values pass (Turn page) found number history stands tail_loaded may = let at = missed_page sizes values pass page may.tries stands.at may.miss in (at.0, at.1, tt)
-steps sizes values pass (Hint buffer page) found number history stands tail_loaded may =
-    let at : FactsAt sizes pass (Searching page may.tries (VictimGiven buffer)) = subst (FactsAt sizes pass) may.is stands.at in (at.0, at.1, tt)
+steps sizes values pass (Hint buffer unit) found number history stands tail_loaded may =
+    let at : FactsAt sizes pass (Searching may.page may.tries (VictimGiven buffer)) = subst (FactsAt sizes pass) may.is stands.at in
+    hinted_next (FactsAt sizes (stepped sizes number history (Hint buffer unit) found pass)) values pass buffer unit may (at.0, at.1, tt)
 steps sizes values pass (ByCleaner cleaner_op) found number history stands tail_loaded may = by_cleaner sizes pass (stepped sizes number history (ByCleaner cleaner_op) found pass) cleaner_op found pass.control stands.at tail_loaded may
 steps sizes values pass op found number history stands tail_loaded may = absurd may
 
@@ -268,22 +283,24 @@ called_before sizes values pass op found may = from op may (step_idle sizes valu
         absurd (not_both now (tended_to (λ s. has_call s ≡ false) refl (λ batch inner. refl) sizes pass (moved (cleaner_move sizes cleaner_op found) pass.owned) cleaner_op found pass.control may))
     from op may has now = has
 
-pub control_facts_steps : (sizes : Sizes) (values : Values) (pass : Pass) (op : Op) (found number : ℕ) (history : List Answered) → ControlFacts sizes pass → IsTailLoaded pass.control → EnabledByKind sizes values pass op
+pub control_facts_steps : (sizes : Sizes) (values : Values) (pass : Pass) (op : Op) (found number : ℕ) (history : List Answered) → AreApart pass.units → ControlFacts sizes pass → IsTailLoaded pass.control → EnabledByKind sizes values pass op
     → ControlFacts sizes (stepped sizes number history op found pass)
-control_facts_steps sizes values pass op found number history stands tail_loaded may = record {
+control_facts_steps sizes values pass op found number history apart stands tail_loaded may = record {
   at = steps sizes values pass op found number history stands tail_loaded may;
-  pages = pages_steps sizes values pass op found number history stands.at stands.pages may;
+  pages = pages_steps sizes values pass op found number history apart stands.at stands.pages may;
   allowed = λ now. stands.allowed (called_before sizes values pass op found may now);
+  within = stands.within;
 }
 
 -- ---- a call that begins
 
-pub control_facts_begins : (sizes : Sizes) (call : FileCall) (pass : Pass) → IsAllowed sizes (plain_call call) → ControlFacts sizes (begun sizes call pass)
-control_facts_begins sizes call pass allowed = record {
+pub control_facts_begins : (sizes : Sizes) (call : FileCall) (pass : Pass) → IsAllowed sizes (plain_call call) → ((page : ℕ) → page < page_total sizes → pass.units page < page_total sizes) → ControlFacts sizes (begun sizes call pass)
+control_facts_begins sizes call pass allowed within = record {
   at = if_both (FactsAt sizes (begun sizes call pass)) (page_count sizes (plain_call call) == 0) LoadStop (TakePage (first_page sizes (plain_call call))) (λ e. tt)
       (λ e. let ne = eqb-false (page_count sizes (plain_call call)) 0 e in let within : IsPage sizes (plain_call call) (first_page sizes (plain_call call)) = (omega arith, omega arith) in (within, refl));
   pages = pages_begin sizes call pass;
   allowed = λ _. allowed;
+  within = within;
 }
 
 -- ---- device calls
@@ -327,4 +344,5 @@ control_facts_works sizes values pass work stands may = record {
   at = works sizes values pass work pass.control work.ending stands.at may.due;
   pages = pages_work sizes values pass work pass.control work.ending stands.pages may.due;
   allowed = λ now. stands.allowed (uncalled_work sizes values pass work pass.control work.ending may.due now);
+  within = stands.within;
 }

@@ -23,6 +23,7 @@ use Rattle.nv_core.proofs.invariant.ControlFactLaws.{worked_control}
 use Rattle.nv_core.proofs.steps.CleanerControls.{of_cleaner_worked}
 use Rattle.nv_core.proofs.log.KeepsGroups.{is_draw}
 use Rattle.nv_core.proofs.log.KeepsInFlight.{flew, is_place, not_placing, not_ending}
+use Rattle.nv_core.proofs.steps.SearchLaws.{pledged_next}
 
 -- ---- what calls draw
 
@@ -121,9 +122,9 @@ module _ (sizes : Sizes) (values : Values) (pass : Pass) (found : ℕ) where
   seized number at = drawn_kept (SeizeEntry number) _ at refl
       (if_both (λ s. open_entries sizes pass.call s ≡ entries_of sizes pass.call) (number + 1 == pass.first + pass.entries) (CommitGroup 0) (SeizeEntry (number + 1)) (λ _. refl) (λ _. refl))
 
-  pledged : (page : ℕ) → pass.control ≡ PledgePage page → open_entries sizes pass.call (control_after sizes pass (Pledge page) found) ≡ open_entries sizes pass.call pass.control
-  pledged page at = drawn_kept (PledgePage page) _ at refl
-      (if_both (λ s. open_entries sizes pass.call s ≡ entries_of sizes pass.call) (page + 1 == end_page sizes pass.call) (ReadyEntry (if pass.entries == 1 then pass.first else pass.first + 1)) (PledgePage (page + 1)) (λ _. refl) (λ _. refl))
+  pledged : (unit page : ℕ) → pass.control ≡ PledgePage page → open_entries sizes pass.call (control_after sizes pass (Pledge unit) found) ≡ open_entries sizes pass.call pass.control
+  pledged unit page at = drawn_kept (PledgePage page) _ at refl
+      (pledged_next (λ s. open_entries sizes pass.call s ≡ entries_of sizes pass.call) sizes pass page at (if_both (λ s. open_entries sizes pass.call s ≡ entries_of sizes pass.call) (page + 1 == end_page sizes pass.call) (ReadyEntry (if pass.entries == 1 then pass.first else pass.first + 1)) (PledgePage (page + 1)) (λ _. refl) (λ _. refl)))
 
   readied : (number : ℕ) → pass.control ≡ ReadyEntry number → open_entries sizes pass.call (control_after sizes pass (Ready number) found) ≡ open_entries sizes pass.call pass.control
   readied number at = drawn_kept (ReadyEntry number) _ at refl
@@ -140,7 +141,7 @@ module _ (sizes : Sizes) (values : Values) (pass : Pass) (found : ℕ) where
   open_kept Draw no_place no_draw ne may = absurd (not_both refl no_draw)
   open_kept Stop no_place no_draw ne may = absurd (ne refl)
   open_kept (Seize number) no_place no_draw ne may = seized number may
-  open_kept (Pledge page) no_place no_draw ne may = pledged page may
+  open_kept (Pledge unit) no_place no_draw ne may = pledged unit may.0 may.1
   open_kept (Ready number) no_place no_draw ne may = readied number may
   open_kept (Break number) no_place no_draw ne may = broken_kept number may
   open_kept (Load word) no_place no_draw ne may = plain_kept (Load word) tt refl refl may

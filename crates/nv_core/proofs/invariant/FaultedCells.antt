@@ -45,7 +45,7 @@ before_load sizes values pass ORDER found other may is = at LoadOrder may tt
 before_load sizes values pass HEAD found other may is = elim may [ inl here ↦ at WriteLoadHead here tt | inr here ↦ at (ReadLoadHead here.0) here.1 tt ]
 before_load sizes values pass TAIL found other may is = elim may [ inl here ↦ at WriteLoadTail here tt | inr here ↦ at (ReadLoadTail here.0) here.1 tt ]
 before_load sizes values pass (ENTRY slot) found other may is = at (LoadEntry may.0 may.1) may.2 tt
-before_load sizes values pass (DIRTY page) found other may is = looked_at HasChecked sizes values pass page (λ _. tt) (λ _ _. tt) may
+before_load sizes values pass (DIRTY unit) found other may is = looked_at HasChecked sizes values pass may.0 (λ _. tt) (λ _ _. tt) may.1
 before_load sizes values pass (HINT buffer) found other may is = hinting_at HasChecked pass buffer (λ _ _. tt) may
 before_load sizes values pass (LENGTH file) found other may is = absurd (if_both (λ s. HasChecked s → ⊥) (exceeds pass found && not pass.sized) TakeSize LoadStop (λ _ z. z) (λ _ z. z) is)
 before_load sizes values pass word found other may is = absurd may
@@ -64,10 +64,10 @@ own_size pass found = if_both (λ s. HasChecked s → ⊥) (found == 0) LoadLeng
 
 before_take : (sizes : Sizes) (pass : Pass) (cell : Word) (found : ℕ) → MayTake pass cell → HasChecked (control_after sizes pass (Take cell) found) → HasChecked pass.control
 before_take sizes pass (PAGE page) found may is = tried_next (λ s. HasChecked s → HasChecked pass.control) sizes pass page found
-    (λ _ is. absurd (own_page sizes pass page found is)) (λ s is. at (Searching s.page s.tries (TakeVictim s.buffer page)) s.is tt) may is
+    (λ own _ _ is. absurd (own_page sizes pass own found is)) (λ s is. at (Searching s.page s.tries (TakeVictim s.buffer page)) s.is tt) may is
 before_take sizes pass (SIZE file) found may is = absurd (own_size pass found is)
 before_take sizes pass (STORE file) found may is = at (TakeStore may.0 may.1) may.2 tt
-before_take sizes pass (CLEANUP page) found may is = at (TakeCleanup page) may tt
+before_take sizes pass (CLEANUP unit) found may is = at (TakeCleanup may.0) may.1 tt
 before_take sizes pass cell found may is = absurd may
 
 before_give : (sizes : Sizes) (pass : Pass) (cell : Word) (control : Control) → IsGivingBack control → HasChecked (after_give sizes pass cell control) → HasChecked control
@@ -102,7 +102,7 @@ before sizes values pass found (Place reply) other may is = before_place sizes v
 before sizes values pass found Stop other may is = absurd (unstopped pass pass.control may is)
 before sizes values pass found Draw other may is = at DrawNumbers may tt
 before sizes values pass found (Seize next) other may is = at (SeizeEntry next) may tt
-before sizes values pass found (Pledge page) other may is = at (PledgePage page) may tt
+before sizes values pass found (Pledge unit) other may is = at (PledgePage may.0) may.1 tt
 before sizes values pass found (Ready next) other may is = at (ReadyEntry next) may tt
 before sizes values pass found Grow other may is = at GrowLength may tt
 before sizes values pass found (Break next) other may is = absurd (if_both (λ s. HasChecked s → ⊥) (next + 1 == pass.first + pass.entries) (leaving (without (ENTRY (slot_of_entry sizes next)) pass.owned)) (BreakEntry (next + 1))
@@ -114,7 +114,7 @@ before sizes values pass found (Return next) other may is = go may.1 may.2 (subs
     go true here is = absurd (unchecked (without (ENTRY (slot_of_entry sizes next)) pass.owned) is)
     go false here is = at (ReturnEntry may.0 next false) here tt
 before sizes values pass found (Turn page) other may is = turned_at HasChecked sizes values pass page (λ _. tt) (λ _ _. tt) may
-before sizes values pass found (Hint buffer page) other may is = hinted_at HasChecked values pass buffer page (λ _. tt) may
+before sizes values pass found (Hint buffer page) other may is = hinted_at HasChecked values pass buffer page (λ _ _. tt) may
 before sizes values pass found (ByCleaner cleaner_op) other may is = absurd (tended_unchecked sizes pass cleaner_op found may is)
 before sizes values pass found op other may is = absurd may
 
@@ -145,7 +145,7 @@ missed_none : (sizes : Sizes) (values : Values) (pass : Pass) (page tries : ℕ)
 missed_none sizes values pass page tries (JustNow from miss none) = robs_none (VisitPage from) miss.control (λ _. refl)
 missed_none sizes values pass page tries (AfterTries search is over) = robs_none (Searching page tries search) is (go search over)
   where
-    go : (search : Search) → IsTryOver (values (PAGE page)) search → RobsNone (Searching page tries search)
+    go : (search : Search) → IsTryOver (values (PAGE (pass.units page))) search → RobsNone (Searching page tries search)
     go (VictimGiven buffer) over = λ _. refl
     go NotFound over = λ _. refl
     go HintSet over = λ _. refl
@@ -158,15 +158,15 @@ load_none sizes values pass ORDER may = robs_none LoadOrder may (λ _. refl)
 load_none sizes values pass HEAD may = elim may [ inl here ↦ robs_none WriteLoadHead here (λ _. refl) | inr here ↦ robs_none (ReadLoadHead here.0) here.1 (λ _. refl) ]
 load_none sizes values pass TAIL may = elim may [ inl here ↦ robs_none WriteLoadTail here (λ _. refl) | inr here ↦ robs_none (ReadLoadTail here.0) here.1 (λ _. refl) ]
 load_none sizes values pass (ENTRY slot) may = robs_none (LoadEntry may.0 may.1) may.2 (λ _. refl)
-load_none sizes values pass (DIRTY page) may = missed_none sizes values pass page may.tries may.miss
+load_none sizes values pass (DIRTY unit) may = missed_none sizes values pass may.0 may.1.tries may.1.miss
 load_none sizes values pass (HINT buffer) may = robs_none (Searching may.page may.tries (LoadHint buffer)) may.is (λ _. refl)
 load_none sizes values pass word may = absurd may
 
 take_none : (pass : Pass) (cell : Word) → MayTake pass cell → RobsNone pass.control
-take_none pass (PAGE page) may = tried_at RobsNone pass page (λ _. refl) (λ _ _ _ _. refl) may
+take_none pass (PAGE page) may = tried_at RobsNone pass page (λ _ _. refl) (λ _ _ _ _. refl) may
 take_none pass (SIZE file) may = robs_none TakeSize may.0 (λ _. refl)
 take_none pass (STORE file) may = robs_none (TakeStore may.0 may.1) may.2 (λ _. refl)
-take_none pass (CLEANUP page) may = robs_none (TakeCleanup page) may (λ _. refl)
+take_none pass (CLEANUP unit) may = robs_none (TakeCleanup may.0) may.1 (λ _. refl)
 take_none pass cell may = absurd may
 
 place_none : (sizes : Sizes) (values : Values) (pass : Pass) (reply : Reply) (control : Control) → MayPlace sizes values pass reply control → RobsNone control
@@ -188,14 +188,14 @@ step_none sizes values pass (Place reply) still may = place_none sizes values pa
 step_none sizes values pass Stop still may = fail_none pass.control may
 step_none sizes values pass Draw still may = robs_none DrawNumbers may (λ _. refl)
 step_none sizes values pass (Seize next) still may = robs_none (SeizeEntry next) may (λ _. refl)
-step_none sizes values pass (Pledge page) still may = robs_none (PledgePage page) may (λ _. refl)
+step_none sizes values pass (Pledge page) still may = robs_none (PledgePage may.0) may.1 (λ _. refl)
 step_none sizes values pass (Ready next) still may = robs_none (ReadyEntry next) may (λ _. refl)
 step_none sizes values pass Grow still may = robs_none GrowLength may (λ _. refl)
 step_none sizes values pass (Break next) still may = robs_none (BreakEntry next) may (λ _. refl)
 step_none sizes values pass (Hold next) still may = robs_none (HoldEntry may.0 next) may.1 (λ _. refl)
 step_none sizes values pass (Return next) still may = robs_none (ReturnEntry may.0 next may.1) may.2 (λ _. refl)
 step_none sizes values pass (Turn page) still may = missed_none sizes values pass page may.tries may.miss
-step_none sizes values pass (Hint buffer page) still may = robs_none (Searching page may.tries (VictimGiven buffer)) may.is (λ _. refl)
+step_none sizes values pass (Hint buffer page) still may = robs_none (Searching may.page may.tries (VictimGiven buffer)) may.is (λ _. refl)
 step_none sizes values pass (ByCleaner cleaner_op) still may = tended (λ _ s. RobsNone s) sizes pass cleaner_op pass.control may (λ _ _. refl) (λ _ _ _ _. refl)
 step_none sizes values pass op still may = absurd may
 
@@ -248,7 +248,7 @@ taken_more : (sizes : Sizes) (pass : Pass) (cell other : Word) (found : ℕ) →
     → times cell (moved (if found == 0 then Comes other else Stays) pass.owned) ≤ times cell pass.owned + lent (control_after sizes pass (Take other) found) cell
 taken_more sizes pass cell (PAGE page) found early may past =
     tried_next (λ s. times cell (moved (if found == 0 then Comes (PAGE page) else Stays) pass.owned) ≤ times cell pass.owned + lent s cell) sizes pass page found
-    (λ at. absurd (past (subst IsAtLocks (sym at) tt))) (λ s. victim s.page s.tries s.buffer (found == 0)) may
+    (λ _ at _. absurd (past (subst IsAtLocks (sym at) tt))) (λ s. victim s.page s.tries s.buffer (found == 0)) may
   where
     one_more : (missed tries buffer : ℕ) (cell : Word) → times cell (PAGE page ∷ pass.owned) ≤ times cell pass.owned + lent (Searching missed tries (GiveVictim buffer page)) cell
     one_more missed tries buffer (PAGE own) = omega arith

@@ -33,6 +33,7 @@ use Rattle.nv_core.proofs.log.RowParts.{row_within}
 use Rattle.nv_core.proofs.invariant.ControlFactLaws.{worked_control}
 use Rattle.nv_core.proofs.steps.CleanerControls.{of_cleaner_worked}
 use Rattle.nv_core.proofs.log.WrittenLaws.{part_stepped, part_worked, value_called, value_not_called, value_peeked, value_not_peeked}
+use Rattle.nv_core.proofs.steps.SearchLaws.{pledged_next}
 
 -- ---- what may be said
 
@@ -115,13 +116,19 @@ module _ (Says : Saying) (stay : StepsKeep Says) (sizes : Sizes) (first : Values
   none_here : (op : Op) → IsClear (now op).control → AreSaidAfter Says sizes by core found op
   none_here op clear number is = absurd (clear_filling (now op).control (now op).first (now op).entries number clear is)
 
-  pledges : (page : ℕ) → FoundEnabledByKind sizes by core (Pledge page) found → AreSaidAfter Says sizes by core found (Pledge page)
-  pledges page may number is =
-      if_both (λ s. IsFilling s pass.first pass.entries number → Says (now (Pledge page)) s number (part number))
+  pledges : (unit : ℕ) → FoundEnabledByKind sizes by core (Pledge unit) found → AreSaidAfter Says sizes by core found (Pledge unit)
+  pledges unit may = pledged_next (λ s. (number : ℕ) → IsFilling s pass.first pass.entries number → Says (now (Pledge unit)) s number (part number)) sizes pass page at
+      (λ number is. if_both (λ s. IsFilling s pass.first pass.entries number → Says (now (Pledge unit)) s number (part number))
       (page + 1 == end_page sizes pass.call) (ReadyEntry to) (PledgePage (page + 1))
-      (λ _ is. stay.all_pledged pass (now (Pledge page)) page to number (part number) (was_said Says sizes core said by number (PledgePage page) may.may (among number (subst (FactsAt sizes pass) may.may (sound.control_facts by).at).0 to is)))
-      (λ _ is. stay.pledged pass (now (Pledge page)) page (page + 1) number (part number) (was_said Says sizes core said by number (PledgePage page) may.may is)) is
+      (λ _ is. stay.all_pledged pass (now (Pledge unit)) page to number (part number) (was_said Says sizes core said by number (PledgePage page) at (among number (subst (FactsAt sizes pass) at (sound.control_facts by).at).0 to is)))
+      (λ _ is. stay.pledged pass (now (Pledge unit)) page (page + 1) number (part number) (was_said Says sizes core said by number (PledgePage page) at is)) is)
     where
+      page : ℕ
+      page = may.may.0
+
+      at : pass.control ≡ PledgePage page
+      at = may.may.1
+
       to : ℕ
       to = if pass.entries == 1 then pass.first else pass.first + 1
 

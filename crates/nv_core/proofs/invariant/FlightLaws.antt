@@ -31,7 +31,6 @@ use Rattle.nv_core.proofs.log.LiveLaws.{writes_apart}
 use Rattle.nv_core.proofs.state.PageLaws.{write_pages}
 use Rattle.nv_core.proofs.content.PatchSteps.{word_page}
 use Rattle.nv_core.proofs.invariant.ForbiddenStepLaws.{no_two_writes_of_a_page}
-use Rattle.nv_core.proofs.invariant.IndexLaws.{stands_for}
 
 -- ---- a pass that has one
 
@@ -55,11 +54,11 @@ no_victim : (page : ℕ) (control : Control) → IsInFlight control → victim_h
 no_victim page = in_flight_at (λ s. victim_held s page ≡ 0) (λ n. refl) (λ n. refl) (λ n. refl) (λ n. refl) refl refl
 
 -- it holds its pages
-holds : (sizes : Sizes) (pass : Pass) (page : ℕ) → IsPage sizes pass.call page → (control : Control) → IsInFlight control → PagesAt sizes pass control → HoldsLocks sizes pass control → times (PAGE page) pass.owned ≡ 1
-holds sizes pass page on = in_flight_at (λ s. PagesAt sizes pass s → HoldsLocks sizes pass s → times (PAGE page) pass.owned ≡ 1) (λ n. page_at) (λ n. page_at) (λ n. page_at) (λ n. page_at) page_at page_at
+holds : (sizes : Sizes) (pass : Pass) (page : ℕ) → IsPage sizes pass.call page → (control : Control) → IsInFlight control → PagesAt sizes pass control → HoldsLocks sizes pass control → times (PAGE (pass.units page)) pass.owned ≡ 1
+holds sizes pass page on = in_flight_at (λ s. PagesAt sizes pass s → HoldsLocks sizes pass s → times (PAGE (pass.units page)) pass.owned ≡ 1) (λ n. page_at) (λ n. page_at) (λ n. page_at) (λ n. page_at) page_at page_at
   where
-    page_at : PagesAt sizes pass TakePlace → HoldsLocks sizes pass TakePlace → times (PAGE page) pass.owned ≡ 1
-    page_at pages held = holds_page sizes pass page pages on (held (PAGE page) (λ slot. differ (PAGE page) (ENTRY slot) refl))
+    page_at : PagesAt sizes pass TakePlace → HoldsLocks sizes pass TakePlace → times (PAGE (pass.units page)) pass.owned ≡ 1
+    page_at pages held = holds_page sizes pass page pages on (held (PAGE (pass.units page)) (λ slot. differ (PAGE (pass.units page)) (ENTRY slot) refl))
 
 -- a write that isn't about to be ended by a fault
 flies : (pass : Pass) → is_write pass.call ≡ true → (control : Control) → IsInFlight control → IsFlying pass control ⊎ (control ≡ SetStopAfterCommit)
@@ -71,8 +70,9 @@ module _ (sizes : Sizes) (first : Values) (core : Core) (sound : Sound sizes fir
   -- one at hand touches no page of one that a fault ended, and makes no file longer that such a one was to
   beside_page : (by other page : ℕ) (more : Fault) → IsInFlight (core.passes by).control → IsPage sizes (core.passes by).call page → IsOneOf (core.passes other).faulted more → IsPage sizes more.call page → ⊥
   beside_page by other page more flight on is there =
-      let most = sound.broken.pages other by page more is (stands_for sizes core sound.index more.call page there) (checked (core.passes by).control flight) in
-      let none = no_victim page (core.passes by).control flight in
+      let unit = (core.passes by).units page in
+      let most = sound.broken.pages other by unit more is (subst (IsPage sizes more.call) (sym (sound.index.known by page)) there) (checked (core.passes by).control flight) in
+      let none = no_victim unit (core.passes by).control flight in
       let one = holds sizes (core.passes by) page on (core.passes by).control flight (sound.control_facts by).pages (sound.ownership by).locks in omega (arith, most, none, one)
 
   beside_length : (by other : ℕ) (more : Fault) → IsInFlight (core.passes by).control → IsExtending (fault_of (core.passes by)) → IsOneOf (core.passes other).faulted more → IsExtending more → file_of (core.passes by).call ≡ file_of more.call → ⊥

@@ -2,12 +2,12 @@
 use Rattle.std.proofs.Common.{◌≡◌, ◌≢◌, ◌⊎◌, ℕ, ◌+◌, ◌≤◌, ◌==◌, ◌&&◌, ◌||◌, nat_lt, nat_le, not, Bool, true, false, List, [], ◌∷◌, inl, inr, refl, sym, ap, subst, arith, ◌∙◌}
 use Rattle.std.proofs.lemmas.Bool.{cases_eq, and_from, and_parts, eqb-true, eq-eqb, leb-true, le-leb}
 use Rattle.nv_core.specs.state.Words.{Word, PAGE, ENTRY, CLEANUP, kind_of, ready, is_entry_of, slot_of_entry}
-use Rattle.nv_core.specs.state.Passes.{Control, SeizeEntry, CommitGroup, PledgePage, ReadyEntry, TakePlace, SetStopAfterCommit, IsUnseized, IsFilling, IsAmong, times, GiveBack, Searching, TakeVictim, GiveVictim, Cleaning, pages_of}
+use Rattle.nv_core.specs.state.Passes.{Control, SeizeEntry, CommitGroup, PledgePage, ReadyEntry, TakePlace, SetStopAfterCommit, IsUnseized, IsFilling, IsAmong, times, GiveBack, Searching, TakeVictim, GiveVictim, Cleaning, page_count}
 use Rattle.nv_core.specs.state.Cleaner as cleaner
 use Rattle.nv_core.specs.steps.CleanerSteps.{after_cleaner_op, surveyed, batch_with_page, count_of, may_pass, finishing, withdrawing, syncing, closed, rising_files}
 use Rattle.nv_core.specs.steps.Ops.{Draw, Place, Give, Ready, Grow, Stop, Seize, Hold, Break}
 use Rattle.nv_core.specs.steps.StepKinds.{MayPlace}
-use Rattle.nv_core.specs.invariant.ControlFacts.{FactsAt, HasDrawn, IsPage, PagesAt}
+use Rattle.nv_core.specs.invariant.ControlFacts.{FactsAt, HasDrawn, IsPage, PagesAt, HasTaken}
 use Rattle.nv_core.specs.invariant.Ownership.{HoldsLocks, lock_held, cleanup_held}
 use Rattle.nv_core.proofs.log.LiveLaws.{writes_apart}
 use Rattle.nv_core.proofs.state.PageLaws.{write_pages}
@@ -24,7 +24,7 @@ use Rattle.nv_core.specs.invariant.Loaded.{LooksSound}
 use Rattle.nv_core.proofs.invariant.KeepsLocks.{entry_is}
 use Rattle.nv_core.proofs.steps.NextSteps.{next_steps_may_come}
 use Rattle.nv_core.proofs.steps.ByKind.{find_kind}
-use Rattle.nv_core.proofs.invariant.IndexLaws.{is_stood_for}
+use Rattle.nv_core.proofs.invariant.IndexLaws.{unit_for, same_unit}
 
 pub no_place_before_the_fence : NoPlaceBeforeTheFence
 no_place_before_the_fence sizes values pass reply committing may = go pass.control committing (next_steps_may_come sizes values pass (Place reply) may)
@@ -61,16 +61,17 @@ no_growth_before_the_place sizes values pass flight may = subst IsInFlight (next
 pub no_two_writes_of_a_page : NoTwoWritesOfAPage
 no_two_writes_of_a_page sizes first core one other page sound flight flies here there = elim (cases_eq other one) [
   | inl same ↦ sym same
-  | inr ne ↦ absurd (held_by_one sizes first core sound (PAGE page) one other (holds one flight here) (holds other flies there) ne)
+  | inr ne ↦ absurd (held_by_one sizes first core sound (PAGE ((core.passes one).units page)) one other (holds one flight here)
+      (ap (λ u. times (PAGE u) (core.passes other).owned) (same_unit core sound.index one other page) ∙ holds other flies there) ne)
 ]
   where
-    holds : (n : ℕ) → IsInFlight (core.passes n).control → IsPage sizes (core.passes n).call page → times (PAGE page) (core.passes n).owned ≡ 1
+    holds : (n : ℕ) → IsInFlight (core.passes n).control → IsPage sizes (core.passes n).call page → times (PAGE ((core.passes n).units page)) (core.passes n).owned ≡ 1
     holds n flight at = go (core.passes n).control flight (sound.control_facts n).pages (sound.ownership n).locks
       where
-        held_at : (control : Control) → (core.passes n).pages ≡ pages_of sizes (core.passes n).call → ((cell : Word) → ((slot : ℕ) → cell ≢ ENTRY slot) → times cell (core.passes n).owned ≡ lock_held sizes (core.passes n) TakePlace cell) → times (PAGE page) (core.passes n).owned ≡ 1
-        held_at control pages held = holds_page sizes (core.passes n) page pages at (held (PAGE page) (λ slot. differ (PAGE page) (ENTRY slot) refl))
+        held_at : (control : Control) → HasTaken sizes (core.passes n).call (core.passes n).units (core.passes n).pages (page_count sizes (core.passes n).call) → ((cell : Word) → ((slot : ℕ) → cell ≢ ENTRY slot) → times cell (core.passes n).owned ≡ lock_held sizes (core.passes n) TakePlace cell) → times (PAGE ((core.passes n).units page)) (core.passes n).owned ≡ 1
+        held_at control pages held = holds_page sizes (core.passes n) page pages at (held (PAGE ((core.passes n).units page)) (λ slot. differ (PAGE ((core.passes n).units page)) (ENTRY slot) refl))
 
-        go : (control : Control) → IsInFlight control → PagesAt sizes (core.passes n) control → HoldsLocks sizes (core.passes n) control → times (PAGE page) (core.passes n).owned ≡ 1
+        go : (control : Control) → IsInFlight control → PagesAt sizes (core.passes n) control → HoldsLocks sizes (core.passes n) control → times (PAGE ((core.passes n).units page)) (core.passes n).owned ≡ 1
         go (SeizeEntry number) is pages held = held_at (SeizeEntry number) pages held
         go (CommitGroup calls) is pages held = held_at (CommitGroup calls) pages held
         go (PledgePage next) is pages held = held_at (PledgePage next) pages held
@@ -89,19 +90,21 @@ no_seizure_of_a_held_entry sizes first core by number sound next =
     sound.window.unseized_is by number (subst (λ s. IsUnseized s (core.passes by).first (core.passes by).entries number) (sym may) (omega arith, at.1.1))
 
 pub no_victim_of_the_call : NoVictimOfTheCall
-no_victim_of_the_call sizes first core by page sound is own =
-    go (core.passes by).control (sound.control_facts by).at (sound.control_facts by).pages is (is_stood_for sizes core sound.index (core.passes by).call page own)
+no_victim_of_the_call sizes first core by unit sound is own = go (core.passes by).control (sound.control_facts by).at (sound.control_facts by).pages is
   where
-    go : (control : Control) → FactsAt sizes (core.passes by) control → PagesAt sizes (core.passes by) control → IsSought control page → IsPage sizes (core.passes by).call page → ⊥
-    go (Searching missed tries (TakeVictim buffer victim)) stands pages is own = not_own sizes (core.passes by).call (core.passes by).pages pages buffer victim page stands.2 own is
-    go (Searching missed tries (GiveVictim buffer victim)) stands pages is own = not_own sizes (core.passes by).call (core.passes by).pages pages buffer victim page stands.2 own is
-    go control stands pages is own = is
+    same : (core.passes by).units (core.names unit) ≡ unit
+    same = sym (unit_for core sound.index by unit (core.names unit) refl)
+
+    go : (control : Control) → FactsAt sizes (core.passes by) control → PagesAt sizes (core.passes by) control → IsSought control unit → ⊥
+    go (Searching missed tries (TakeVictim buffer victim)) stands pages is = not_own sizes (core.passes by).call (core.passes by).pages pages buffer victim (core.names unit) stands.2 own (same ∙ is)
+    go (Searching missed tries (GiveVictim buffer victim)) stands pages is = not_own sizes (core.passes by).call (core.passes by).pages pages buffer victim (core.names unit) stands.2 own (same ∙ is)
+    go control stands pages is = is
 
 pub no_hold_of_an_unready_entry : NoHoldOfAnUnreadyEntry
 no_hold_of_an_unready_entry sizes first core by number sound next =
     let may = next_steps_may_come sizes core.values (core.passes by) (Hold number) next in
-    let looks : InWindow core number × (is_entry_of ready may.0 (entry_word_at sizes core number) ≡ true) = subst (LooksSound sizes core (core.passes by).pages) may.1 (sound.loaded.looks by) in
-    (entry_is ready may.0 (entry_word_at sizes core number) looks.1).0
+    let looks : InWindow core number × (is_entry_of ready ((core.passes by).units may.0) (entry_word_at sizes core number) ≡ true) = subst (LooksSound sizes core (core.passes by).units) may.1 (sound.loaded.looks by) in
+    (entry_is ready ((core.passes by).units may.0) (entry_word_at sizes core number) looks.1).0
 
 pub no_entry_held_twice : NoEntryHeldTwice
 no_entry_held_twice sizes first core one other number sound here there = elim (cases_eq other one) [
@@ -115,7 +118,7 @@ no_other_cleanup sizes first core by other page sound owes held = elim (cases_eq
   | inr ne ↦ absurd (held_by_one sizes first core sound (CLEANUP page) by other (has (core.passes by).control owes (sound.ownership by).locks) held ne)
 ]
   where
-    has : (control : Control) → cleanup_held (core.passes by).pages control page ≡ 1 → HoldsLocks sizes (core.passes by) control → times (CLEANUP page) (core.passes by).owned ≡ 1
+    has : (control : Control) → cleanup_held (core.passes by).units control page ≡ 1 → HoldsLocks sizes (core.passes by) control → times (CLEANUP page) (core.passes by).owned ≡ 1
     has GiveBack owes locks = absurd (omega (arith, owes))
     has (Cleaning batch cleaner.GiveBack) owes locks = absurd (omega (arith, owes))
     has (Cleaning batch inner) owes locks = locks (CLEANUP page) (λ slot. differ (CLEANUP page) (ENTRY slot) refl) ∙ owes

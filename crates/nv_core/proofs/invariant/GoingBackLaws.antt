@@ -21,7 +21,8 @@ use Rattle.nv_core.specs.invariant.GoingBack.{passed_stepped, passed_acted, pass
 use Rattle.nv_core.proofs.state.Changes.{by_number, number_here, number_else}
 use Rattle.nv_core.proofs.state.Choices.{if_both, leaving_both, not_both, step_idle, IsGivingBack, gives_back}
 use Rattle.nv_core.proofs.invariant.LockLaws.{only_holder}
-use Rattle.nv_core.proofs.steps.SearchLaws.{tried_next, hinting_next}
+use Rattle.nv_core.specs.state.Passes.{page_of_unit}
+use Rattle.nv_core.proofs.steps.SearchLaws.{tried_next, hinting_next, clearing_next, pledged_next, hinted_next}
 use Rattle.nv_core.proofs.steps.CleanerControls.{tended_to, of_cleaner_worked}
 use Rattle.nv_core.proofs.invariant.ControlFactLaws.{worked_control}
 use Rattle.nv_core.proofs.invariant.KeepsLocks.{given_held}
@@ -29,7 +30,7 @@ use Rattle.nv_core.proofs.invariant.FaultedCells.{lent, IsTakenBefore, IsAtLocks
 use Rattle.nv_core.proofs.invariant.KeepsFaultedWrites as pages
 use Rattle.nv_core.proofs.invariant.KeepsFaultedLengths as lengths
 use Rattle.nv_core.proofs.invariant.Reach.{sound_begin}
-use Rattle.nv_core.proofs.invariant.IndexLaws.{names_after}
+use Rattle.nv_core.proofs.invariant.IndexLaws.{names_after, unit_for}
 
 -- ---- a step leads to a call's locks from there alone
 
@@ -62,17 +63,17 @@ module _ (sizes : Sizes) (values : Values) (pass : Pass) (found : ℕ) where
   load_locks TAIL (inl at) is = absurd (subst (λ s. IsOff (after_tail sizes pass found s)) (sym at) (if_both IsOff (nat_le (pass.head + page_count sizes pass.call) (found + sizes.entries)) DrawNumbers (leaving pass.owned) (λ _ z. z) (λ _. off_leaving pass.owned)) is)
   load_locks TAIL (inr at) is = absurd (subst (λ s. IsOff (after_tail sizes pass found s)) (sym at.1) (off_scanning pass at.0 found) is)
   load_locks (ENTRY slot) may is = absurd (subst (λ s. IsOff (after_look pass found s)) (sym may.2)
-      (if_both IsOff (is_entry_of ready may.0 found) (HoldEntry may.0 may.1) (scanning pass may.0 (may.1 + 1)) (λ _ z. z) (λ _. off_scanning pass may.0 (may.1 + 1))) is)
-  load_locks (DIRTY page) may is = absurd (if_both IsOff (found == 0) (TakeStore page false) (TakeCleanup page) (λ _ z. z) (λ _ z. z) is)
+      (if_both IsOff (is_entry_of ready (pass.units may.0) found) (HoldEntry may.0 may.1) (scanning pass may.0 (may.1 + 1)) (λ _ z. z) (λ _. off_scanning pass may.0 (may.1 + 1))) is)
+  load_locks (DIRTY unit) may is = absurd (if_both IsOff (found == 0) (TakeStore (page_of_unit sizes pass unit) false) (TakeCleanup (page_of_unit sizes pass unit)) (λ _ z. z) (λ _ z. z) is)
   load_locks (HINT buffer) may is = absurd (hinting_next IsOff sizes pass buffer found may (λ z. z) is)
   load_locks word may is = absurd may
 
   take_locks : (cell : Word) → MayTake pass cell → IsAtLocks (control_after sizes pass (Take cell) found) → IsAtLocks pass.control
-  take_locks (PAGE page) may is = tried_next (λ s. IsAtLocks s → IsAtLocks pass.control) sizes pass page found (λ at _. subst IsAtLocks (sym at) tt)
+  take_locks (PAGE page) may is = tried_next (λ s. IsAtLocks s → IsAtLocks pass.control) sizes pass page found (λ _ at _ _. subst IsAtLocks (sym at) tt)
       (λ s is. absurd (if_both IsOff (found == 0) (Searching s.page s.tries (GiveVictim s.buffer page)) (Searching s.page s.tries NotFound) (λ _ z. z) (λ _ z. z) is)) may is
   take_locks (SIZE file) may is = subst IsAtLocks (sym may.0) tt
   take_locks (STORE file) may is = absurd (if_both IsOff (found == 0) (copying pass.control) (leaving pass.owned) (λ _. subst (λ s. IsOff (copying s)) (sym may.2) (λ z. z)) (λ _. off_leaving pass.owned) is)
-  take_locks (CLEANUP page) may is = absurd (if_both IsOff (found == 0) (TakeStore page true) (leaving pass.owned) (λ _ z. z) (λ _. off_leaving pass.owned) is)
+  take_locks (CLEANUP unit) may is = absurd (clearing_next IsOff sizes pass unit found may (if_both IsOff (found == 0) (TakeStore may.0 true) (leaving pass.owned) (λ _ z. z) (λ _. off_leaving pass.owned)) is)
   take_locks cell may is = absurd may
 
   give_off : (cell : Word) (control : Control) → IsGivingBack control → IsOff (after_give sizes pass cell control)
@@ -101,14 +102,14 @@ module _ (sizes : Sizes) (values : Values) (pass : Pass) (found : ℕ) where
   step_locks Stop may is = absurd (stop_off pass.control may is)
   step_locks Draw may is = absurd (if_both IsOff (found == pass.head) (SeizeEntry found) (leaving pass.owned) (λ _ z. z) (λ _. off_leaving pass.owned) is)
   step_locks (Seize next) may is = absurd (if_both IsOff (next + 1 == pass.first + pass.entries) (CommitGroup 0) (SeizeEntry (next + 1)) (λ _ z. z) (λ _ z. z) is)
-  step_locks (Pledge page) may is = absurd (if_both IsOff (page + 1 == end_page sizes pass.call) (ReadyEntry (if pass.entries == 1 then pass.first else pass.first + 1)) (PledgePage (page + 1)) (λ _ z. z) (λ _ z. z) is)
+  step_locks (Pledge unit) may is = absurd (pledged_next IsOff sizes pass may.0 may.1 (if_both IsOff (may.0 + 1 == end_page sizes pass.call) (ReadyEntry (if pass.entries == 1 then pass.first else pass.first + 1)) (PledgePage (may.0 + 1)) (λ _ z. z) (λ _ z. z)) is)
   step_locks (Ready next) may is = absurd (if_both IsOff (next == pass.first) TakePlace (ReadyEntry (if next + 1 == pass.first + pass.entries then pass.first else next + 1)) (λ _ z. z) (λ _ z. z) is)
   step_locks Grow may is = absurd (off_ending sizes pass is)
   step_locks (Break next) may is = absurd (if_both IsOff (next + 1 == pass.first + pass.entries) (leaving (without (ENTRY (slot_of_entry sizes next)) pass.owned)) (BreakEntry (next + 1)) (λ _. off_leaving (without (ENTRY (slot_of_entry sizes next)) pass.owned)) (λ _ z. z) is)
   step_locks (Hold next) may is = absurd (subst (λ s. IsOff (after_hold s)) (sym may.1) (λ z. z) is)
   step_locks (Return next) may is = absurd (subst (λ s. IsOff (after_return sizes pass s)) (sym may.2) (return_off may.0 next may.1) is)
   step_locks (Turn page) may is = absurd is
-  step_locks (Hint buffer page) may is = absurd is
+  step_locks (Hint buffer unit) may is = absurd (hinted_next IsOff values pass buffer unit may (λ z. z) is)
   step_locks (ByCleaner cleaner_op) may is = absurd (tended_to IsOff (λ z. z) (λ b s z. z) sizes pass (moved (cleaner_move sizes cleaner_op found) pass.owned) cleaner_op found pass.control may is)
   step_locks op may is = absurd may
 
@@ -268,7 +269,7 @@ calls_hold_nothing_broken opens keep mount events by other fault is_mount run ca
   where
     pages_kept : Kept (pages.Bars mount.sizes (λ unit. unit)) (pages.early mount.sizes (λ unit. unit)) (after_run mount.sizes (opening mount) events) (passed_after events (λ n. false))
     pages_kept = kept_run (pages.Bars mount.sizes (λ unit. unit)) (pages.early mount.sizes (λ unit. unit)) keep mount.sizes mount.values
-        (λ core by sound fails cell own. subst (λ c. times c (core.passes by).owned ≡ 1) (sym own.1) (pages.failing_page mount.sizes (core.passes by) own.0 (core.passes by).control fails (sound.control_facts by).pages (sound.ownership by).locks own.2))
+        (λ core by sound fails cell own. subst (λ c. times c (core.passes by).owned ≡ 1) (sym (own.1 ∙ ap PAGE (unit_for core sound.index by own.0 own.0 (sound.index.direct own.0)))) (pages.failing_page mount.sizes (core.passes by) own.0 (core.passes by).control fails (sound.control_facts by).pages (sound.ownership by).locks own.2))
         events (opening mount) (λ n. false) (opens mount is_mount) (record { off_limits = λ n m cell fault is. absurd is; locks = λ m is. refl }) run
 
     lengths_kept : Kept lengths.Bars lengths.early (after_run mount.sizes (opening mount) events) (passed_after events (λ n. false))

@@ -213,7 +213,7 @@ moving_room_begin sizes by core call rooms = by_number (λ n (p : Pass). MovesRo
 
 pub header_worked : (pass : Pass) (work : Work) (values : Values) → HEADER ≢ work.cell → values_worked pass work values HEADER ≡ values HEADER
 header_worked pass work values ne =
-    header_read pass.pages work.job work.ending pass.control (with_called pass work values)
+    header_read pass.units work.job work.ending pass.control (with_called pass work values)
     ∙ word_else values work.cell (called work.job work.ending (values work.cell)) HEADER ne
   where
     with_called : Pass → Work → Values → Values
@@ -248,7 +248,7 @@ module _ (sizes : Sizes) (first : Values) (by : ℕ) (core : Core) (work : Work)
 
   module _ (batch : Batch) (calls : ℕ) (at : (core.passes by).control ≡ Cleaning batch (MoveHeaderTail calls)) (due : IsTailCall batch.reached calls work) where
     value_now : (after_work sizes by work core).values HEADER ≡ called (PartStep due.step due.spares) work.ending (core.values HEADER)
-    value_now = header_read (core.passes by).pages work.job work.ending (core.passes by).control (with_value core.values work.cell (called work.job work.ending (core.values work.cell)))
+    value_now = header_read (core.passes by).units work.job work.ending (core.passes by).control (with_value core.values work.cell (called work.job work.ending (core.values work.cell)))
         ∙ ap (λ c. with_value core.values c (called work.job work.ending (core.values c)) HEADER) due.cell ∙ word_here core.values HEADER (called work.job work.ending (core.values HEADER)) ∙ ap (λ j. called j work.ending (core.values HEADER)) due.job
 
     leaves : CallMayLeave (core.values HEADER) (PartStep due.step due.spares) work.ending

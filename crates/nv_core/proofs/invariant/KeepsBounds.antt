@@ -30,24 +30,24 @@ use Rattle.nv_core.proofs.invariant.KeepsWindow.{window_step}
 use Rattle.nv_core.proofs.invariant.KeepsLoaded.{tail_is, tail_up, held_by_one, holds_page}
 use Rattle.nv_core.proofs.invariant.KeepsLooks.{IsBlind, leaves, blind_to, blind_work}
 
--- the page of which a read knows this, which it holds
-abbrev Scans : Control → (page : ℕ) → Type 0
-Scans (ReadLoadTail next) page = page ≡ next
-Scans (LoadEntry next number) page = page ≡ next
-Scans (HoldEntry next number) page = page ≡ next
-Scans (ReadPiece next number) page = page ≡ next
-Scans (ReturnEntry next number failed) page = page ≡ next
-Scans (SetStopAfterPiece next number) page = page ≡ next
-Scans control page = ⊥
+-- the unit of which a read knows this, which it holds
+abbrev Scans : (units : ℕ → ℕ) → Control → (unit : ℕ) → Type 0
+Scans units (ReadLoadTail next) unit = unit ≡ units next
+Scans units (LoadEntry next number) unit = unit ≡ units next
+Scans units (HoldEntry next number) unit = unit ≡ units next
+Scans units (ReadPiece next number) unit = unit ≡ units next
+Scans units (ReturnEntry next number failed) unit = unit ≡ units next
+Scans units (SetStopAfterPiece next number) unit = unit ≡ units next
+Scans units control unit = ⊥
 
-scans_page : (sizes : Sizes) (pass : Pass) (page : ℕ) (control : Control) → FactsAt sizes pass control → PagesAt sizes pass control → HoldsLocks sizes pass control → Scans control page → times (PAGE page) pass.owned ≡ 1
-scans_page sizes pass page (ReadLoadTail next) at pages holds is = subst (λ p. times (PAGE p) pass.owned ≡ 1) (sym is) (holds_page sizes pass next pages at.1 (holds (PAGE next) (λ slot. differ (PAGE next) (ENTRY slot) refl)))
-scans_page sizes pass page (LoadEntry next number) at pages holds is = subst (λ p. times (PAGE p) pass.owned ≡ 1) (sym is) (holds_page sizes pass next pages at.0.1 (holds (PAGE next) (λ slot. differ (PAGE next) (ENTRY slot) refl)))
-scans_page sizes pass page (HoldEntry next number) at pages holds is = subst (λ p. times (PAGE p) pass.owned ≡ 1) (sym is) (holds_page sizes pass next pages at.0.1 (holds (PAGE next) (λ slot. differ (PAGE next) (ENTRY slot) refl)))
-scans_page sizes pass page (ReadPiece next number) at pages holds is = subst (λ p. times (PAGE p) pass.owned ≡ 1) (sym is) (holds_page sizes pass next pages at.0.1 (holds (PAGE next) (λ slot. differ (PAGE next) (ENTRY slot) refl)))
-scans_page sizes pass page (ReturnEntry next number failed) at pages holds is = subst (λ p. times (PAGE p) pass.owned ≡ 1) (sym is) (holds_page sizes pass next pages at.0.1 (holds (PAGE next) (λ slot. differ (PAGE next) (ENTRY slot) refl)))
-scans_page sizes pass page (SetStopAfterPiece next number) at pages holds is = subst (λ p. times (PAGE p) pass.owned ≡ 1) (sym is) (holds_page sizes pass next pages at.0.1 (holds (PAGE next) (λ slot. differ (PAGE next) (ENTRY slot) refl)))
-scans_page sizes pass page control at pages holds is = absurd is
+scans_page : (sizes : Sizes) (pass : Pass) (unit : ℕ) (control : Control) → FactsAt sizes pass control → PagesAt sizes pass control → HoldsLocks sizes pass control → Scans pass.units control unit → times (PAGE unit) pass.owned ≡ 1
+scans_page sizes pass unit (ReadLoadTail next) at pages holds is = subst (λ p. times (PAGE p) pass.owned ≡ 1) (sym is) (holds_page sizes pass next pages at.1 (holds (PAGE (pass.units next)) (λ slot. differ (PAGE (pass.units next)) (ENTRY slot) refl)))
+scans_page sizes pass unit (LoadEntry next number) at pages holds is = subst (λ p. times (PAGE p) pass.owned ≡ 1) (sym is) (holds_page sizes pass next pages at.0.1 (holds (PAGE (pass.units next)) (λ slot. differ (PAGE (pass.units next)) (ENTRY slot) refl)))
+scans_page sizes pass unit (HoldEntry next number) at pages holds is = subst (λ p. times (PAGE p) pass.owned ≡ 1) (sym is) (holds_page sizes pass next pages at.0.1 (holds (PAGE (pass.units next)) (λ slot. differ (PAGE (pass.units next)) (ENTRY slot) refl)))
+scans_page sizes pass unit (ReadPiece next number) at pages holds is = subst (λ p. times (PAGE p) pass.owned ≡ 1) (sym is) (holds_page sizes pass next pages at.0.1 (holds (PAGE (pass.units next)) (λ slot. differ (PAGE (pass.units next)) (ENTRY slot) refl)))
+scans_page sizes pass unit (ReturnEntry next number failed) at pages holds is = subst (λ p. times (PAGE p) pass.owned ≡ 1) (sym is) (holds_page sizes pass next pages at.0.1 (holds (PAGE (pass.units next)) (λ slot. differ (PAGE (pass.units next)) (ENTRY slot) refl)))
+scans_page sizes pass unit (SetStopAfterPiece next number) at pages holds is = subst (λ p. times (PAGE p) pass.owned ≡ 1) (sym is) (holds_page sizes pass next pages at.0.1 (holds (PAGE (pass.units next)) (λ slot. differ (PAGE (pass.units next)) (ENTRY slot) refl)))
+scans_page sizes pass unit control at pages holds is = absurd is
 
 -- ---- entries of a page
 
@@ -72,9 +72,9 @@ page_is : (count page : ℕ) → count ≤ mount_layout.group_limit → page_of 
 page_is count page few = omega (arith, few)
 
 -- the pass that steps makes no entry of a page ready
-abbrev IsOff : Sizes → Pass → (page : ℕ) → Op → Type 0
-IsOff sizes pass page (Ready next) = page_at sizes pass next ≢ page
-IsOff sizes pass page op = Unit {0}
+abbrev IsOff : Sizes → Pass → (unit : ℕ) → Op → Type 0
+IsOff sizes pass unit (Ready next) = pass.units (page_at sizes pass next) ≢ unit
+IsOff sizes pass unit op = Unit {0}
 
 module _ (sizes : Sizes) (first : Values) (by : ℕ) (core : Core) (found : ℕ) (sound : Sound sizes first core) where
   lifted_back : (next kind page : ℕ) → core.words (ENTRY (slot_of_entry sizes next)) ≡ found → kind_of (entry_word_at sizes core next) ≡ kind → 2 ≤ kind → kind ≤ 3 → page_of (found + 1) ≡ page
@@ -88,8 +88,8 @@ module _ (sizes : Sizes) (first : Values) (by : ℕ) (core : Core) (found : ℕ)
       → (was_readied (core.words (ENTRY (slot_of_entry sizes next))) ≡ true) × (page_of (core.words (ENTRY (slot_of_entry sizes next))) ≡ page)
   dropped_back next page is kind_is of = (held_was (entry_word_at sizes core next) kind_is, let d = page_down found (omega (arith, kind_is, is)) in ap page_of is ∙ sym d ∙ of)
 
-  readied_page : (next : ℕ) → FoundEnabledByKind sizes by core (Ready next) found → page_of (ready_word sizes (core.passes by) next) ≡ page_at sizes (core.passes by) next
-  readied_page next may = page_is (if next == (core.passes by).first then (core.passes by).entries else 0) (page_at sizes (core.passes by) next)
+  readied_page : (next : ℕ) → FoundEnabledByKind sizes by core (Ready next) found → page_of (ready_word sizes (core.passes by) next) ≡ (core.passes by).units (page_at sizes (core.passes by) next)
+  readied_page next may = page_is (if next == (core.passes by).first then (core.passes by).entries else 0) ((core.passes by).units (page_at sizes (core.passes by) next))
       (if_both (λ c. c ≤ mount_layout.group_limit) (next == (core.passes by).first) (core.passes by).entries 0
       (λ _. let m = at.0.many in let a : page_count sizes (core.passes by).call ≤ mount_layout.group_limit = (let b = ((sound.control_facts by).allowed (busy _ _ may.may refl)).short in omega (arith, b)) in omega (arith, m, a)) (λ _. omega arith))
     where
@@ -101,11 +101,11 @@ module _ (sizes : Sizes) (first : Values) (by : ℕ) (core : Core) (found : ℕ)
   backs (Break next) may page off = back_one core.words (slot_of_entry sizes next) broken page (λ r _. absurd (not_both r refl))
   backs (Ready next) may page off = back_one core.words (slot_of_entry sizes next) (ready_word sizes (core.passes by) next) page (λ _ p. absurd (off (sym (readied_page next may) ∙ p)))
   backs (Hold next) may page off = back_one core.words (slot_of_entry sizes next) (found + 1) page (λ _ p.
-      let looks : InWindow core next × (is_entry_of ready may.may.0 (entry_word_at sizes core next) ≡ true) = subst (LooksSound sizes core (core.passes by).pages) may.may.1 (sound.loaded.looks by) in
-      lifted_back next ready page may.is (entry_is ready may.may.0 (entry_word_at sizes core next) looks.1).0 (omega arith) (omega arith) p)
+      let looks : InWindow core next × (is_entry_of ready ((core.passes by).units may.may.0) (entry_word_at sizes core next) ≡ true) = subst (LooksSound sizes core (core.passes by).units) may.may.1 (sound.loaded.looks by) in
+      lifted_back next ready page may.is (entry_is ready ((core.passes by).units may.may.0) (entry_word_at sizes core next) looks.1).0 (omega arith) (omega arith) p)
   backs (Return next) may page off = back_one core.words (slot_of_entry sizes next) (found - 1) page (λ _ p.
-      let looks : InWindow core next × (is_entry_of held may.may.0 (entry_word_at sizes core next) ≡ true) = subst (LooksSound sizes core (core.passes by).pages) may.may.2 (sound.loaded.looks by) in
-      dropped_back next page may.is (entry_is held may.may.0 (entry_word_at sizes core next) looks.1).0 p)
+      let looks : InWindow core next × (is_entry_of held ((core.passes by).units may.may.0) (entry_word_at sizes core next) ≡ true) = subst (LooksSound sizes core (core.passes by).units) may.may.2 (sound.loaded.looks by) in
+      dropped_back next page may.is (entry_is held ((core.passes by).units may.may.0) (entry_word_at sizes core next) looks.1).0 p)
   backs (ByCleaner (cleaner.Hold next)) may page off = back_one core.words (slot_of_entry sizes next) (found + 1) page (λ _ p. lifted_back next ready page may.is (cleaner_hold_hand sizes first core sound by found next may).kind_is (omega arith) (omega arith) p)
   backs (ByCleaner (Clean next)) may page off = back_one core.words (slot_of_entry sizes next) (found + 1) page (λ _ p. lifted_back next held page may.is (cleans_hand sizes first core sound by found next may).kind_is (omega arith) (omega arith) p)
   backs (ByCleaner (cleaner.Return next)) may page off = back_one core.words (slot_of_entry sizes next) (found - 1) page (λ _ p. dropped_back next page may.is (cleaner_return_hand sizes first core sound by found next may).kind_is p)
@@ -138,14 +138,14 @@ module _ (sizes : Sizes) (first : Values) (by : ℕ) (core : Core) (found : ℕ)
 
 -- ---- what leaves it
 
-bounds_kept : (sizes : Sizes) (core now : Core) (pass : Pass) (control : Control) → core.words TAIL ≤ now.words TAIL → ((page : ℕ) → Scans control page → NoneFrom sizes core page pass.head → NoneFrom sizes now page pass.head)
+bounds_kept : (sizes : Sizes) (core now : Core) (pass : Pass) (control : Control) → core.words TAIL ≤ now.words TAIL → ((unit : ℕ) → Scans pass.units control unit → NoneFrom sizes core unit pass.head → NoneFrom sizes now unit pass.head)
     → Bounds sizes core pass control → Bounds sizes now pass control
-bounds_kept sizes core now pass (ReadLoadTail page) up none bounds = (let b = bounds.0 in omega (arith, b, up), none page refl bounds.1)
-bounds_kept sizes core now pass (LoadEntry page number) up none bounds = record { low = bounds.low; room = bounds.room; later = none page refl bounds.later }
-bounds_kept sizes core now pass (HoldEntry page number) up none bounds = record { low = bounds.low; room = bounds.room; later = none page refl bounds.later }
-bounds_kept sizes core now pass (ReadPiece page number) up none bounds = record { low = bounds.low; room = bounds.room; later = none page refl bounds.later }
-bounds_kept sizes core now pass (ReturnEntry page number failed) up none bounds = record { low = bounds.low; room = bounds.room; later = none page refl bounds.later }
-bounds_kept sizes core now pass (SetStopAfterPiece page number) up none bounds = record { low = bounds.low; room = bounds.room; later = none page refl bounds.later }
+bounds_kept sizes core now pass (ReadLoadTail page) up none bounds = (let b = bounds.0 in omega (arith, b, up), none (pass.units page) refl bounds.1)
+bounds_kept sizes core now pass (LoadEntry page number) up none bounds = record { low = bounds.low; room = bounds.room; later = none (pass.units page) refl bounds.later }
+bounds_kept sizes core now pass (HoldEntry page number) up none bounds = record { low = bounds.low; room = bounds.room; later = none (pass.units page) refl bounds.later }
+bounds_kept sizes core now pass (ReadPiece page number) up none bounds = record { low = bounds.low; room = bounds.room; later = none (pass.units page) refl bounds.later }
+bounds_kept sizes core now pass (ReturnEntry page number failed) up none bounds = record { low = bounds.low; room = bounds.room; later = none (pass.units page) refl bounds.later }
+bounds_kept sizes core now pass (SetStopAfterPiece page number) up none bounds = record { low = bounds.low; room = bounds.room; later = none (pass.units page) refl bounds.later }
 bounds_kept sizes core now pass control up none bounds = tt
 
 blind_bounds : (sizes : Sizes) (now : Core) (pass : Pass) (control : Control) → IsBlind control → Bounds sizes now pass control
@@ -182,12 +182,12 @@ module _ (sizes : Sizes) (first : Values) (by : ℕ) (core : Core) (found : ℕ)
         (blind_bounds sizes now (changed_pass sizes by core (Load TAIL) found) (after_tail sizes (core.passes by) found WriteLoadTail)
         (if_both IsBlind (nat_le ((core.passes by).head + page_count sizes (core.passes by).call) (found + sizes.entries)) DrawNumbers (leaving (core.passes by).owned) (λ _. tt) (λ _. leaves sizes (core.passes by).owned)))
     | inr here ↦
-        let was : ((core.passes by).head ≤ core.words TAIL + sizes.entries) × NoneFrom sizes core here.0 (core.passes by).head = subst (Bounds sizes core (core.passes by)) here.1 (sound.loaded.bounds by) in
+        let was : ((core.passes by).head ≤ core.words TAIL + sizes.entries) × NoneFrom sizes core ((core.passes by).units here.0) (core.passes by).head = subst (Bounds sizes core (core.passes by)) here.1 (sound.loaded.bounds by) in
         subst (λ s. Bounds sizes now (changed_pass sizes by core (Load TAIL) found) (after_tail sizes (core.passes by) found s)) (sym here.1)
         (scan_bounds sizes now (core.passes by) (changed_pass sizes by core (Load TAIL) found) here.0 found record {
           low = omega arith;
           room = let b = was.0 in let e = may.is in omega (arith, b, e);
-          later = none_stays sizes first by core found sound (Load TAIL) may here.0 (core.passes by).head tt was.1;
+          later = none_stays sizes first by core found sound (Load TAIL) may ((core.passes by).units here.0) (core.passes by).head tt was.1;
         })
   ]
     where
@@ -196,23 +196,23 @@ module _ (sizes : Sizes) (first : Values) (by : ℕ) (core : Core) (found : ℕ)
   bounds_here (Load (ENTRY slot)) may =
       let now = after_step sizes by (Load (ENTRY slot)) found core in
       let was : IsReadBounded sizes core (core.passes by) may.may.0 may.may.1 = subst (Bounds sizes core (core.passes by)) may.may.2 (sound.loaded.bounds by) in
-      let later = none_stays sizes first by core found sound (Load (ENTRY slot)) may may.may.0 (core.passes by).head tt was.later in
+      let later = none_stays sizes first by core found sound (Load (ENTRY slot)) may ((core.passes by).units may.may.0) (core.passes by).head tt was.later in
       subst (λ s. Bounds sizes now (changed_pass sizes by core (Load (ENTRY slot)) found) (after_look (core.passes by) found s)) (sym may.may.2)
-      (if_both (Bounds sizes now (changed_pass sizes by core (Load (ENTRY slot)) found)) (is_entry_of ready may.may.0 found) (HoldEntry may.may.0 may.may.1) (scanning (core.passes by) may.may.0 (may.may.1 + 1))
+      (if_both (Bounds sizes now (changed_pass sizes by core (Load (ENTRY slot)) found)) (is_entry_of ready ((core.passes by).units may.may.0) found) (HoldEntry may.may.0 may.may.1) (scanning (core.passes by) may.may.0 (may.may.1 + 1))
       (λ _. record { low = was.low; room = was.room; later = later })
       (λ _. scan_bounds sizes now (core.passes by) (changed_pass sizes by core (Load (ENTRY slot)) found) may.may.0 (may.may.1 + 1) record { low = let l = was.low in omega (arith, l); room = was.room; later = later }))
   bounds_here Stop may = stops (core.passes by).control may.may (sound.loaded.bounds by)
     where
       stops : (control : Control) → IsFailing control → Bounds sizes core (core.passes by) control → Bounds sizes (after_step sizes by Stop found core) (changed_pass sizes by core Stop found) (after_stop (core.passes by) control)
       stops (SetStopAfterRead page dirty) is bounds = blind_bounds sizes (after_step sizes by Stop found core) (changed_pass sizes by core Stop found) (leaving (core.passes by).owned) (leaves sizes (core.passes by).owned)
-      stops (SetStopAfterPiece page number) is bounds = record { low = bounds.low; room = bounds.room; later = none_stays sizes first by core found sound Stop may page (core.passes by).head tt bounds.later }
+      stops (SetStopAfterPiece page number) is bounds = record { low = bounds.low; room = bounds.room; later = none_stays sizes first by core found sound Stop may ((core.passes by).units page) (core.passes by).head tt bounds.later }
       stops SetStopAfterCommit is bounds = tt
       stops control is bounds = absurd is
   bounds_here (Hold next) may =
       let now = after_step sizes by (Hold next) found core in
       let was : IsReadBounded sizes core (core.passes by) may.may.0 next = subst (Bounds sizes core (core.passes by)) may.may.1 (sound.loaded.bounds by) in
       subst (λ s. Bounds sizes now (changed_pass sizes by core (Hold next) found) (after_hold s)) (sym may.may.1)
-      record { low = was.low; room = was.room; later = none_stays sizes first by core found sound (Hold next) may may.may.0 (core.passes by).head tt was.later }
+      record { low = was.low; room = was.room; later = none_stays sizes first by core found sound (Hold next) may ((core.passes by).units may.may.0) (core.passes by).head tt was.later }
   bounds_here (Return next) may =
       let now = after_step sizes by (Return next) found core in
       let was : IsReadBounded sizes core (core.passes by) may.may.0 next = subst (Bounds sizes core (core.passes by)) may.may.2 (sound.loaded.bounds by) in
@@ -222,7 +222,7 @@ module _ (sizes : Sizes) (first : Values) (by : ℕ) (core : Core) (found : ℕ)
       (λ _. scan_bounds sizes now (core.passes by) (changed_pass sizes by core (Return next) found) may.may.0 (next + 1) record {
         low = let l = was.low in omega (arith, l);
         room = was.room;
-        later = none_stays sizes first by core found sound (Return next) may may.may.0 (core.passes by).head tt was.later;
+        later = none_stays sizes first by core found sound (Return next) may ((core.passes by).units may.may.0) (core.passes by).head tt was.later;
       }))
   bounds_here Split may = tt
   bounds_here (PutBack cell) may = bounds_kept sizes core (after_step sizes by (PutBack cell) found core) (changed_pass sizes by core (PutBack cell) found) (core.passes by).control (tail_up sizes first by core found (PutBack cell) sound may)
@@ -242,8 +242,8 @@ module _ (sizes : Sizes) (first : Values) (by : ℕ) (core : Core) (found : ℕ)
   bounds_here op may = blind_bounds sizes (after_step sizes by op found core) (changed_pass sizes by core op found) (control_after sizes (core.passes by) op found) (blind_to sizes core.values (core.passes by) op found tt may.may)
 
   -- another pass makes no entry ready of a page that a read holds
-  off_else : (op : Op) → FoundEnabledByKind sizes by core op found → (n : ℕ) → n ≢ by → (page : ℕ) → Scans (core.passes n).control page → IsOff sizes (core.passes by) page op
-  off_else (Ready next) may n ne page is = λ e. held_by_one sizes first core sound (PAGE (page_at sizes (core.passes by) next)) by n mine
+  off_else : (op : Op) → FoundEnabledByKind sizes by core op found → (n : ℕ) → n ≢ by → (page : ℕ) → Scans (core.passes n).units (core.passes n).control page → IsOff sizes (core.passes by) page op
+  off_else (Ready next) may n ne page is = λ e. held_by_one sizes first core sound (PAGE ((core.passes by).units (page_at sizes (core.passes by) next))) by n mine
       (subst (λ p. times (PAGE p) (core.passes n).owned ≡ 1) (sym e) (scans_page sizes (core.passes n) page (core.passes n).control (sound.control_facts n).at (sound.control_facts n).pages (sound.ownership n).locks is)) ne
     where
       at : HasDrawn sizes (core.passes by).call (core.passes by).entries × IsAmong (core.passes by).first (core.passes by).entries next
@@ -252,9 +252,9 @@ module _ (sizes : Sizes) (first : Values) (by : ℕ) (core : Core) (found : ℕ)
       is_page : IsPage sizes (core.passes by).call (page_at sizes (core.passes by) next)
       is_page = (omega arith, let x = at.1.0 in let y = at.1.1 in let m = at.0.many in omega (arith, x, y, m))
 
-      mine : times (PAGE (page_at sizes (core.passes by) next)) (core.passes by).owned ≡ 1
+      mine : times (PAGE ((core.passes by).units (page_at sizes (core.passes by) next))) (core.passes by).owned ≡ 1
       mine = let holds = subst (HoldsLocks sizes (core.passes by)) may.may (sound.ownership by).locks in
-          holds_page sizes (core.passes by) (page_at sizes (core.passes by) next) (subst (PagesAt sizes (core.passes by)) may.may (sound.control_facts by).pages) is_page (holds (PAGE (page_at sizes (core.passes by) next)) (λ slot. differ (PAGE (page_at sizes (core.passes by) next)) (ENTRY slot) refl))
+          holds_page sizes (core.passes by) (page_at sizes (core.passes by) next) (subst (PagesAt sizes (core.passes by)) may.may (sound.control_facts by).pages) is_page (holds (PAGE ((core.passes by).units (page_at sizes (core.passes by) next))) (λ slot. differ (PAGE ((core.passes by).units (page_at sizes (core.passes by) next))) (ENTRY slot) refl))
   off_else op may n ne page is = tt
 
   bounds_else : (op : Op) → FoundEnabledByKind sizes by core op found → (n : ℕ) → n ≢ changes by core.made op → Bounds sizes (after_step sizes by op found core) (core.passes n) (core.passes n).control

@@ -1,5 +1,5 @@
 -- Each event keeps how the passes stand, and what they hold.
-use Rattle.std.proofs.Common.{◌≡◌, ◌≢◌, ℕ, zero, suc, ◌≤◌, ◌==◌, true, false, if◌then◌else◌, List, ◌∷◌, length, refl, sym, ap, subst, ◌∙◌, arith}
+use Rattle.std.proofs.Common.{◌≡◌, ◌≢◌, ℕ, zero, suc, ◌≤◌, ◌==◌, true, false, if◌then◌else◌, List, ◌∷◌, length, refl, sym, ap, subst, ◌∙◌, arith, ◌<◌}
 use Rattle.std.proofs.lemmas.Bool.{eqb-true}
 use Rattle.nv_plain.specs.declared.call.FileCall.{FileCall}
 use Rattle.nv_core.specs.state.Words.{Sizes, Word, CLEANER, ENTRY, is_lock, is_shut}
@@ -27,6 +27,9 @@ use Rattle.nv_core.proofs.invariant.CleanerEntries.{IsFree, WritesBack, none_sti
 use Rattle.nv_core.proofs.steps.WordLaws.{IsLocking, cleaner_op_locks, unshut_lock}
 use Rattle.nv_core.proofs.invariant.OwnershipLaws.{nothing, taken}
 use Rattle.nv_core.proofs.invariant.OwnershipSteps.{InOwned, in_owned, from_owned, ownership_steps, ownership_begins, ownership_works}
+use Rattle.nv_core.proofs.steps.Inherits.{inherits}
+use Rattle.nv_core.proofs.invariant.IndexLaws.{units_apart}
+use Rattle.nv_core.specs.state.Words.{page_total}
 
 -- what a pass has put back changes nothing of these
 left_stands : (sizes : Sizes) (pass : Pass) (left : List Word) (control : Control) → FactsAt sizes pass control → FactsAt sizes record pass { left = left } control
@@ -46,11 +49,16 @@ tail_loaded sizes first by core (Cleaning batch inner) is sound = λ has. (sound
 tail_loaded sizes first by core control is sound = tt
 
 stands : (sizes : Sizes) (first : Values) (by : ℕ) (core : Core) (found : ℕ) (op : Op) → Sound sizes first core → StepEnabledByKind sizes by core op → ControlFacts sizes (changed_pass sizes by core op found)
-stands sizes first by core found Split sound may = record { at = tt; pages = tt; allowed = λ now. absurd (not_both now refl) }
+stands sizes first by core found Split sound may = record {
+  at = tt;
+  pages = tt;
+  allowed = λ now. absurd (not_both now refl);
+  within = inherits (λ p. (page : ℕ) → page < page_total sizes → p.units page < page_total sizes) core (λ one other is also. is) (λ n. (sound.control_facts n).within) (λ pass is. is);
+}
 stands sizes first by core found (PutBack cell) sound may =
-    let old = sound.control_facts by in record { at = left_stands sizes (core.passes by) (cell ∷ (core.passes by).left) (core.passes by).control old.at; pages = left_pages sizes (core.passes by) (cell ∷ (core.passes by).left) (core.passes by).control old.pages; allowed = old.allowed }
+    let old = sound.control_facts by in record { at = left_stands sizes (core.passes by) (cell ∷ (core.passes by).left) (core.passes by).control old.at; pages = left_pages sizes (core.passes by) (cell ∷ (core.passes by).left) (core.passes by).control old.pages; allowed = old.allowed; within = old.within }
 stands sizes first by core found (Join number) sound may = sound.control_facts by
-stands sizes first by core found op sound may = control_facts_steps sizes core.values (core.passes by) op found by core.history (sound.control_facts by) (tail_loaded sizes first by core (core.passes by).control refl sound) may
+stands sizes first by core found op sound may = control_facts_steps sizes core.values (core.passes by) op found by core.history (units_apart core sound.index by) (sound.control_facts by) (tail_loaded sizes first by core (core.passes by).control refl sound) may
 
 pub control_facts_step : (sizes : Sizes) (first : Values) (by : ℕ) (core : Core) (op : Op) (found : ℕ) → Sound sizes first core → StepEnabledByKind sizes by core op
     → (n : ℕ) → ControlFacts sizes ((after_step sizes by op found core).passes n)
@@ -58,7 +66,7 @@ control_facts_step sizes first by core op found sound may =
     by_number (λ n p. ControlFacts sizes p) core.passes (changes by core.made op) (changed_pass sizes by core op found) (stands sizes first by core found op sound may) (λ n ne. sound.control_facts n)
 
 pub control_facts_begin : (sizes : Sizes) (first : Values) (by : ℕ) (core : Core) (call : FileCall) → Sound sizes first core → CallMayBegin sizes call (core.passes by) → (n : ℕ) → ControlFacts sizes ((after_begin sizes by call core).passes n)
-control_facts_begin sizes first by core call sound may = by_number (λ n p. ControlFacts sizes p) core.passes by _ (control_facts_begins sizes call (core.passes by) may.allowed) (λ n ne. sound.control_facts n)
+control_facts_begin sizes first by core call sound may = by_number (λ n p. ControlFacts sizes p) core.passes by _ (control_facts_begins sizes call (core.passes by) may.allowed (sound.control_facts by).within) (λ n ne. sound.control_facts n)
 
 pub control_facts_work : (sizes : Sizes) (first : Values) (by : ℕ) (core : Core) (work : Work) → Sound sizes first core → CallEnabled sizes core.values (core.passes by) work → (n : ℕ) → ControlFacts sizes ((after_work sizes by work core).passes n)
 control_facts_work sizes first by core work sound may = by_number (λ n p. ControlFacts sizes p) core.passes by _ (control_facts_works sizes core.values (core.passes by) work (sound.control_facts by) may) (λ n ne. sound.control_facts n)

@@ -4,7 +4,7 @@ use Rattle.std.proofs.lemmas.Bool.{eqb-true, eq-eqb, ne_eqb, and_left, cases_eq,
 use Rattle.nv_plain.specs.Layouts.{mount_layout}
 use Rattle.nv_plain.specs.declared.call.FileCall.{FileCall}
 use Rattle.nv_core.specs.state.Words.{Sizes, Word, PAGE, ENTRY, DIRTY, index, kind_of, page_of, ready, held, filling, broken, entry_word, is_entry_of, slot_of_entry}
-use Rattle.nv_core.specs.state.Passes.{Control, TakePage, LoadStop, ReadStore, SeizeEntry, CommitGroup, PledgePage, ReadyEntry, TakePlace, SetStopAfterRead, SetStopAfterCommit, BreakEntry, Pass, without, IsUnseized, IsFilling, IsAmong, IsAllowed, page_count, first_page, end_page, nth_of, pages_of, times, ReadPiece, SetStopAfterPiece, Cleaning, Idle, plain_call}
+use Rattle.nv_core.specs.state.Passes.{Control, TakePage, LoadStop, ReadStore, SeizeEntry, CommitGroup, PledgePage, ReadyEntry, TakePlace, SetStopAfterRead, SetStopAfterCommit, BreakEntry, Pass, without, IsUnseized, IsFilling, IsAmong, IsAllowed, page_count, first_page, end_page, nth_of, times, ReadPiece, SetStopAfterPiece, Cleaning, Idle, plain_call}
 use Rattle.nv_core.specs.steps.Ops.{Op, page_at, ready_word, Load, Take, Give, Place, Stop, Draw, Seize, Pledge, Ready, Grow, Break, Split, PutBack, Join, Turn, Hint, Hold, Return, ByCleaner, cleaner_move, moved}
 use Rattle.nv_core.specs.state.Values.{CallEnding, Made, Failed, Refused}
 use Rattle.nv_core.specs.steps.ControlSteps.{control_after, after_by_cleaner, leaving, after_stop}
@@ -17,7 +17,7 @@ use Rattle.std.proofs.lemmas.Nat.{mod_below}
 use Rattle.nv_core.specs.state.Core.{Core, changes, changed_pass, with_value, after_step, after_begin, after_work, worked, control_worked}
 use Rattle.nv_core.specs.steps.Events.{CallMayBegin}
 use Rattle.nv_core.proofs.steps.ByKind.{FoundEnabledByKind}
-use Rattle.nv_core.specs.invariant.ControlFacts.{FactsAt, PagesAt, IsPage, HasDrawn, has_call}
+use Rattle.nv_core.specs.invariant.ControlFacts.{FactsAt, PagesAt, IsPage, HasDrawn, has_call, HasTaken}
 use Rattle.nv_core.specs.invariant.Ownership.{one_if}
 use Rattle.nv_core.specs.invariant.Locks.{Locks}
 use Rattle.nv_core.specs.invariant.LogWindow.{Fills, InWindow, entry_word_at}
@@ -43,6 +43,7 @@ use Rattle.nv_core.proofs.steps.CleanerOps.{IsTending, tending, IsAtHand, cleane
 use Rattle.nv_core.proofs.invariant.CleanerDirty.{IsUncounted, by_cleaner_owes, cleans_owes, subtracts_owes}
 use Rattle.nv_core.proofs.invariant.ControlFactLaws.{worked_control}
 use Rattle.nv_core.proofs.steps.CleanerControls.{of_cleaner_worked}
+use Rattle.nv_core.proofs.steps.SearchLaws.{pledged_next}
 
 -- the entries of a page, and those for which a cleaner still owes its DIRTY
 abbrev pub counted : Sizes → Core → (page : ℕ) → ℕ
@@ -237,33 +238,36 @@ slot_less sizes pass number drawn allowed = mod_below number sizes.entries (let 
 
 -- ---- a pledge
 
-pledges_step : (sizes : Sizes) (first : Values) (by : ℕ) (core : Core) (found page : ℕ) → Sound sizes first core → DirtyCounters sizes core → FoundEnabledByKind sizes by core (Pledge page) found → DirtyCounters sizes (after_step sizes by (Pledge page) found core)
-pledges_step sizes first by core found page sound dirty may = record {
+pledges_step : (sizes : Sizes) (first : Values) (by : ℕ) (core : Core) (found unit : ℕ) → Sound sizes first core → DirtyCounters sizes core → FoundEnabledByKind sizes by core (Pledge unit) found → DirtyCounters sizes (after_step sizes by (Pledge unit) found core)
+pledges_step sizes first by core found unit sound dirty may = record {
   sum = λ p.
       let old = dirty.sum p in
       let d = dirty_now p in
-      let e = same_entries sizes by core (Pledge page) found may (λ slot. refl) p in
-      let w = owed_step sizes first by core (Pledge page) found sound (λ f. f) may p in
-      let all_now = total_changed (core.made + 1) by (λ (q : Pass). pledged sizes q q.control p) core.passes (changed_pass sizes by core (Pledge page) found) (pass_made sizes first by core (PledgePage page) sound may.may (λ e. cc)) in
+      let e = same_entries sizes by core (Pledge unit) found may (λ slot. refl) p in
+      let w = owed_step sizes first by core (Pledge unit) found sound (λ f. f) may p in
+      let all_now = total_changed (core.made + 1) by (λ (q : Pass). pledged sizes q q.control p) core.passes (changed_pass sizes by core (Pledge unit) found) (pass_made sizes first by core (PledgePage page) sound may.may.1 (λ e. cc)) in
       let m = more p in
       let s = was p in
       omega (arith, old, d, e, w, all_now, m, s);
 }
   where
-    at : HasDrawn sizes (core.passes by).call (core.passes by).entries × IsPage sizes (core.passes by).call page
-    at = subst (FactsAt sizes (core.passes by)) may.may (sound.control_facts by).at
+    page : ℕ
+    page = may.may.0
 
-    pages : (core.passes by).pages ≡ pages_of sizes (core.passes by).call
-    pages = subst (PagesAt sizes (core.passes by)) may.may (sound.control_facts by).pages
+    at : HasDrawn sizes (core.passes by).call (core.passes by).entries × IsPage sizes (core.passes by).call page
+    at = subst (FactsAt sizes (core.passes by)) may.may.1 (sound.control_facts by).at
+
+    pages : HasTaken sizes (core.passes by).call (core.passes by).units (core.passes by).pages (page_count sizes (core.passes by).call)
+    pages = subst (PagesAt sizes (core.passes by)) may.may.1 (sound.control_facts by).pages
 
     was : (p : ℕ) → pledged sizes (core.passes by) (core.passes by).control p ≡ count_in (take (nth_of sizes (core.passes by).call page) (core.passes by).pages) p
-    was p = ap (λ s. pledged sizes (core.passes by) s p) may.may
+    was p = ap (λ s. pledged sizes (core.passes by) s p) may.may.1
 
-    dirty_now : (p : ℕ) → (after_step sizes by (Pledge page) found core).words (DIRTY p) ≡ one_if (p == page) + core.words (DIRTY p)
-    dirty_now p = elim (cases_eq p page) [
-      | inl e ↦ subst (λ q. (after_step sizes by (Pledge page) found core).words (DIRTY q) ≡ one_if (q == page) + core.words (DIRTY q)) (sym e)
-          (let w = word_here core.words (DIRTY page) (found + 1) in let f = may.is in let o : one_if (page == page) ≡ 1 = when_true (page == page) 1 0 (eq-eqb page page refl) in omega (arith, w, f, o))
-      | inr ne ↦ (let w = word_else core.words (DIRTY page) (found + 1) (DIRTY p) (λ e. ne (ap index e)) in let o : one_if (p == page) ≡ 0 = when_false (p == page) 1 0 (ne_eqb p page ne) in omega (arith, w, o))
+    dirty_now : (p : ℕ) → (after_step sizes by (Pledge unit) found core).words (DIRTY p) ≡ one_if (p == unit) + core.words (DIRTY p)
+    dirty_now p = elim (cases_eq p unit) [
+      | inl e ↦ subst (λ q. (after_step sizes by (Pledge unit) found core).words (DIRTY q) ≡ one_if (q == unit) + core.words (DIRTY q)) (sym e)
+          (let w = word_here core.words (DIRTY unit) (found + 1) in let f = may.is in let o : one_if (unit == unit) ≡ 1 = when_true (unit == unit) 1 0 (eq-eqb unit unit refl) in omega (arith, w, f, o))
+      | inr ne ↦ (let w = word_else core.words (DIRTY unit) (found + 1) (DIRTY p) (λ e. ne (ap index e)) in let o : one_if (p == unit) ≡ 0 = when_false (p == unit) 1 0 (ne_eqb p unit ne) in omega (arith, w, o))
     ]
 
     -- after the last page all entries are pledged, and none is ready
@@ -280,11 +284,15 @@ pledges_step sizes first by core found page sound dirty may = record {
         let a = count_split (core.passes by).pages p in omega (arith, n, a))
         ∙ sym (front_all sizes (core.passes by).call (core.passes by).pages pages (page + 1) p (eqb-true (page + 1) (end_page sizes (core.passes by).call) last))
 
-    more : (p : ℕ) → pledged sizes (changed_pass sizes by core (Pledge page) found) (changed_pass sizes by core (Pledge page) found).control p ≡ one_if (p == page) + count_in (take (nth_of sizes (core.passes by).call page) (core.passes by).pages) p
-    more p = if_both (λ s. pledged sizes (core.passes by) s p ≡ one_if (p == page) + count_in (take (nth_of sizes (core.passes by).call page) (core.passes by).pages) p) (page + 1 == end_page sizes (core.passes by).call)
+    here : (p : ℕ) → count_in (take (nth_of sizes (core.passes by).call (page + 1)) (core.passes by).pages) p ≡ one_if (p == unit) + count_in (take (nth_of sizes (core.passes by).call page) (core.passes by).pages) p
+    here p = front_more sizes (core.passes by).call (core.passes by).pages pages page p at.1 ∙ ap (λ u. one_if (p == u) + count_in (take (nth_of sizes (core.passes by).call page) (core.passes by).pages) p) (sym may.may.2)
+
+    more : (p : ℕ) → pledged sizes (changed_pass sizes by core (Pledge unit) found) (changed_pass sizes by core (Pledge unit) found).control p ≡ one_if (p == unit) + count_in (take (nth_of sizes (core.passes by).call page) (core.passes by).pages) p
+    more p = pledged_next (λ s. pledged sizes (core.passes by) s p ≡ one_if (p == unit) + count_in (take (nth_of sizes (core.passes by).call page) (core.passes by).pages) p) sizes (core.passes by) page may.may.1
+        (if_both (λ s. pledged sizes (core.passes by) s p ≡ one_if (p == unit) + count_in (take (nth_of sizes (core.passes by).call page) (core.passes by).pages) p) (page + 1 == end_page sizes (core.passes by).call)
         (ReadyEntry (if (core.passes by).entries == 1 then (core.passes by).first else (core.passes by).first + 1)) (PledgePage (page + 1))
-        (λ last. all p last ∙ front_more sizes (core.passes by).call (core.passes by).pages pages page p at.1)
-        (λ _. front_more sizes (core.passes by).call (core.passes by).pages pages page p at.1)
+        (λ last. all p last ∙ here p)
+        (λ _. here p))
 
 -- ---- an entry that is made ready
 
@@ -309,7 +317,10 @@ readies_step sizes first by core found next sound dirty may = record {
     is_page : IsPage sizes (core.passes by).call (page_at sizes (core.passes by) next)
     is_page = (omega arith, let x = at.1.0 in let y = at.1.1 in let m = at.0.many in omega (arith, x, y, m))
 
-    pages : (core.passes by).pages ≡ pages_of sizes (core.passes by).call
+    own : ℕ
+    own = (core.passes by).units (page_at sizes (core.passes by) next)
+
+    pages : HasTaken sizes (core.passes by).call (core.passes by).units (core.passes by).pages (page_count sizes (core.passes by).call)
     pages = subst (PagesAt sizes (core.passes by)) may.may (sound.control_facts by).pages
 
     fills_next : Fills (core.passes by) next
@@ -321,11 +332,11 @@ readies_step sizes first by core found next sound dirty may = record {
     few : (if next == (core.passes by).first then (core.passes by).entries else 0) ≤ mount_layout.group_limit
     few = if_both (λ c. c ≤ mount_layout.group_limit) (next == (core.passes by).first) (core.passes by).entries 0 (λ _. let m = at.0.many in let a : page_count sizes (core.passes by).call ≤ mount_layout.group_limit = (let b = allowed.short in omega (arith, b)) in omega (arith, m, a)) (λ _. omega arith)
 
-    entries_now : (p : ℕ) → entries_of_page sizes (after_step sizes by (Ready next) found core).words p ≡ entries_of_page sizes core.words p + one_if (page_at sizes (core.passes by) next == p)
+    entries_now : (p : ℕ) → entries_of_page sizes (after_step sizes by (Ready next) found core).words p ≡ entries_of_page sizes core.words p + one_if (own == p)
     entries_now p =
         let e = entries_at sizes core.words (slot_of_entry sizes next) (ready_word sizes (core.passes by) next) p (slot_less sizes (core.passes by) next at.0 allowed) in
         let a : one_if (is_of_page p (core.words (ENTRY (slot_of_entry sizes next)))) ≡ 0 = when_false _ 1 0 (ap (is_of_page p) (sound.window.filling_is by next fills_next) ∙ not_of_page p 1 (λ e. omega (arith, e)) (λ e. omega (arith, e))) in
-        let b = ready_of_page (if next == (core.passes by).first then (core.passes by).entries else 0) (page_at sizes (core.passes by) next) p few in
+        let b = ready_of_page (if next == (core.passes by).first then (core.passes by).entries else 0) own p few in
         omega (arith, e, a, b)
 
     -- its place among the pages
@@ -333,7 +344,7 @@ readies_step sizes first by core found next sound dirty may = record {
     nth = (let x = at.1.0 in omega (arith, x))
 
     behind : (p : ℕ) → count_in (drop (next - (core.passes by).first) (core.passes by).pages) p
-        ≡ one_if (p == page_at sizes (core.passes by) next) + count_in (drop (next + 1 - (core.passes by).first) (core.passes by).pages) p
+        ≡ one_if (p == own) + count_in (drop (next + 1 - (core.passes by).first) (core.passes by).pages) p
     behind p =
         let e = end_less sizes (core.passes by).call (core.passes by).pages pages (page_at sizes (core.passes by) next) p is_page in
         let a : count_in (drop (nth_of sizes (core.passes by).call (page_at sizes (core.passes by) next)) (core.passes by).pages) p ≡ count_in (drop (next - (core.passes by).first) (core.passes by).pages) p = ap (λ k. count_in (drop k (core.passes by).pages) p) nth in
@@ -342,7 +353,7 @@ readies_step sizes first by core found next sound dirty may = record {
         omega (arith, e, a, b)
 
     -- the leader's alone
-    front : (p : ℕ) → next ≡ (core.passes by).first → count_in (take 1 (core.passes by).pages) p ≡ one_if (p == page_at sizes (core.passes by) next)
+    front : (p : ℕ) → next ≡ (core.passes by).first → count_in (take 1 (core.passes by).pages) p ≡ one_if (p == own)
     front p same =
         let split = count_split (core.passes by).pages p in
         let whole = count_whole (core.passes by).pages p in
@@ -359,10 +370,10 @@ readies_step sizes first by core found next sound dirty may = record {
     was p = ap (λ s. pledged sizes (core.passes by) s p) may.may
 
     -- the page of the entry counts one less, and another page what it did
-    less : (p : ℕ) → pledged sizes (core.passes by) (changed_pass sizes by core (Ready next) found).control p + one_if (page_at sizes (core.passes by) next == p) ≡ pledged sizes (core.passes by) (core.passes by).control p
+    less : (p : ℕ) → pledged sizes (core.passes by) (changed_pass sizes by core (Ready next) found).control p + one_if (own == p) ≡ pledged sizes (core.passes by) (core.passes by).control p
     less p =
-        let before = was p in let turned = eq_turned p (page_at sizes (core.passes by) next) in
-        if_both (λ s. pledged sizes (core.passes by) s p + one_if (page_at sizes (core.passes by) next == p) ≡ pledged sizes (core.passes by) (core.passes by).control p) (next == (core.passes by).first) TakePlace
+        let before = was p in let turned = eq_turned p own in
+        if_both (λ s. pledged sizes (core.passes by) s p + one_if (own == p) ≡ pledged sizes (core.passes by) (core.passes by).control p) (next == (core.passes by).first) TakePlace
         (ReadyEntry (if next + 1 == (core.passes by).first + (core.passes by).entries then (core.passes by).first else next + 1))
         (λ e. let f = front p (eqb-true next (core.passes by).first e) in
         let none : rest next p ≡ 0 = when_true (next == (core.passes by).first) 0 _ e in omega (arith, before, turned, f, none))
@@ -554,14 +565,14 @@ dirty_step sizes first by core (Break next) found sound dirty may =
     (subst IsUnpledged (sym may.may) tt) (if_both IsUnpledged (next + 1 == (core.passes by).first + (core.passes by).entries) (leaving (without (ENTRY (slot_of_entry sizes next)) (core.passes by).owned)) (BreakEntry (next + 1))
     (λ _. unpledged_leaving (without (ENTRY (slot_of_entry sizes next)) (core.passes by).owned)) (λ _. tt))
 dirty_step sizes first by core (Hold next) found sound dirty may =
-    let looks : InWindow core next × (is_entry_of ready may.may.0 (entry_word_at sizes core next) ≡ true) = subst (LooksSound sizes core (core.passes by).pages) may.may.1 (sound.loaded.looks by) in
-    let kind = (entry_is ready may.may.0 (entry_word_at sizes core next) looks.1).0 in
+    let looks : InWindow core next × (is_entry_of ready ((core.passes by).units may.may.0) (entry_word_at sizes core next) ≡ true) = subst (LooksSound sizes core (core.passes by).units) may.may.1 (sound.loaded.looks by) in
+    let kind = (entry_is ready ((core.passes by).units may.may.0) (entry_word_at sizes core next) looks.1).0 in
     silent_step sizes first by core (Hold next) found sound dirty may (λ f. f) (λ page. refl)
     (λ page. entry_same sizes core.words (slot_of_entry sizes next) (found + 1) page (slot_within sizes core next sound.window looks.0) (ap (is_of_page page) may.is ∙ hold_same page found (ap kind_of (sym may.is) ∙ kind)))
     (clear_unpledged _ (clear_from sizes core.values (core.passes by) (Hold next) tt may.may)) (clear_unpledged _ (clear_to sizes core.values (core.passes by) (Hold next) found tt may.may))
 dirty_step sizes first by core (Return next) found sound dirty may =
-    let looks : InWindow core next × (is_entry_of held may.may.0 (entry_word_at sizes core next) ≡ true) = subst (LooksSound sizes core (core.passes by).pages) may.may.2 (sound.loaded.looks by) in
-    let kind = (entry_is held may.may.0 (entry_word_at sizes core next) looks.1).0 in
+    let looks : InWindow core next × (is_entry_of held ((core.passes by).units may.may.0) (entry_word_at sizes core next) ≡ true) = subst (LooksSound sizes core (core.passes by).units) may.may.2 (sound.loaded.looks by) in
+    let kind = (entry_is held ((core.passes by).units may.may.0) (entry_word_at sizes core next) looks.1).0 in
     silent_step sizes first by core (Return next) found sound dirty may (λ f. f) (λ page. refl)
     (λ page. entry_same sizes core.words (slot_of_entry sizes next) (found - 1) page (slot_within sizes core next sound.window looks.0) (ap (is_of_page page) may.is ∙ return_same page found (ap kind_of (sym may.is) ∙ kind)))
     (clear_unpledged _ (clear_from sizes core.values (core.passes by) (Return next) tt may.may)) (clear_unpledged _ (clear_to sizes core.values (core.passes by) (Return next) found tt may.may))

@@ -82,21 +82,21 @@ words_step sizes first by core (Ready next) found sound words may =
     let most = pages_within sizes (core.passes by).call allowed (some_bytes (core.passes by).call at.0.write) in
     record {
       each = λ slot. changed_word sizes core (slot_of_entry sizes next) (ready_word sizes (core.passes by) next) words
-          (SaysReadied ready (if next == (core.passes by).first then (core.passes by).entries else 0) (page_at sizes (core.passes by) next) (omega arith) (omega arith) refl
+          (SaysReadied ready (if next == (core.passes by).first then (core.passes by).entries else 0) ((core.passes by).units (page_at sizes (core.passes by) next)) (omega arith) (omega arith) refl
           (if_both (λ c. c ≤ mount_layout.group_limit) (next == (core.passes by).first) (core.passes by).entries 0 (λ _. let m = at.0.many in let a : page_count sizes (core.passes by).call ≤ mount_layout.group_limit = (let b = allowed.short in omega (arith, b)) in omega (arith, m, a)) (λ _. omega arith))
-          (let x = at.1.0 in let y = at.1.1 in let m = at.0.many in omega (arith, x, y, m, most))) slot;
+          ((sound.control_facts by).within (page_at sizes (core.passes by) next) (let x = at.1.0 in let y = at.1.1 in let m = at.0.many in omega (arith, x, y, m, most)))) slot;
     }
 words_step sizes first by core (Hold next) found sound words may =
-    let looks : InWindow core next × (is_entry_of ready may.may.0 (entry_word_at sizes core next) ≡ true) = subst (LooksSound sizes core (core.passes by).pages) may.may.1 (sound.loaded.looks by) in
+    let looks : InWindow core next × (is_entry_of ready ((core.passes by).units may.may.0) (entry_word_at sizes core next) ≡ true) = subst (LooksSound sizes core (core.passes by).units) may.may.1 (sound.loaded.looks by) in
     record {
       each = λ slot. changed_word sizes core (slot_of_entry sizes next) (found + 1) words
-          (hold_word sizes found (subst (IsEntryWord sizes) may.is (words.each (slot_of_entry sizes next))) (ap kind_of (sym may.is) ∙ (entry_is ready may.may.0 (entry_word_at sizes core next) looks.1).0)) slot;
+          (hold_word sizes found (subst (IsEntryWord sizes) may.is (words.each (slot_of_entry sizes next))) (ap kind_of (sym may.is) ∙ (entry_is ready ((core.passes by).units may.may.0) (entry_word_at sizes core next) looks.1).0)) slot;
     }
 words_step sizes first by core (Return next) found sound words may =
-    let looks : InWindow core next × (is_entry_of held may.may.0 (entry_word_at sizes core next) ≡ true) = subst (LooksSound sizes core (core.passes by).pages) may.may.2 (sound.loaded.looks by) in
+    let looks : InWindow core next × (is_entry_of held ((core.passes by).units may.may.0) (entry_word_at sizes core next) ≡ true) = subst (LooksSound sizes core (core.passes by).units) may.may.2 (sound.loaded.looks by) in
     record {
       each = λ slot. changed_word sizes core (slot_of_entry sizes next) (found - 1) words
-          (return_word sizes found (subst (IsEntryWord sizes) may.is (words.each (slot_of_entry sizes next))) (ap kind_of (sym may.is) ∙ (entry_is held may.may.0 (entry_word_at sizes core next) looks.1).0)) slot;
+          (return_word sizes found (subst (IsEntryWord sizes) may.is (words.each (slot_of_entry sizes next))) (ap kind_of (sym may.is) ∙ (entry_is held ((core.passes by).units may.may.0) (entry_word_at sizes core next) looks.1).0)) slot;
     }
 words_step sizes first by core (ByCleaner (cleaner.Hold next)) found sound words may = record {
   each = λ slot. changed_word sizes core (slot_of_entry sizes next) (found + 1) words

@@ -6,7 +6,7 @@ use Rattle.nv_core.specs.state.Words.{Sizes, Word, STOP, STORE, ENTRY, PAGE, CLE
 use Rattle.nv_core.specs.state.Passes.{Control, SetStopAfterRead, SetStopAfterCommit, Fault, Pass, IsOneOf, times, SetStopAfterPiece, plain_call}
 use Rattle.nv_core.specs.steps.Ops.{Op, Load, Stop, Split, PutBack, Join, ByCleaner}
 use Rattle.nv_core.specs.state.Cleaner as cleaner
-use Rattle.nv_core.specs.steps.PassSteps.{stopped_after, begun}
+use Rattle.nv_core.specs.steps.PassSteps.{stopped_after, begun, fault_of}
 use Rattle.nv_core.specs.steps.Order.{Values, Work, CallEnabled, IsFailing}
 use Rattle.nv_core.specs.state.Core.{Core, changes, changed_pass, after_step, after_begin, after_work, worked}
 use Rattle.nv_core.specs.steps.Events.{CallMayBegin}
@@ -19,7 +19,7 @@ use Rattle.nv_core.proofs.state.Changes.{by_number, differ}
 use Rattle.nv_core.proofs.state.Choices.{if_both}
 use Rattle.nv_core.proofs.invariant.KeepsLoaded.{holds_page}
 use Rattle.nv_core.specs.invariant.Index.{Index}
-use Rattle.nv_core.proofs.invariant.IndexLaws.{index_kept, stands_for, is_stood_for}
+use Rattle.nv_core.proofs.invariant.IndexLaws.{index_step, index_begin, index_work, unit_for}
 use Rattle.nv_core.proofs.invariant.FaultedCells.{lent, IsTakenBefore, before, unstopped, found_open, first_unchecked, worked_checked, AreSole, off_limits_step, off_limits_begin, off_limits_work, sole_step, sole_begin, sole_work}
 
 -- ---- the parts
@@ -73,10 +73,10 @@ once_here sizes by core found Stop broken may = let none = ap length (broken.pas
 once_here sizes by core found op broken may = broken.once by
 
 -- a pass that fails holds its pages
-pub failing_page : (sizes : Sizes) (pass : Pass) (page : ℕ) (control : Control) → IsFailing control → PagesAt sizes pass control → HoldsLocks sizes pass control → IsPage sizes pass.call page → times (PAGE page) pass.owned ≡ 1
-failing_page sizes pass page (SetStopAfterRead other dirty) may pages held is = holds_page sizes pass page pages is (held (PAGE page) (λ slot. differ (PAGE page) (ENTRY slot) refl))
-failing_page sizes pass page (SetStopAfterPiece other next) may pages held is = holds_page sizes pass page pages is (held (PAGE page) (λ slot. differ (PAGE page) (ENTRY slot) refl))
-failing_page sizes pass page SetStopAfterCommit may pages held is = holds_page sizes pass page pages is (held (PAGE page) (λ slot. differ (PAGE page) (ENTRY slot) refl))
+pub failing_page : (sizes : Sizes) (pass : Pass) (page : ℕ) (control : Control) → IsFailing control → PagesAt sizes pass control → HoldsLocks sizes pass control → IsPage sizes pass.call page → times (PAGE (pass.units page)) pass.owned ≡ 1
+failing_page sizes pass page (SetStopAfterRead other dirty) may pages held is = holds_page sizes pass page pages is (held (PAGE (pass.units page)) (λ slot. differ (PAGE (pass.units page)) (ENTRY slot) refl))
+failing_page sizes pass page (SetStopAfterPiece other next) may pages held is = holds_page sizes pass page pages is (held (PAGE (pass.units page)) (λ slot. differ (PAGE (pass.units page)) (ENTRY slot) refl))
+failing_page sizes pass page SetStopAfterCommit may pages held is = holds_page sizes pass page pages is (held (PAGE (pass.units page)) (λ slot. differ (PAGE (pass.units page)) (ENTRY slot) refl))
 failing_page sizes pass page control may pages held is = absurd may
 
 -- the pages of its call, which a fault has left shut
@@ -95,7 +95,8 @@ were_sole sizes core broken n m cell fault more is too a b = broken.one n m (cor
 pages_once : (sizes : Sizes) (core : Core) → Index core → AreSole (Bars sizes core.names) (early sizes core.names) core → (n m page : ℕ) (fault more : Fault) → IsOneOf (core.passes n).faulted fault → IsOneOf (core.passes m).faulted more
     → IsPage sizes fault.call page → IsPage sizes more.call page → n ≡ m
 pages_once sizes core index sole n m page fault more is too a b =
-    sole n m (PAGE page) fault more is too (page, refl, stands_for sizes core index fault.call page a) (page, refl, stands_for sizes core index more.call page b)
+    let unit = (core.passes n).units page in let named = index.known n page in
+    sole n m (PAGE unit) fault more is too (unit, refl, subst (IsPage sizes fault.call) (sym named) a) (unit, refl, subst (IsPage sizes more.call) (sym named) b)
 
 pub broken_step : (sizes : Sizes) (first : Values) (by : ℕ) (core : Core) (op : Op) (found : ℕ) → Sound sizes first core → Broken sizes core → FoundEnabledByKind sizes by core op found → Broken sizes (after_step sizes by op found core)
 broken_step sizes first by core op found sound broken may = record {
@@ -103,11 +104,9 @@ broken_step sizes first by core op found sound broken may = record {
   once = by_number (λ n (p : Pass). length p.faulted ≤ 1) core.passes who now (once_here sizes by core found op broken may.may) (λ n ne. broken.once n);
   passed = by_number (λ n (p : Pass). HasChecked p.control → p.faulted ≡ []) core.passes who now (passed_here sizes first by core found op sound broken may) (λ n ne. broken.passed n);
   pages = λ n m unit fault is at. off_limits_step (Bars sizes core.names) (early sizes core.names) sizes first by core op found sound may
-      (λ fails cell own. subst (λ c. times c (core.passes by).owned ≡ 1) (sym own.1) (failing_page sizes (core.passes by) own.0 (core.passes by).control fails (sound.control_facts by).pages (sound.ownership by).locks (is_stood_for sizes core sound.index (core.passes by).call own.0 own.2)))
-      (were_off_limits sizes core broken) n m (PAGE unit) fault is (unit, refl, at);
-  one = pages_once sizes (after_step sizes by op found core) (index_kept core (after_step sizes by op found core) refl sound.index) (sole_step (Bars sizes core.names) (early sizes core.names) sizes first by core op found sound may
-      (λ fails cell own. subst (λ c. times c (core.passes by).owned ≡ 1) (sym own.1) (failing_page sizes (core.passes by) own.0 (core.passes by).control fails (sound.control_facts by).pages (sound.ownership by).locks (is_stood_for sizes core sound.index (core.passes by).call own.0 own.2)))
-      (were_off_limits sizes core broken) (were_sole sizes core broken));
+      failing (were_off_limits sizes core broken) n m (PAGE unit) fault is (unit, refl, at);
+  one = pages_once sizes (after_step sizes by op found core) (index_step sizes by core sound.index op found) (sole_step (Bars sizes core.names) (early sizes core.names) sizes first by core op found sound may
+      failing (were_off_limits sizes core broken) (were_sole sizes core broken));
 }
   where
     who : ℕ
@@ -115,6 +114,10 @@ broken_step sizes first by core op found sound broken may = record {
 
     now : Pass
     now = changed_pass sizes by core op found
+
+    failing : IsFailing (core.passes by).control → (cell : Word) → Bars sizes core.names (fault_of (core.passes by)) cell → times cell (core.passes by).owned ≡ 1
+    failing fails cell own = subst (λ c. times c (core.passes by).owned ≡ 1) (sym (own.1 ∙ ap PAGE (unit_for core sound.index by own.0 (core.names own.0) refl)))
+        (failing_page sizes (core.passes by) (core.names own.0) (core.passes by).control fails (sound.control_facts by).pages (sound.ownership by).locks own.2)
 
 -- ---- a call that begins, and a device call
 
@@ -124,7 +127,7 @@ broken_begin sizes first by core call sound broken may = record {
   once = by_number (λ n (p : Pass). length p.faulted ≤ 1) core.passes by (begun sizes call (core.passes by)) (broken.once by) (λ n ne. broken.once n);
   passed = by_number (λ n (p : Pass). HasChecked p.control → p.faulted ≡ []) core.passes by (begun sizes call (core.passes by)) (λ is. absurd (first_unchecked sizes (plain_call call) is)) (λ n ne. broken.passed n);
   pages = λ n m unit fault is at. off_limits_begin (Bars sizes core.names) (early sizes core.names) sizes by core call (were_off_limits sizes core broken) n m (PAGE unit) fault is (unit, refl, at);
-  one = pages_once sizes (after_begin sizes by call core) (index_kept core (after_begin sizes by call core) refl sound.index) (sole_begin (Bars sizes core.names) (early sizes core.names) sizes by core call (were_sole sizes core broken));
+  one = pages_once sizes (after_begin sizes by call core) (index_begin sizes by core sound.index call) (sole_begin (Bars sizes core.names) (early sizes core.names) sizes by core call (were_sole sizes core broken));
 }
 
 pub broken_work : (sizes : Sizes) (first : Values) (by : ℕ) (core : Core) (work : Work) → Sound sizes first core → Broken sizes core → CallEnabled sizes core.values (core.passes by) work → Broken sizes (after_work sizes by work core)
@@ -133,5 +136,5 @@ broken_work sizes first by core work sound broken may = record {
   once = by_number (λ n (p : Pass). length p.faulted ≤ 1) core.passes by (worked sizes work (core.passes by)) (broken.once by) (λ n ne. broken.once n);
   passed = by_number (λ n (p : Pass). HasChecked p.control → p.faulted ≡ []) core.passes by (worked sizes work (core.passes by)) (λ is. broken.passed by (worked_checked sizes core.values (core.passes by) work may.due is)) (λ n ne. broken.passed n);
   pages = λ n m unit fault is at. off_limits_work (Bars sizes core.names) (early sizes core.names) sizes by core work may (were_off_limits sizes core broken) n m (PAGE unit) fault is (unit, refl, at);
-  one = pages_once sizes (after_work sizes by work core) (index_kept core (after_work sizes by work core) refl sound.index) (sole_work (Bars sizes core.names) (early sizes core.names) sizes by core work (were_sole sizes core broken));
+  one = pages_once sizes (after_work sizes by work core) (index_work sizes by core sound.index work) (sole_work (Bars sizes core.names) (early sizes core.names) sizes by core work (were_sole sizes core broken));
 }

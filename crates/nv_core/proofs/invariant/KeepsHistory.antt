@@ -8,7 +8,7 @@ use Rattle.nv_plain.specs.declared.call.Reply.{Reply}
 use Rattle.nv_plain.specs.Made.{reply_from}
 use Rattle.nv_core.specs.state.Totals.{total}
 use Rattle.nv_core.specs.state.Words.{Sizes, Word, STOP, ORDER, HEAD, TAIL, SIZE, LENGTH, STORE, ENTRY, PAGE, DIRTY, HINT, CLEANUP, slot_of_entry}
-use Rattle.nv_core.specs.state.Passes.{Control, Idle, TakePage, LoadLength, TakeSize, LoadStop, LoadOrder, VisitPage, TakeStore, ReadStore, GiveStore, WriteLoadHead, WriteLoadTail, DrawNumbers, SeizeEntry, CommitGroup, PledgePage, ReadyEntry, TakePlace, GrowLength, GiveSize, GivePage, GiveBack, SetStopAfterRead, SetStopAfterCommit, BreakEntry, Pass, is_write, page_count, first_page, end_page, without, Searching, LoadHint, TakeVictim, TakeCleanup, ReadLoadHead, ReadLoadTail, LoadEntry, HoldEntry, ReadPiece, ReturnEntry, GiveCleanup, SetStopAfterPiece, Cleaning, plain_call}
+use Rattle.nv_core.specs.state.Passes.{Control, Idle, TakePage, LoadLength, TakeSize, LoadStop, LoadOrder, VisitPage, TakeStore, ReadStore, GiveStore, WriteLoadHead, WriteLoadTail, DrawNumbers, SeizeEntry, CommitGroup, PledgePage, ReadyEntry, TakePlace, GrowLength, GiveSize, GivePage, GiveBack, SetStopAfterRead, SetStopAfterCommit, BreakEntry, Pass, is_write, page_count, first_page, end_page, without, Searching, LoadHint, TakeVictim, TakeCleanup, ReadLoadHead, ReadLoadTail, LoadEntry, HoldEntry, ReadPiece, ReturnEntry, GiveCleanup, SetStopAfterPiece, Cleaning, plain_call, VictimGiven}
 use Rattle.nv_core.specs.steps.Ops.{Op, Load, Take, Give, Place, Stop, Draw, Seize, Pledge, Ready, Grow, Break, Split, PutBack, Join, Turn, Hint, Hold, Return, ByCleaner, cleaner_move, moved}
 use Rattle.nv_core.specs.steps.ControlSteps.{control_after, after_load, after_give, after_stop, leaving, giving, ending, exceeds, ordered, after_return}
 use Rattle.nv_core.specs.steps.PassSteps.{stepped, added, begun, as_answered}
@@ -28,7 +28,7 @@ use Rattle.nv_core.proofs.steps.Inherits.{inherits}
 use Rattle.nv_core.proofs.invariant.KeepsLoaded.{more_made}
 use Rattle.nv_core.proofs.invariant.ControlFactLaws.{worked_control}
 use Rattle.nv_core.proofs.steps.CleanerControls.{tended_to, of_cleaner_worked}
-use Rattle.nv_core.proofs.steps.SearchLaws.{turned_at, looked_at, tried_next, hinted_at}
+use Rattle.nv_core.proofs.steps.SearchLaws.{turned_at, looked_at, tried_next}
 
 -- ---- lists
 
@@ -98,19 +98,19 @@ quiet_load sizes values pass ORDER found quiet may = absurd quiet
 quiet_load sizes values pass HEAD found quiet may = elim may [ inl here ↦ from_open pass.control _ WriteLoadHead here refl | inr here ↦ from_open pass.control _ (ReadLoadHead here.0) here.1 refl ]
 quiet_load sizes values pass TAIL found quiet may = elim may [ inl here ↦ from_open pass.control _ WriteLoadTail here refl | inr here ↦ from_open pass.control _ (ReadLoadTail here.0) here.1 refl ]
 quiet_load sizes values pass (ENTRY slot) found quiet may = from_open pass.control _ (LoadEntry may.0 may.1) may.2 refl
-quiet_load sizes values pass (DIRTY page) found quiet may = looked_at (λ s. control_open (after_load sizes pass (DIRTY page) found) ≤ control_open s) sizes values pass page
-    (λ from. from_open (VisitPage from) _ (VisitPage from) refl refl) (λ tries search. from_open (Searching page tries search) _ (Searching page tries search) refl refl) may
+quiet_load sizes values pass (DIRTY unit) found quiet may = looked_at (λ s. control_open (after_load sizes pass (DIRTY unit) found) ≤ control_open s) sizes values pass may.0
+    (λ from. from_open (VisitPage from) _ (VisitPage from) refl refl) (λ tries search. from_open (Searching may.0 tries search) _ (Searching may.0 tries search) refl refl) may.1
 quiet_load sizes values pass (HINT buffer) found quiet may = from_open pass.control _ (Searching may.page may.tries (LoadHint buffer)) may.is refl
 quiet_load sizes values pass word found quiet may = absurd may
 
 quiet_take : (sizes : Sizes) (pass : Pass) (cell : Word) (found : ℕ) → MayTake pass cell → control_open (control_after sizes pass (Take cell) found) ≤ control_open pass.control
 quiet_take sizes pass (PAGE page) found may = tried_next (λ s. control_open s ≤ control_open pass.control) sizes pass page found
-    (λ _. to_none pass.control _ (if_both (λ s. control_open s ≡ 0) (found == 0) (if page + 1 == end_page sizes pass.call then LoadLength else TakePage (page + 1)) (leaving pass.owned)
+    (λ page _ _. to_none pass.control _ (if_both (λ s. control_open s ≡ 0) (found == 0) (if page + 1 == end_page sizes pass.call then LoadLength else TakePage (page + 1)) (leaving pass.owned)
     (λ _. if_both (λ s. control_open s ≡ 0) (page + 1 == end_page sizes pass.call) LoadLength (TakePage (page + 1)) (λ _. refl) (λ _. refl)) (λ _. none_leaving pass.owned)))
-    (λ s. from_open pass.control _ (Searching s.page s.tries (TakeVictim s.buffer page)) s.is refl) may
+    (λ s. from_open pass.control _ (Searching s.page s.tries (TakeVictim s.buffer _)) s.is refl) may
 quiet_take sizes pass (SIZE file) found may = to_none pass.control _ (if_both (λ s. control_open s ≡ 0) (found == 0) LoadLength (leaving pass.owned) (λ _. refl) (λ _. none_leaving pass.owned))
 quiet_take sizes pass (STORE file) found may = from_open pass.control _ (TakeStore may.0 may.1) may.2 refl
-quiet_take sizes pass (CLEANUP page) found may = from_open pass.control _ (TakeCleanup page) may refl
+quiet_take sizes pass (CLEANUP unit) found may = from_open pass.control _ (TakeCleanup may.0) may.1 refl
 quiet_take sizes pass cell found may = absurd may
 
 quiet_give : (sizes : Sizes) (pass : Pass) (cell : Word) (control : Control) → IsGivingBack control → control_open (after_give sizes pass cell control) ≤ control_open control
@@ -136,14 +136,14 @@ quiet sizes values pass found number history Stop is may = stops pass.control ma
     stops control may = absurd may
 quiet sizes values pass found number history Draw is may = let a = from_open pass.control (control_after sizes pass Draw found) DrawNumbers may refl in omega (arith, a)
 quiet sizes values pass found number history (Seize next) is may = let a = from_open pass.control (control_after sizes pass (Seize next) found) (SeizeEntry next) may refl in omega (arith, a)
-quiet sizes values pass found number history (Pledge page) is may = let a = from_open pass.control (control_after sizes pass (Pledge page) found) (PledgePage page) may refl in omega (arith, a)
+quiet sizes values pass found number history (Pledge page) is may = let a = from_open pass.control (control_after sizes pass (Pledge page) found) (PledgePage may.0) may.1 refl in omega (arith, a)
 quiet sizes values pass found number history (Ready next) is may = let a = from_open pass.control (control_after sizes pass (Ready next) found) (ReadyEntry next) may refl in omega (arith, a)
 quiet sizes values pass found number history Grow is may = let a = none_ending sizes pass in omega (arith, a)
 quiet sizes values pass found number history (Break next) is may =
     let a = if_both (λ s. control_open s ≡ 0) (next + 1 == pass.first + pass.entries) (leaving (without (ENTRY (slot_of_entry sizes next)) pass.owned)) (BreakEntry (next + 1)) (λ _. none_leaving (without (ENTRY (slot_of_entry sizes next)) pass.owned)) (λ _. refl) in
     omega (arith, a)
 quiet sizes values pass found number history (Turn page) is may = let a = turned_at (λ s. 1 ≤ control_open s) sizes values pass page (λ _. omega arith) (λ _ _. omega arith) may in omega (arith, a)
-quiet sizes values pass found number history (Hint buffer page) is may = let a = hinted_at (λ s. 1 ≤ control_open s) values pass buffer page (λ _. omega arith) may in omega (arith, a)
+quiet sizes values pass found number history (Hint buffer page) is may = let a = from_open pass.control (control_after sizes pass (Hint buffer page) found) (Searching may.page may.tries (VictimGiven buffer)) may.is refl in omega (arith, a)
 quiet sizes values pass found number history (Place reply) is may = absurd is
 quiet sizes values pass found number history (Hold next) is may = let a = from_open pass.control (control_after sizes pass (Hold next) found) (HoldEntry may.0 next) may.1 refl in omega (arith, a)
 quiet sizes values pass found number history (Return next) is may = let a = go may.1 may.2 in omega (arith, a)

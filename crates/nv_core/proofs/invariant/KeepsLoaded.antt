@@ -1,5 +1,5 @@
 -- Each event keeps what was loaded.
-use Rattle.std.proofs.Common.{◌≡◌, ◌≢◌, ◌⊎◌, ℕ, ◌+◌, ◌-◌, ◌^◌, ◌<◌, ◌≤◌, ◌==◌, nat_lt, nat_le, not, ◌&&◌, Bool, true, false, if◌then◌else◌, List, [], length, inl, inr, refl, sym, ap, subst, ◌∙◌, arith, le_trans}
+use Rattle.std.proofs.Common.{◌≡◌, ◌≢◌, ◌⊎◌, ℕ, ◌+◌, ◌-◌, ◌^◌, ◌<◌, ◌≤◌, ◌==◌, nat_lt, nat_le, not, ◌&&◌, Bool, true, false, if◌then◌else◌, List, length, inl, inr, refl, sym, ap, subst, ◌∙◌, arith, le_trans}
 use Rattle.std.proofs.lemmas.Bool.{eqb-true, eq-eqb, and_from, and_parts, ltb-true, le-ltb, cases_eq, cases_lt, cases_Bool}
 use Rattle.nv_plain.specs.declared.call.FileCall.{FileCall}
 use Rattle.nv_plain.specs.declared.call.Reply.{Reply}
@@ -7,17 +7,17 @@ use Rattle.nv_core.specs.state.Words.{Sizes, Word, STOP, ORDER, HEAD, TAIL, SIZE
 use Rattle.nv_core.specs.state.Values.{CallEnding, Made, Failed, Refused}
 use Rattle.nv_core.specs.state.Cleaner.{Subtract, MoveTail}
 use Rattle.nv_core.specs.state.Cleaner as cleaner
-use Rattle.nv_core.specs.state.Passes.{Control, Idle, TakePage, LoadLength, TakeSize, LoadStop, LoadOrder, VisitPage, TakeStore, ReadStore, GiveStore, TakeCleanup, WriteLoadHead, WriteLoadTail, DrawNumbers, SeizeEntry, CommitGroup, PledgePage, ReadyEntry, TakePlace, GrowLength, GiveSize, GivePage, GiveBack, SetStopAfterRead, SetStopAfterCommit, BreakEntry, Cleaning, Pass, file_of, at_of, len_of, is_write, is_read, page_count, first_page, end_page, without, times, Searching, TakeVictim, ReadLoadHead, ReadLoadTail, LoadEntry, HoldEntry, ReadPiece, ReturnEntry, GiveCleanup, SetStopAfterPiece, plain_call, pages_of}
+use Rattle.nv_core.specs.state.Passes.{Control, Idle, TakePage, LoadLength, TakeSize, LoadStop, LoadOrder, VisitPage, TakeStore, ReadStore, GiveStore, TakeCleanup, WriteLoadHead, WriteLoadTail, DrawNumbers, SeizeEntry, CommitGroup, PledgePage, ReadyEntry, TakePlace, GrowLength, GiveSize, GivePage, GiveBack, SetStopAfterRead, SetStopAfterCommit, BreakEntry, Cleaning, Pass, file_of, at_of, len_of, is_write, is_read, page_count, first_page, end_page, without, times, Searching, TakeVictim, ReadLoadHead, ReadLoadTail, LoadEntry, HoldEntry, ReadPiece, ReturnEntry, GiveCleanup, SetStopAfterPiece, plain_call, page_of_unit}
 use Rattle.nv_core.specs.steps.Ops.{Op, Load, Take, Give, Place, Stop, Draw, Seize, Pledge, Ready, Grow, Break, Split, PutBack, Join, value_after, Turn, Hint, Hold, Return, ByCleaner, moved, cleaner_move}
 use Rattle.nv_core.specs.steps.ControlSteps.{control_after, after_load, after_give, after_stop, leaving, giving, ending, ordered, copying, exceeds, first_control, scanning, after_head, after_tail, after_look, after_hold, after_return}
-use Rattle.nv_core.specs.steps.PassSteps.{begun, length_after, sized_after, pages_after}
+use Rattle.nv_core.specs.steps.PassSteps.{begun, length_after, sized_after}
 use Rattle.nv_core.specs.steps.Order.{Values, Work, CallEnabled, CallDue, IsFailing, commit_steps}
 use Rattle.nv_core.specs.steps.StepKinds.{MayLoad, MayTake, MayGive, MayPlace, EnabledByKind}
 use Rattle.nv_core.proofs.state.PageLaws.{some_pages}
 use Rattle.nv_core.specs.state.Core.{Core, changes, changed_pass, made_stepped, after_step, after_begin, after_work, worked, control_worked}
 use Rattle.nv_core.specs.steps.Events.{CallMayBegin}
 use Rattle.nv_core.proofs.steps.ByKind.{StepEnabledByKind, FoundEnabledByKind}
-use Rattle.nv_core.specs.invariant.ControlFacts.{FactsAt, IsPage, PagesAt}
+use Rattle.nv_core.specs.invariant.ControlFacts.{FactsAt, IsPage, PagesAt, HasTaken, ControlFacts}
 use Rattle.nv_core.specs.invariant.Ownership.{one_if, HoldsLocks}
 use Rattle.nv_core.specs.invariant.Loaded.{HasMeasured, SawClean, Loaded, Bounds, LooksSound}
 use Rattle.nv_core.specs.invariant.Sound.{Sound}
@@ -28,9 +28,10 @@ use Rattle.nv_core.proofs.steps.WordLaws.{untouched, touches}
 use Rattle.nv_core.proofs.steps.CleanerControls.{tended_to, of_cleaner_worked}
 use Rattle.nv_core.proofs.steps.CleanerOps.{retires_hand}
 use Rattle.nv_core.proofs.steps.Inherits.{inherits}
-use Rattle.nv_core.proofs.steps.SearchLaws.{turned_at, looked_at, hinting_at, hinting_next, tried_next, hinted_at}
+use Rattle.nv_core.proofs.steps.SearchLaws.{turned_at, looked_at, hinting_at, hinting_next, tried_next, hinted_at, clearing_next, pledged_next, hinted_next}
 use Rattle.nv_core.proofs.invariant.PageLists.{pages_once}
 use Rattle.nv_core.specs.invariant.CleanerOwnership.{count_in}
+use Rattle.nv_core.proofs.invariant.ControlFactLaws.{missed_page, missed_found}
 
 -- ---- HEAD and TAIL
 
@@ -160,19 +161,19 @@ before_load sizes values pass ORDER other may = at LoadOrder may tt
 before_load sizes values pass HEAD other may = elim may [ inl here ↦ at WriteLoadHead here tt | inr here ↦ at (ReadLoadHead here.0) here.1 tt ]
 before_load sizes values pass TAIL other may = elim may [ inl here ↦ at WriteLoadTail here tt | inr here ↦ at (ReadLoadTail here.0) here.1 tt ]
 before_load sizes values pass (ENTRY slot) other may = at (LoadEntry may.0 may.1) may.2 tt
-before_load sizes values pass (DIRTY page) other may = looked_at HasMeasured sizes values pass page (λ _. tt) (λ _ _. tt) may
+before_load sizes values pass (DIRTY unit) other may = looked_at HasMeasured sizes values pass may.0 (λ _. tt) (λ _ _. tt) may.1
 before_load sizes values pass (HINT buffer) other may = hinting_at HasMeasured pass buffer (λ _ _. tt) may
 before_load sizes values pass (LENGTH file) other may = absurd other
 before_load sizes values pass word other may = absurd may
 
 before_take : (sizes : Sizes) (pass : Pass) (cell : Word) (found : ℕ) → MayTake pass cell → HasMeasured (control_after sizes pass (Take cell) found) → HasMeasured pass.control
 before_take sizes pass (PAGE page) found may is = tried_next (λ s. HasMeasured s → HasMeasured pass.control) sizes pass page found
-    (λ _ is. absurd (if_both (λ s. HasMeasured s → ⊥) (found == 0) (if page + 1 == end_page sizes pass.call then LoadLength else TakePage (page + 1)) (leaving pass.owned)
+    (λ page _ _ is. absurd (if_both (λ s. HasMeasured s → ⊥) (found == 0) (if page + 1 == end_page sizes pass.call then LoadLength else TakePage (page + 1)) (leaving pass.owned)
     (λ _. if_both (λ s. HasMeasured s → ⊥) (page + 1 == end_page sizes pass.call) LoadLength (TakePage (page + 1)) (λ _ z. z) (λ _ z. z)) (λ _. unmeasured pass.owned) is))
-    (λ s is. at (Searching s.page s.tries (TakeVictim s.buffer page)) s.is tt) may is
+    (λ s is. at (Searching s.page s.tries (TakeVictim s.buffer _)) s.is tt) may is
 before_take sizes pass (SIZE file) found may is = absurd (if_both (λ s. HasMeasured s → ⊥) (found == 0) LoadLength (leaving pass.owned) (λ _ z. z) (λ _. unmeasured pass.owned) is)
 before_take sizes pass (STORE file) found may is = at (TakeStore may.0 may.1) may.2 tt
-before_take sizes pass (CLEANUP page) found may is = at (TakeCleanup page) may tt
+before_take sizes pass (CLEANUP unit) found may is = at (TakeCleanup may.0) may.1 tt
 before_take sizes pass cell found may is = absurd may
 
 before_give : (sizes : Sizes) (pass : Pass) (cell : Word) (control : Control) → MayGive pass cell control → HasMeasured (after_give sizes pass cell control) → HasMeasured control
@@ -203,7 +204,7 @@ before sizes values pass found Stop other may is = absurd (stops pass.control ma
     stops control may is = absurd may
 before sizes values pass found Draw other may is = at DrawNumbers may tt
 before sizes values pass found (Seize next) other may is = at (SeizeEntry next) may tt
-before sizes values pass found (Pledge page) other may is = at (PledgePage page) may tt
+before sizes values pass found (Pledge unit) other may is = at (PledgePage may.0) may.1 tt
 before sizes values pass found (Ready next) other may is = at (ReadyEntry next) may tt
 before sizes values pass found Grow other may is = absurd (unmeasured_ending sizes pass is)
 before sizes values pass found (Break next) other may is = absurd (if_both (λ s. HasMeasured s → ⊥) (next + 1 == pass.first + pass.entries) (leaving (without (ENTRY (slot_of_entry sizes next)) pass.owned)) (BreakEntry (next + 1))
@@ -216,7 +217,7 @@ before sizes values pass found (Return next) other may is = go may.1 may.2 (subs
     go false here is = at (ReturnEntry may.0 next false) here tt
 before sizes values pass found (ByCleaner cleaner_op) other may is = absurd (tended_to (λ s. HasMeasured s → ⊥) (λ z. z) (λ _ _ z. z) sizes pass (moved (cleaner_move sizes cleaner_op found) pass.owned) cleaner_op found pass.control may is)
 before sizes values pass found (Turn page) other may is = turned_at HasMeasured sizes values pass page (λ _. tt) (λ _ _. tt) may
-before sizes values pass found (Hint buffer page) other may is = hinted_at HasMeasured values pass buffer page (λ _. tt) may
+before sizes values pass found (Hint buffer page) other may is = hinted_at HasMeasured values pass buffer page (λ _ _. tt) may
 before sizes values pass found op other may is = absurd may
 
 -- what the steps but that load leave of it
@@ -343,17 +344,17 @@ length_is_else sizes first by core found op sound may n ne measured sized = soun
 -- ---- DIRTY
 
 -- a pass that has seen a page clean, and one that pledges it, hold the page
-pub holds_page : (sizes : Sizes) (pass : Pass) (page : ℕ) → pass.pages ≡ pages_of sizes pass.call → IsPage sizes pass.call page → times (PAGE page) pass.owned ≡ count_in pass.pages page → times (PAGE page) pass.owned ≡ 1
+pub holds_page : (sizes : Sizes) (pass : Pass) (page : ℕ) → HasTaken sizes pass.call pass.units pass.pages (page_count sizes pass.call) → IsPage sizes pass.call page → times (PAGE (pass.units page)) pass.owned ≡ count_in pass.pages (pass.units page) → times (PAGE (pass.units page)) pass.owned ≡ 1
 holds_page sizes pass page pages is held = held ∙ pages_once sizes pass.call pass.pages pages page is
 
-clean_page : (sizes : Sizes) (pass : Pass) (page : ℕ) (control : Control) → FactsAt sizes pass control → PagesAt sizes pass control → HoldsLocks sizes pass control → SawClean pass.pages control page → times (PAGE page) pass.owned ≡ 1
-clean_page sizes pass page (TakeStore next false) stands pages held saw = subst (λ p. times (PAGE p) pass.owned ≡ 1) saw (holds_page sizes pass next pages stands.1 (held (PAGE next) (λ slot. differ (PAGE next) (ENTRY slot) refl)))
-clean_page sizes pass page (ReadStore next false) stands pages held saw = subst (λ p. times (PAGE p) pass.owned ≡ 1) saw (holds_page sizes pass next pages stands.1 (held (PAGE next) (λ slot. differ (PAGE next) (ENTRY slot) refl)))
-clean_page sizes pass page (GiveStore next false) stands pages held saw = subst (λ p. times (PAGE p) pass.owned ≡ 1) saw (holds_page sizes pass next pages stands.1 (held (PAGE next) (λ slot. differ (PAGE next) (ENTRY slot) refl)))
+clean_page : (sizes : Sizes) (pass : Pass) (page : ℕ) (control : Control) → FactsAt sizes pass control → PagesAt sizes pass control → HoldsLocks sizes pass control → SawClean pass.units control page → times (PAGE page) pass.owned ≡ 1
+clean_page sizes pass page (TakeStore next false) stands pages held saw = subst (λ p. times (PAGE p) pass.owned ≡ 1) saw (holds_page sizes pass next pages stands.1 (held (PAGE (pass.units next)) (λ slot. differ (PAGE (pass.units next)) (ENTRY slot) refl)))
+clean_page sizes pass page (ReadStore next false) stands pages held saw = subst (λ p. times (PAGE p) pass.owned ≡ 1) saw (holds_page sizes pass next pages stands.1 (held (PAGE (pass.units next)) (λ slot. differ (PAGE (pass.units next)) (ENTRY slot) refl)))
+clean_page sizes pass page (GiveStore next false) stands pages held saw = subst (λ p. times (PAGE p) pass.owned ≡ 1) saw (holds_page sizes pass next pages stands.1 (held (PAGE (pass.units next)) (λ slot. differ (PAGE (pass.units next)) (ENTRY slot) refl)))
 clean_page sizes pass page control stands pages held saw = absurd saw
 
-pub pledged_page : (sizes : Sizes) (pass : Pass) (page : ℕ) → FactsAt sizes pass (PledgePage page) → PagesAt sizes pass (PledgePage page) → HoldsLocks sizes pass (PledgePage page) → times (PAGE page) pass.owned ≡ 1
-pledged_page sizes pass page stands pages held = holds_page sizes pass page pages stands.1 (held (PAGE page) (λ slot. differ (PAGE page) (ENTRY slot) refl))
+pub pledged_page : (sizes : Sizes) (pass : Pass) (page : ℕ) → FactsAt sizes pass (PledgePage page) → PagesAt sizes pass (PledgePage page) → HoldsLocks sizes pass (PledgePage page) → times (PAGE (pass.units page)) pass.owned ≡ 1
+pledged_page sizes pass page stands pages held = holds_page sizes pass page pages stands.1 (held (PAGE (pass.units page)) (λ slot. differ (PAGE (pass.units page)) (ENTRY slot) refl))
 
 -- a DIRTY that is 0 stays so but where a pass pledges the page
 dirty_stays : (sizes : Sizes) (by : ℕ) (core : Core) (found : ℕ) (op : Op) → FoundEnabledByKind sizes by core op found → (page : ℕ) → (op ≡ Pledge page → ⊥) → core.words (DIRTY page) ≡ 0 → (after_step sizes by op found core).words (DIRTY page) ≡ 0
@@ -365,108 +366,117 @@ dirty_stays sizes by core found (Take cell) may page ne zero_is = untouched size
 dirty_stays sizes by core found op may page ne zero_is = untouched sizes by core op found may (DIRTY page) refl ∙ zero_is
 
 clean_else : (sizes : Sizes) (first : Values) (by : ℕ) (core : Core) (found : ℕ) (op : Op) → Sound sizes first core → FoundEnabledByKind sizes by core op found → (n : ℕ) → n ≢ by
-    → (page : ℕ) → SawClean (core.passes n).pages (core.passes n).control page → (after_step sizes by op found core).words (DIRTY page) ≡ 0
+    → (page : ℕ) → SawClean (core.passes n).units (core.passes n).control page → (after_step sizes by op found core).words (DIRTY page) ≡ 0
 clean_else sizes first by core found op sound may n ne page saw = dirty_stays sizes by core found op may page (pledger op may.may) (sound.loaded.clean n page saw)
   where
     pledger : (op : Op) → StepEnabledByKind sizes by core op → op ≡ Pledge page → ⊥
     pledger op may e =
-        let control : (core.passes by).control ≡ PledgePage page = subst (StepEnabledByKind sizes by core) e may in
+        let is = subst (StepEnabledByKind sizes by core) e may in
+        let control = is.1 in
         held_by_one sizes first core sound (PAGE page) by n
-        (pledged_page sizes (core.passes by) page (subst (FactsAt sizes (core.passes by)) control (sound.control_facts by).at) (subst (PagesAt sizes (core.passes by)) control (sound.control_facts by).pages) (subst (HoldsLocks sizes (core.passes by)) control (sound.ownership by).locks))
+        (subst (λ u. times (PAGE u) (core.passes by).owned ≡ 1) (sym is.2) (pledged_page sizes (core.passes by) is.0 (subst (FactsAt sizes (core.passes by)) control (sound.control_facts by).at) (subst (PagesAt sizes (core.passes by)) control (sound.control_facts by).pages) (subst (HoldsLocks sizes (core.passes by)) control (sound.ownership by).locks)))
         (clean_page sizes (core.passes n) page (core.passes n).control (sound.control_facts n).at (sound.control_facts n).pages (sound.ownership n).locks saw) ne
 
 -- of the pass that steps
-unseen : (pages : List ℕ) (owned : List Word) (page : ℕ) → SawClean pages (leaving owned) page → ⊥
-unseen pages owned page = leaving_both (λ s. SawClean pages s page → ⊥) owned (λ _ z. z) (λ _ z. z)
+unseen : (units : ℕ → ℕ) (owned : List Word) (page : ℕ) → SawClean units (leaving owned) page → ⊥
+unseen units owned page = leaving_both (λ s. SawClean units s page → ⊥) owned (λ _ z. z) (λ _ z. z)
 
-unseen_giving : (pages : List ℕ) (sizes : Sizes) (call : FileCall) (page : ℕ) → SawClean pages (giving sizes call) page → ⊥
-unseen_giving pages sizes call page = if_both (λ s. SawClean pages s page → ⊥) (page_count sizes call == 0) Idle (GivePage (first_page sizes call)) (λ _ z. z) (λ _ z. z)
+unseen_giving : (units : ℕ → ℕ) (sizes : Sizes) (call : FileCall) (page : ℕ) → SawClean units (giving sizes call) page → ⊥
+unseen_giving units sizes call page = if_both (λ s. SawClean units s page → ⊥) (page_count sizes call == 0) Idle (GivePage (first_page sizes call)) (λ _ z. z) (λ _ z. z)
 
-unseen_ending : (sizes : Sizes) (pass : Pass) (page : ℕ) → SawClean pass.pages (ending sizes pass) page → ⊥
-unseen_ending sizes pass page = if_both (λ s. SawClean pass.pages s page → ⊥) pass.sized GiveSize (giving sizes pass.call) (λ _ z. z) (λ _. unseen_giving pass.pages sizes pass.call page)
+unseen_ending : (sizes : Sizes) (pass : Pass) (page : ℕ) → SawClean pass.units (ending sizes pass) page → ⊥
+unseen_ending sizes pass page = if_both (λ s. SawClean pass.units s page → ⊥) pass.sized GiveSize (giving sizes pass.call) (λ _ z. z) (λ _. unseen_giving pass.units sizes pass.call page)
 
-unseen_scanning : (pass : Pass) (page number seen : ℕ) → SawClean pass.pages (scanning pass page number) seen → ⊥
-unseen_scanning pass page number seen = if_both (λ s. SawClean pass.pages s seen → ⊥) (nat_lt number pass.head) (LoadEntry page number) (GiveCleanup page) (λ _ z. z) (λ _ z. z)
+unseen_scanning : (pass : Pass) (page number seen : ℕ) → SawClean pass.units (scanning pass page number) seen → ⊥
+unseen_scanning pass page number seen = if_both (λ s. SawClean pass.units s seen → ⊥) (nat_lt number pass.head) (LoadEntry page number) (GiveCleanup page) (λ _ z. z) (λ _ z. z)
 
-clean_load : (sizes : Sizes) (values : Values) (pass : Pass) (word : Word) (found page : ℕ) → MayLoad sizes values pass word → SawClean pass.pages (after_load sizes pass word found) page → (word ≡ DIRTY page) × (found ≡ 0)
-clean_load sizes values pass (LENGTH file) found page may saw = absurd (if_both (λ s. SawClean pass.pages s page → ⊥) (exceeds pass found && not pass.sized) TakeSize LoadStop (λ _ z. z) (λ _ z. z) saw)
-clean_load sizes values pass STOP found page may saw = absurd (if_both (λ s. SawClean pass.pages s page → ⊥) (found == 0) LoadOrder (leaving pass.owned) (λ _ z. z) (λ _. unseen pass.pages pass.owned page) saw)
-clean_load sizes values pass ORDER found page may saw = absurd (if_both (λ s. SawClean pass.pages s page → ⊥) (nat_lt found (2 ^ 60)) (ordered sizes pass.call) (leaving pass.owned)
-    (λ _. if_both (λ s. SawClean pass.pages s page → ⊥) (is_write pass.call) WriteLoadHead (if is_read pass.call then VisitPage (first_page sizes pass.call) else TakePlace) (λ _ z. z)
-    (λ _. if_both (λ s. SawClean pass.pages s page → ⊥) (is_read pass.call) (VisitPage (first_page sizes pass.call)) TakePlace (λ _ z. z) (λ _ z. z))) (λ _. unseen pass.pages pass.owned page) saw)
-clean_load sizes values pass HEAD found page may saw = elim may [
-  | inl here ↦ absurd (clean_head here (subst (λ s. SawClean pass.pages (after_head sizes pass found s) page) here saw))
-  | inr here ↦ absurd (subst (λ s. SawClean pass.pages (after_head sizes pass found s) page) here.1 saw)
+clean_load : (sizes : Sizes) (values : Values) (pass : Pass) (word : Word) (found page : ℕ) → ControlFacts sizes pass → MayLoad sizes values pass word → SawClean pass.units (after_load sizes pass word found) page → (word ≡ DIRTY page) × (found ≡ 0)
+clean_load sizes values pass (LENGTH file) found page stands may saw = absurd (if_both (λ s. SawClean pass.units s page → ⊥) (exceeds pass found && not pass.sized) TakeSize LoadStop (λ _ z. z) (λ _ z. z) saw)
+clean_load sizes values pass STOP found page stands may saw = absurd (if_both (λ s. SawClean pass.units s page → ⊥) (found == 0) LoadOrder (leaving pass.owned) (λ _ z. z) (λ _. unseen pass.units pass.owned page) saw)
+clean_load sizes values pass ORDER found page stands may saw = absurd (if_both (λ s. SawClean pass.units s page → ⊥) (nat_lt found (2 ^ 60)) (ordered sizes pass.call) (leaving pass.owned)
+    (λ _. if_both (λ s. SawClean pass.units s page → ⊥) (is_write pass.call) WriteLoadHead (if is_read pass.call then VisitPage (first_page sizes pass.call) else TakePlace) (λ _ z. z)
+    (λ _. if_both (λ s. SawClean pass.units s page → ⊥) (is_read pass.call) (VisitPage (first_page sizes pass.call)) TakePlace (λ _ z. z) (λ _ z. z))) (λ _. unseen pass.units pass.owned page) saw)
+clean_load sizes values pass HEAD found page stands may saw = elim may [
+  | inl here ↦ absurd (clean_head here (subst (λ s. SawClean pass.units (after_head sizes pass found s) page) here saw))
+  | inr here ↦ absurd (subst (λ s. SawClean pass.units (after_head sizes pass found s) page) here.1 saw)
 ]
   where
-    clean_head : pass.control ≡ WriteLoadHead → SawClean pass.pages (after_head sizes pass found WriteLoadHead) page → ⊥
-    clean_head here = if_both (λ s. SawClean pass.pages s page → ⊥) (nat_le (found + page_count sizes pass.call) (2 ^ 60)) WriteLoadTail (leaving pass.owned) (λ _ z. z) (λ _. unseen pass.pages pass.owned page)
-clean_load sizes values pass TAIL found page may saw = elim may [
-  | inl here ↦ absurd (clean_tail here (subst (λ s. SawClean pass.pages (after_tail sizes pass found s) page) here saw))
-  | inr here ↦ absurd (unseen_scanning pass here.0 found page (subst (λ s. SawClean pass.pages (after_tail sizes pass found s) page) here.1 saw))
+    clean_head : pass.control ≡ WriteLoadHead → SawClean pass.units (after_head sizes pass found WriteLoadHead) page → ⊥
+    clean_head here = if_both (λ s. SawClean pass.units s page → ⊥) (nat_le (found + page_count sizes pass.call) (2 ^ 60)) WriteLoadTail (leaving pass.owned) (λ _ z. z) (λ _. unseen pass.units pass.owned page)
+clean_load sizes values pass TAIL found page stands may saw = elim may [
+  | inl here ↦ absurd (clean_tail here (subst (λ s. SawClean pass.units (after_tail sizes pass found s) page) here saw))
+  | inr here ↦ absurd (unseen_scanning pass here.0 found page (subst (λ s. SawClean pass.units (after_tail sizes pass found s) page) here.1 saw))
 ]
   where
-    clean_tail : pass.control ≡ WriteLoadTail → SawClean pass.pages (after_tail sizes pass found WriteLoadTail) page → ⊥
-    clean_tail here = if_both (λ s. SawClean pass.pages s page → ⊥) (nat_le (pass.head + page_count sizes pass.call) (found + sizes.entries)) DrawNumbers (leaving pass.owned) (λ _ z. z) (λ _. unseen pass.pages pass.owned page)
-clean_load sizes values pass (ENTRY slot) found page may saw =
-    absurd (if_both (λ s. SawClean pass.pages s page → ⊥) (is_entry_of ready may.0 found) (HoldEntry may.0 may.1) (scanning pass may.0 (may.1 + 1)) (λ _ z. z) (λ _. unseen_scanning pass may.0 (may.1 + 1) page)
-    (subst (λ s. SawClean pass.pages (after_look pass found s) page) may.2 saw))
-clean_load sizes values pass (DIRTY next) found page may saw = if_both (λ s. SawClean pass.pages s page → (DIRTY next ≡ DIRTY page) × (found ≡ 0)) (found == 0) (TakeStore next false) (TakeCleanup next) (λ e is. (ap DIRTY is, eqb-true found 0 e)) (λ _ z. absurd z) saw
-clean_load sizes values pass (HINT buffer) found page may saw = absurd (hinting_next (λ s. SawClean pass.pages s page → ⊥) sizes pass buffer found may (λ z. z) saw)
-clean_load sizes values pass word found page may saw = absurd may
+    clean_tail : pass.control ≡ WriteLoadTail → SawClean pass.units (after_tail sizes pass found WriteLoadTail) page → ⊥
+    clean_tail here = if_both (λ s. SawClean pass.units s page → ⊥) (nat_le (pass.head + page_count sizes pass.call) (found + sizes.entries)) DrawNumbers (leaving pass.owned) (λ _ z. z) (λ _. unseen pass.units pass.owned page)
+clean_load sizes values pass (ENTRY slot) found page stands may saw =
+    absurd (if_both (λ s. SawClean pass.units s page → ⊥) (is_entry_of ready (pass.units may.0) found) (HoldEntry may.0 may.1) (scanning pass may.0 (may.1 + 1)) (λ _ z. z) (λ _. unseen_scanning pass may.0 (may.1 + 1) page)
+    (subst (λ s. SawClean pass.units (after_look pass found s) page) may.2 saw))
+clean_load sizes values pass (DIRTY unit) found page stands may saw =
+    let on = (missed_page sizes values pass may.0 may.1.tries stands.at may.1.miss).1 in
+    let same = missed_found sizes values pass unit stands.pages may on in
+    if_both (λ s. SawClean pass.units s page → (DIRTY unit ≡ DIRTY page) × (found ≡ 0)) (found == 0) (TakeStore (page_of_unit sizes pass unit) false) (TakeCleanup (page_of_unit sizes pass unit))
+    (λ e is. (ap DIRTY (may.2 ∙ ap pass.units (sym same) ∙ is), eqb-true found 0 e)) (λ _ z. absurd z) saw
+clean_load sizes values pass (HINT buffer) found page stands may saw = absurd (hinting_next (λ s. SawClean pass.units s page → ⊥) sizes pass buffer found may (λ z. z) saw)
+clean_load sizes values pass word found page stands may saw = absurd may
 
-clean_take : (sizes : Sizes) (pass : Pass) (cell : Word) (found page : ℕ) → MayTake pass cell → SawClean (pages_after pass (Take cell) found pass.control) (control_after sizes pass (Take cell) found) page → SawClean pass.pages pass.control page
-clean_take sizes pass (PAGE next) found page may saw = absurd (page_tried (λ s. SawClean (pages_after pass (Take (PAGE next)) found pass.control) s page → ⊥) sizes pass next found (λ z. z) (λ z. z) (unseen (pages_after pass (Take (PAGE next)) found pass.control) pass.owned page) (λ _ _ _ z. z) may saw)
-clean_take sizes pass (SIZE file) found page may saw = absurd (if_both (λ s. SawClean pass.pages s page → ⊥) (found == 0) LoadLength (leaving pass.owned) (λ _ z. z) (λ _. unseen pass.pages pass.owned page) saw)
-clean_take sizes pass (STORE file) found page may saw = subst (λ s. SawClean pass.pages s page) (sym may.2)
-    (if_both (λ s. SawClean pass.pages s page → SawClean pass.pages (TakeStore may.0 may.1) page) (found == 0) (copying pass.control) (leaving pass.owned)
-    (λ _. subst (λ s. SawClean pass.pages (copying s) page → SawClean pass.pages (TakeStore may.0 may.1) page) (sym may.2) (copied may.1)) (λ _ z. absurd (unseen pass.pages pass.owned page z)) saw)
+clean_take : (sizes : Sizes) (pass : Pass) (cell : Word) (found page : ℕ) → MayTake pass cell → SawClean pass.units (control_after sizes pass (Take cell) found) page → SawClean pass.units pass.control page
+clean_take sizes pass (PAGE next) found page may saw = absurd (page_tried (λ s. SawClean pass.units s page → ⊥) sizes pass next found (λ z. z) (λ _ z. z) (unseen pass.units pass.owned page) (λ _ _ _ z. z) may saw)
+clean_take sizes pass (SIZE file) found page may saw = absurd (if_both (λ s. SawClean pass.units s page → ⊥) (found == 0) LoadLength (leaving pass.owned) (λ _ z. z) (λ _. unseen pass.units pass.owned page) saw)
+clean_take sizes pass (STORE file) found page may saw = subst (λ s. SawClean pass.units s page) (sym may.2)
+    (if_both (λ s. SawClean pass.units s page → SawClean pass.units (TakeStore may.0 may.1) page) (found == 0) (copying pass.control) (leaving pass.owned)
+    (λ _. subst (λ s. SawClean pass.units (copying s) page → SawClean pass.units (TakeStore may.0 may.1) page) (sym may.2) (copied may.1)) (λ _ z. absurd (unseen pass.units pass.owned page z)) saw)
   where
-    copied : (dirty : Bool) → SawClean pass.pages (ReadStore may.0 dirty) page → SawClean pass.pages (TakeStore may.0 dirty) page
+    copied : (dirty : Bool) → SawClean pass.units (ReadStore may.0 dirty) page → SawClean pass.units (TakeStore may.0 dirty) page
     copied true is = is
     copied false is = is
-clean_take sizes pass (CLEANUP next) found page may saw = absurd (if_both (λ s. SawClean pass.pages s page → ⊥) (found == 0) (TakeStore next true) (leaving pass.owned) (λ _ z. z) (λ _. unseen pass.pages pass.owned page) saw)
+clean_take sizes pass (CLEANUP unit) found page may saw =
+    absurd (clearing_next (λ s. SawClean pass.units s page → ⊥) sizes pass unit found may (if_both (λ s. SawClean pass.units s page → ⊥) (found == 0) (TakeStore may.0 true) (leaving pass.owned) (λ _ z. z) (λ _. unseen pass.units pass.owned page)) saw)
 clean_take sizes pass cell found page may saw = absurd may
 
-clean_give : (sizes : Sizes) (pass : Pass) (cell : Word) (page : ℕ) (control : Control) → IsGivingBack control → SawClean pass.pages (after_give sizes pass cell control) page → ⊥
-clean_give sizes pass cell page GiveBack may saw = unseen pass.pages (without cell pass.owned) page saw
-clean_give sizes pass cell page GiveSize may saw = unseen_giving pass.pages sizes pass.call page saw
-clean_give sizes pass cell page (GivePage next) may saw = if_both (λ s. SawClean pass.pages s page → ⊥) (next + 1 == end_page sizes pass.call) Idle (GivePage (next + 1)) (λ _ z. z) (λ _ z. z) saw
-clean_give sizes pass cell page (GiveStore next dirty) may saw = if_both (λ s. SawClean pass.pages s page → ⊥) dirty (ReadLoadHead next) (VisitPage (next + 1)) (λ _ z. z) (λ _ z. z) saw
+clean_give : (sizes : Sizes) (pass : Pass) (cell : Word) (page : ℕ) (control : Control) → IsGivingBack control → SawClean pass.units (after_give sizes pass cell control) page → ⊥
+clean_give sizes pass cell page GiveBack may saw = unseen pass.units (without cell pass.owned) page saw
+clean_give sizes pass cell page GiveSize may saw = unseen_giving pass.units sizes pass.call page saw
+clean_give sizes pass cell page (GivePage next) may saw = if_both (λ s. SawClean pass.units s page → ⊥) (next + 1 == end_page sizes pass.call) Idle (GivePage (next + 1)) (λ _ z. z) (λ _ z. z) saw
+clean_give sizes pass cell page (GiveStore next dirty) may saw = if_both (λ s. SawClean pass.units s page → ⊥) dirty (ReadLoadHead next) (VisitPage (next + 1)) (λ _ z. z) (λ _ z. z) saw
 clean_give sizes pass cell page (GiveCleanup next) may saw = saw
 clean_give sizes pass cell page (Searching next tries search) may saw = saw
 clean_give sizes pass cell page control may saw = may
 
 clean_here : (sizes : Sizes) (first : Values) (by : ℕ) (core : Core) (found : ℕ) (op : Op) → Sound sizes first core → FoundEnabledByKind sizes by core op found
-    → (page : ℕ) → SawClean (changed_pass sizes by core op found).pages (changed_pass sizes by core op found).control page → (after_step sizes by op found core).words (DIRTY page) ≡ 0
+    → (page : ℕ) → SawClean (changed_pass sizes by core op found).units (changed_pass sizes by core op found).control page → (after_step sizes by op found core).words (DIRTY page) ≡ 0
 clean_here sizes first by core found (Load word) sound may page saw =
-    let is = clean_load sizes core.values (core.passes by) word found page may.may saw in
+    let is = clean_load sizes core.values (core.passes by) word found page (sound.control_facts by) may.may saw in
     untouched sizes by core (Load word) found may (DIRTY page) refl ∙ ap core.words (sym is.0) ∙ may.is ∙ is.1
 clean_here sizes first by core found (Take cell) sound may page saw = untouched sizes by core (Take cell) found may (DIRTY page) refl ∙ sound.loaded.clean by page (clean_take sizes (core.passes by) cell found page may.may saw)
 clean_here sizes first by core found (Give cell) sound may page saw = absurd (clean_give sizes (core.passes by) cell page (core.passes by).control (gives_back (core.passes by) cell (core.passes by).control may.may) saw)
-clean_here sizes first by core found (Place reply) sound may page saw = absurd (if_both (λ s. SawClean (core.passes by).pages s page → ⊥) (is_write (core.passes by).call && exceeds (core.passes by) (core.passes by).length) GrowLength (ending sizes (core.passes by)) (λ _ z. z) (λ _. unseen_ending sizes (core.passes by) page) saw)
+clean_here sizes first by core found (Place reply) sound may page saw = absurd (if_both (λ s. SawClean (core.passes by).units s page → ⊥) (is_write (core.passes by).call && exceeds (core.passes by) (core.passes by).length) GrowLength (ending sizes (core.passes by)) (λ _ z. z) (λ _. unseen_ending sizes (core.passes by) page) saw)
 clean_here sizes first by core found Stop sound may page saw = absurd (stops (core.passes by).control may.may saw)
   where
-    stops : (control : Control) → IsFailing control → SawClean (core.passes by).pages (after_stop (core.passes by) control) page → ⊥
-    stops (SetStopAfterRead other dirty) may saw = unseen (core.passes by).pages (core.passes by).owned page saw
+    stops : (control : Control) → IsFailing control → SawClean (core.passes by).units (after_stop (core.passes by) control) page → ⊥
+    stops (SetStopAfterRead other dirty) may saw = unseen (core.passes by).units (core.passes by).owned page saw
     stops (SetStopAfterPiece other next) may saw = saw
     stops SetStopAfterCommit may saw = saw
     stops control may saw = may
-clean_here sizes first by core found Draw sound may page saw = absurd (if_both (λ s. SawClean (core.passes by).pages s page → ⊥) (found == (core.passes by).head) (SeizeEntry found) (leaving (core.passes by).owned) (λ _ z. z) (λ _. unseen (core.passes by).pages (core.passes by).owned page) saw)
-clean_here sizes first by core found (Seize next) sound may page saw = absurd (if_both (λ s. SawClean (core.passes by).pages s page → ⊥) (next + 1 == (core.passes by).first + (core.passes by).entries) (CommitGroup 0) (SeizeEntry (next + 1)) (λ _ z. z) (λ _ z. z) saw)
-clean_here sizes first by core found (Pledge next) sound may page saw = absurd (if_both (λ s. SawClean (core.passes by).pages s page → ⊥) (next + 1 == end_page sizes (core.passes by).call) (ReadyEntry (if (core.passes by).entries == 1 then (core.passes by).first else (core.passes by).first + 1)) (PledgePage (next + 1)) (λ _ z. z) (λ _ z. z) saw)
-clean_here sizes first by core found (Ready next) sound may page saw = absurd (if_both (λ s. SawClean (core.passes by).pages s page → ⊥) (next == (core.passes by).first) TakePlace (ReadyEntry (if next + 1 == (core.passes by).first + (core.passes by).entries then (core.passes by).first else next + 1)) (λ _ z. z) (λ _ z. z) saw)
+clean_here sizes first by core found Draw sound may page saw = absurd (if_both (λ s. SawClean (core.passes by).units s page → ⊥) (found == (core.passes by).head) (SeizeEntry found) (leaving (core.passes by).owned) (λ _ z. z) (λ _. unseen (core.passes by).units (core.passes by).owned page) saw)
+clean_here sizes first by core found (Seize next) sound may page saw = absurd (if_both (λ s. SawClean (core.passes by).units s page → ⊥) (next + 1 == (core.passes by).first + (core.passes by).entries) (CommitGroup 0) (SeizeEntry (next + 1)) (λ _ z. z) (λ _ z. z) saw)
+clean_here sizes first by core found (Pledge unit) sound may page saw =
+    let pass = core.passes by in let next = may.may.0 in
+    absurd (pledged_next (λ s. SawClean pass.units s page → ⊥) sizes pass next may.may.1
+    (if_both (λ s. SawClean pass.units s page → ⊥) (next + 1 == end_page sizes pass.call) (ReadyEntry (if pass.entries == 1 then pass.first else pass.first + 1)) (PledgePage (next + 1)) (λ _ z. z) (λ _ z. z)) saw)
+clean_here sizes first by core found (Ready next) sound may page saw = absurd (if_both (λ s. SawClean (core.passes by).units s page → ⊥) (next == (core.passes by).first) TakePlace (ReadyEntry (if next + 1 == (core.passes by).first + (core.passes by).entries then (core.passes by).first else next + 1)) (λ _ z. z) (λ _ z. z) saw)
 clean_here sizes first by core found Grow sound may page saw = absurd (unseen_ending sizes (core.passes by) page saw)
-clean_here sizes first by core found (Break next) sound may page saw = absurd (if_both (λ s. SawClean (core.passes by).pages s page → ⊥) (next + 1 == (core.passes by).first + (core.passes by).entries) (leaving (without (ENTRY (slot_of_entry sizes next)) (core.passes by).owned)) (BreakEntry (next + 1)) (λ _. unseen (core.passes by).pages (without (ENTRY (slot_of_entry sizes next)) (core.passes by).owned) page) (λ _ z. z) saw)
-clean_here sizes first by core found (Hold next) sound may page saw = absurd (subst (λ s. SawClean (core.passes by).pages (after_hold s) page) may.may.1 saw)
+clean_here sizes first by core found (Break next) sound may page saw = absurd (if_both (λ s. SawClean (core.passes by).units s page → ⊥) (next + 1 == (core.passes by).first + (core.passes by).entries) (leaving (without (ENTRY (slot_of_entry sizes next)) (core.passes by).owned)) (BreakEntry (next + 1)) (λ _. unseen (core.passes by).units (without (ENTRY (slot_of_entry sizes next)) (core.passes by).owned) page) (λ _ z. z) saw)
+clean_here sizes first by core found (Hold next) sound may page saw = absurd (subst (λ s. SawClean (core.passes by).units (after_hold s) page) may.may.1 saw)
 clean_here sizes first by core found (Return next) sound may page saw =
-    absurd (if_both (λ s. SawClean (core.passes by).pages s page → ⊥) may.may.1 (leaving (without (ENTRY (slot_of_entry sizes next)) (core.passes by).owned)) (scanning (core.passes by) may.may.0 (next + 1))
-    (λ _. unseen (core.passes by).pages (without (ENTRY (slot_of_entry sizes next)) (core.passes by).owned) page) (λ _. unseen_scanning (core.passes by) may.may.0 (next + 1) page)
-    (subst (λ s. SawClean (core.passes by).pages (after_return sizes (core.passes by) s) page) may.may.2 saw))
+    absurd (if_both (λ s. SawClean (core.passes by).units s page → ⊥) may.may.1 (leaving (without (ENTRY (slot_of_entry sizes next)) (core.passes by).owned)) (scanning (core.passes by) may.may.0 (next + 1))
+    (λ _. unseen (core.passes by).units (without (ENTRY (slot_of_entry sizes next)) (core.passes by).owned) page) (λ _. unseen_scanning (core.passes by) may.may.0 (next + 1) page)
+    (subst (λ s. SawClean (core.passes by).units (after_return sizes (core.passes by) s) page) may.may.2 saw))
 clean_here sizes first by core found (ByCleaner cleaner_op) sound may page saw =
-    absurd (tended_to (λ s. SawClean (core.passes by).pages s page → ⊥) (λ z. z) (λ _ _ z. z) sizes (core.passes by) (moved (cleaner_move sizes cleaner_op found) (core.passes by).owned) cleaner_op found (core.passes by).control may.may saw)
+    absurd (tended_to (λ s. SawClean (core.passes by).units s page → ⊥) (λ z. z) (λ _ _ z. z) sizes (core.passes by) (moved (cleaner_move sizes cleaner_op found) (core.passes by).owned) cleaner_op found (core.passes by).control may.may saw)
 clean_here sizes first by core found (Turn next) sound may page saw = absurd saw
-clean_here sizes first by core found (Hint buffer next) sound may page saw = absurd saw
+clean_here sizes first by core found (Hint buffer unit) sound may page saw = absurd (hinted_next (λ s. SawClean (core.passes by).units s page → ⊥) core.values (core.passes by) buffer unit may.may (λ z. z) saw)
 clean_here sizes first by core found Split sound may page saw = absurd saw
 clean_here sizes first by core found (PutBack cell) sound may page saw = untouched sizes by core (PutBack cell) found may (DIRTY page) refl ∙ sound.loaded.clean by page saw
 clean_here sizes first by core found (Join number) sound may page saw = untouched sizes by core (Join number) found may (DIRTY page) refl ∙ sound.loaded.clean by page saw
@@ -476,7 +486,7 @@ clean_here sizes first by core found (Join number) sound may page saw = untouche
 -- a pass that a step leaves, at a word that it leaves
 pub loaded_step : (sizes : Sizes) (first : Values) (by : ℕ) (core : Core) (op : Op) (found : ℕ) → Sound sizes first core → by ≤ core.made → FoundEnabledByKind sizes by core op found
     → ((n : ℕ) → Bounds sizes (after_step sizes by op found core) ((after_step sizes by op found core).passes n) ((after_step sizes by op found core).passes n).control)
-    → ((n : ℕ) → LooksSound sizes (after_step sizes by op found core) ((after_step sizes by op found core).passes n).pages ((after_step sizes by op found core).passes n).control) → Loaded sizes (after_step sizes by op found core)
+    → ((n : ℕ) → LooksSound sizes (after_step sizes by op found core) ((after_step sizes by op found core).passes n).units ((after_step sizes by op found core).passes n).control) → Loaded sizes (after_step sizes by op found core)
 loaded_step sizes first by core op found sound made may bounds looks = record {
   head = by_number (λ n (p : Pass). p.head ≤ (after_step sizes by op found core).words HEAD) core.passes (changes by core.made op) (changed_pass sizes by core op found)
       (head_here sizes first by core found op sound may) (λ n ne. le_trans (sound.loaded.head n) (head_up sizes by core op found may));
@@ -490,7 +500,7 @@ loaded_step sizes first by core op found sound made may bounds looks = record {
       (sized_here sizes first by core found op sound may) (λ n ne. sound.loaded.sized n);
   length_is = by_number (λ n (p : Pass). HasMeasured p.control → p.sized ≡ true → p.length ≡ (after_step sizes by op found core).words (LENGTH (file_of p.call))) core.passes (changes by core.made op) (changed_pass sizes by core op found)
       (length_is_here sizes first by core found op sound may) (λ n ne. elim (cases_eq n by) [ inl same ↦ length_is_same n op may ne same | inr other ↦ length_is_else sizes first by core found op sound may n other ]);
-  clean = by_number (λ n (p : Pass). (page : ℕ) → SawClean p.pages p.control page → (after_step sizes by op found core).words (DIRTY page) ≡ 0) core.passes (changes by core.made op) (changed_pass sizes by core op found)
+  clean = by_number (λ n (p : Pass). (page : ℕ) → SawClean p.units p.control page → (after_step sizes by op found core).words (DIRTY page) ≡ 0) core.passes (changes by core.made op) (changed_pass sizes by core op found)
       (clean_here sizes first by core found op sound may) (λ n ne. elim (cases_eq n by) [ inl same ↦ clean_same n op may ne same | inr other ↦ clean_else sizes first by core found op sound may n other ]);
   bounds = bounds;
   looks = looks;
@@ -503,7 +513,7 @@ loaded_step sizes first by core op found sound made may bounds looks = record {
     length_is_same n op may ne same measured sized = absurd (ne same)
 
     clean_same : (n : ℕ) (op : Op) → FoundEnabledByKind sizes by core op found → n ≢ changes by core.made op → n ≡ by
-        → (page : ℕ) → SawClean (core.passes n).pages (core.passes n).control page → (after_step sizes by op found core).words (DIRTY page) ≡ 0
+        → (page : ℕ) → SawClean (core.passes n).units (core.passes n).control page → (after_step sizes by op found core).words (DIRTY page) ≡ 0
     clean_same n Split may ne same page saw = untouched sizes by core Split found may (DIRTY page) refl ∙ sound.loaded.clean n page saw
     clean_same n op may ne same page saw = absurd (ne same)
 
@@ -521,7 +531,7 @@ first_measured sizes call = if_both (λ s. HasMeasured s → (page_count sizes c
 
 pub loaded_begin : (sizes : Sizes) (first : Values) (by : ℕ) (core : Core) (call : FileCall) → Sound sizes first core → CallMayBegin sizes call (core.passes by)
     → ((n : ℕ) → Bounds sizes (after_begin sizes by call core) ((after_begin sizes by call core).passes n) ((after_begin sizes by call core).passes n).control)
-    → ((n : ℕ) → LooksSound sizes (after_begin sizes by call core) ((after_begin sizes by call core).passes n).pages ((after_begin sizes by call core).passes n).control) → Loaded sizes (after_begin sizes by call core)
+    → ((n : ℕ) → LooksSound sizes (after_begin sizes by call core) ((after_begin sizes by call core).passes n).units ((after_begin sizes by call core).passes n).control) → Loaded sizes (after_begin sizes by call core)
 loaded_begin sizes first by core call sound may bounds looks = record {
   head = by_number (λ n (p : Pass). p.head ≤ core.words HEAD) core.passes by _ (sound.loaded.head by) (λ n ne. sound.loaded.head n);
   tail = by_number (λ n (p : Pass). p.tail ≤ core.words TAIL) core.passes by _ (sound.loaded.tail by) (λ n ne. sound.loaded.tail n);
@@ -532,8 +542,8 @@ loaded_begin sizes first by core call sound may bounds looks = record {
       (λ measured more. absurd (not_both (and_parts (nat_lt 0 (len_of (plain_call call))) (nat_lt 0 (at_of (plain_call call) + len_of (plain_call call))) more).0 (no_bytes sizes (plain_call call) (first_measured sizes (plain_call call) measured)))) (λ n ne. sound.loaded.sized n);
   length_is = by_number (λ n (p : Pass). HasMeasured p.control → p.sized ≡ true → p.length ≡ core.words (LENGTH (file_of p.call))) core.passes by (begun sizes call (core.passes by))
       (λ measured sized. absurd (not_both sized refl)) (λ n ne. sound.loaded.length_is n);
-  clean = by_number (λ n (p : Pass). (page : ℕ) → SawClean p.pages p.control page → core.words (DIRTY page) ≡ 0) core.passes by (begun sizes call (core.passes by))
-      (λ page. if_both (λ s. SawClean [] s page → core.words (DIRTY page) ≡ 0) (page_count sizes (plain_call call) == 0) LoadStop (TakePage (first_page sizes (plain_call call))) (λ _ z. absurd z) (λ _ z. absurd z)) (λ n ne. sound.loaded.clean n);
+  clean = by_number (λ n (p : Pass). (page : ℕ) → SawClean p.units p.control page → core.words (DIRTY page) ≡ 0) core.passes by (begun sizes call (core.passes by))
+      (λ page. if_both (λ s. SawClean (core.passes by).units s page → core.words (DIRTY page) ≡ 0) (page_count sizes (plain_call call) == 0) LoadStop (TakePage (first_page sizes (plain_call call))) (λ _ z. absurd z) (λ _ z. absurd z)) (λ n ne. sound.loaded.clean n);
   bounds = bounds;
   looks = looks;
 }
@@ -547,24 +557,24 @@ worked_measured sizes values pass work (Cleaning batch inner) (Failed came fault
 worked_measured sizes values pass work (Cleaning batch inner) Refused due is = absurd (of_cleaner_worked (λ s. HasMeasured s → ⊥) (λ z. z) (λ _ _ z. z) batch Refused inner is)
 worked_measured sizes values pass work control how due is = absurd due
 
-worked_clean : (sizes : Sizes) (values : Values) (pass : Pass) (work : Work) (page : ℕ) (control : Control) (how : CallEnding) → CallDue sizes values pass work control → SawClean pass.pages (control_worked sizes pass how control) page → SawClean pass.pages control page
+worked_clean : (sizes : Sizes) (values : Values) (pass : Pass) (work : Work) (page : ℕ) (control : Control) (how : CallEnding) → CallDue sizes values pass work control → SawClean pass.units (control_worked sizes pass how control) page → SawClean pass.units control page
 worked_clean sizes values pass work page (CommitGroup calls) Made due is =
-    absurd (if_both (λ s. SawClean pass.pages s page → ⊥) (calls + 1 == length (commit_steps sizes pass pass.call)) (PledgePage (first_page sizes pass.call)) (CommitGroup (calls + 1)) (λ _ z. z) (λ _ z. z) is)
+    absurd (if_both (λ s. SawClean pass.units s page → ⊥) (calls + 1 == length (commit_steps sizes pass pass.call)) (PledgePage (first_page sizes pass.call)) (CommitGroup (calls + 1)) (λ _ z. z) (λ _ z. z) is)
 worked_clean sizes values pass work page (CommitGroup calls) (Failed came faults) due is = is
 worked_clean sizes values pass work page (ReadStore next true) Made due is = is
 worked_clean sizes values pass work page (ReadStore next false) Made due is = is
 worked_clean sizes values pass work page (ReadStore next dirty) (Failed came faults) due is = absurd is
 worked_clean sizes values pass work page (ReadPiece next number) Made due is = absurd is
 worked_clean sizes values pass work page (ReadPiece next number) (Failed came faults) due is = absurd is
-worked_clean sizes values pass work page (Cleaning batch inner) Made due is = absurd (of_cleaner_worked (λ s. SawClean pass.pages s page → ⊥) (λ z. z) (λ _ _ z. z) batch Made inner is)
-worked_clean sizes values pass work page (Cleaning batch inner) (Failed came faults) due is = absurd (of_cleaner_worked (λ s. SawClean pass.pages s page → ⊥) (λ z. z) (λ _ _ z. z) batch (Failed came faults) inner is)
-worked_clean sizes values pass work page (Cleaning batch inner) Refused due is = absurd (of_cleaner_worked (λ s. SawClean pass.pages s page → ⊥) (λ z. z) (λ _ _ z. z) batch Refused inner is)
+worked_clean sizes values pass work page (Cleaning batch inner) Made due is = absurd (of_cleaner_worked (λ s. SawClean pass.units s page → ⊥) (λ z. z) (λ _ _ z. z) batch Made inner is)
+worked_clean sizes values pass work page (Cleaning batch inner) (Failed came faults) due is = absurd (of_cleaner_worked (λ s. SawClean pass.units s page → ⊥) (λ z. z) (λ _ _ z. z) batch (Failed came faults) inner is)
+worked_clean sizes values pass work page (Cleaning batch inner) Refused due is = absurd (of_cleaner_worked (λ s. SawClean pass.units s page → ⊥) (λ z. z) (λ _ _ z. z) batch Refused inner is)
 worked_clean sizes values pass work page control Refused due is = is
 worked_clean sizes values pass work page control how due is = absurd due
 
 pub loaded_work : (sizes : Sizes) (first : Values) (by : ℕ) (core : Core) (work : Work) → Sound sizes first core → CallEnabled sizes core.values (core.passes by) work
     → ((n : ℕ) → Bounds sizes (after_work sizes by work core) ((after_work sizes by work core).passes n) ((after_work sizes by work core).passes n).control)
-    → ((n : ℕ) → LooksSound sizes (after_work sizes by work core) ((after_work sizes by work core).passes n).pages ((after_work sizes by work core).passes n).control) → Loaded sizes (after_work sizes by work core)
+    → ((n : ℕ) → LooksSound sizes (after_work sizes by work core) ((after_work sizes by work core).passes n).units ((after_work sizes by work core).passes n).control) → Loaded sizes (after_work sizes by work core)
 loaded_work sizes first by core work sound may bounds looks = record {
   head = by_number (λ n (p : Pass). p.head ≤ core.words HEAD) core.passes by _ (sound.loaded.head by) (λ n ne. sound.loaded.head n);
   tail = by_number (λ n (p : Pass). p.tail ≤ core.words TAIL) core.passes by _ (sound.loaded.tail by) (λ n ne. sound.loaded.tail n);
@@ -575,7 +585,7 @@ loaded_work sizes first by core work sound may bounds looks = record {
       (λ measured more. sound.loaded.sized by (worked_measured sizes core.values (core.passes by) work (core.passes by).control work.ending may.due measured) more) (λ n ne. sound.loaded.sized n);
   length_is = by_number (λ n (p : Pass). HasMeasured p.control → p.sized ≡ true → p.length ≡ core.words (LENGTH (file_of p.call))) core.passes by (worked sizes work (core.passes by))
       (λ measured sized. sound.loaded.length_is by (worked_measured sizes core.values (core.passes by) work (core.passes by).control work.ending may.due measured) sized) (λ n ne. sound.loaded.length_is n);
-  clean = by_number (λ n (p : Pass). (page : ℕ) → SawClean p.pages p.control page → core.words (DIRTY page) ≡ 0) core.passes by (worked sizes work (core.passes by))
+  clean = by_number (λ n (p : Pass). (page : ℕ) → SawClean p.units p.control page → core.words (DIRTY page) ≡ 0) core.passes by (worked sizes work (core.passes by))
       (λ page saw. sound.loaded.clean by page (worked_clean sizes core.values (core.passes by) work page (core.passes by).control work.ending may.due saw)) (λ n ne. sound.loaded.clean n);
   bounds = bounds;
   looks = looks;

@@ -40,18 +40,19 @@ given_held sizes pass (SIZE file) GiveSize at pages held may =
     let a = held (SIZE file) (λ slot. differ (SIZE file) (ENTRY slot) refl) in
     let b = when_true (file == file_of pass.call) (one_if pass.sized) 0 (eq-eqb file (file_of pass.call) may) in
     let c : one_if pass.sized ≡ 1 = when_true pass.sized 1 0 at in omega (arith, a, b, c)
-given_held sizes pass (PAGE page) (GivePage next) at pages held may =
-    subst (λ p. 1 ≤ times (PAGE p) pass.owned) (sym may) (
-    let a = held (PAGE next) (λ slot. differ (PAGE next) (ENTRY slot) refl) in
-    let b = end_less sizes pass.call pass.pages pages next next at in
-    let c : one_if (next == next) ≡ 1 = when_true (next == next) 1 0 (eq-eqb next next refl) in omega (arith, a, b, c)
+given_held sizes pass (PAGE unit) (GivePage next) at pages held may =
+    subst (λ u. 1 ≤ times (PAGE u) pass.owned) (sym may) (
+    let own = pass.units next in
+    let a = held (PAGE own) (λ slot. differ (PAGE own) (ENTRY slot) refl) in
+    let b = end_less sizes pass.call pass.pages pages next own at in
+    let c : one_if (own == own) ≡ 1 = when_true (own == own) 1 0 (eq-eqb own own refl) in omega (arith, a, b, c)
     )
 given_held sizes pass (STORE file) (GiveStore page dirty) at pages held may =
     let a = held (STORE file) (λ slot. differ (STORE file) (ENTRY slot) refl) in
     let b : one_if (file == file_of pass.call) ≡ 1 = when_true (file == file_of pass.call) 1 0 (eq-eqb file (file_of pass.call) may) in omega (arith, a, b)
 given_held sizes pass (CLEANUP page) (GiveCleanup next) at pages held may =
     let a = held (CLEANUP page) (λ slot. differ (CLEANUP page) (ENTRY slot) refl) in
-    let b : one_if (page == next) ≡ 1 = when_true (page == next) 1 0 (eq-eqb page next may) in omega (arith, a, b)
+    let b : one_if (page == pass.units next) ≡ 1 = when_true (page == pass.units next) 1 0 (eq-eqb page (pass.units next) may) in omega (arith, a, b)
 given_held sizes pass (PAGE page) (Searching missed tries (GiveVictim buffer victim)) at pages held may =
     let a = held (PAGE page) (λ slot. differ (PAGE page) (ENTRY slot) refl) in
     let b : one_if (page == victim) ≡ 1 = when_true (page == victim) 1 0 (eq-eqb page victim may) in omega (arith, a, b)
@@ -211,7 +212,7 @@ fits sizes first by core found (Ready next) sound may =
     let at = subst (FactsAt sizes (core.passes by)) may.may (sound.control_facts by).at in
     let fills = subst (λ s. IsFilling s (core.passes by).first (core.passes by).entries next) (sym may.may) (readying_next (core.passes by).first (core.passes by).entries next at.1) in
     let one = (sound.ownership by).filling next fills in
-    let kind = kind_is 2 (if next == (core.passes by).first then (core.passes by).entries else 0) (page_at sizes (core.passes by) next) (omega arith) in
+    let kind = kind_is 2 (if next == (core.passes by).first then (core.passes by).entries else 0) ((core.passes by).units (page_at sizes (core.passes by) next)) (omega arith) in
     (refl, omega (arith, one), unshut_entry (slot_of_entry sizes next) (ready_word sizes (core.passes by) next) (λ e. omega (arith, e, kind)) (λ e. omega (arith, e, kind)))
 fits sizes first by core found Grow sound may = refl
 fits sizes first by core found (Break next) sound may =
@@ -220,15 +221,15 @@ fits sizes first by core found (Break next) sound may =
     let one = (sound.ownership by).filling next fills in
     (refl, omega (arith, one), refl)
 fits sizes first by core found (Hold next) sound may =
-    let looks : InWindow core next × (is_entry_of ready may.may.0 (entry_word_at sizes core next) ≡ true) = subst (LooksSound sizes core (core.passes by).pages) may.may.1 (sound.loaded.looks by) in
-    let kind = (entry_is ready may.may.0 (entry_word_at sizes core next) looks.1).0 in let is = may.is in (
+    let looks : InWindow core next × (is_entry_of ready ((core.passes by).units may.may.0) (entry_word_at sizes core next) ≡ true) = subst (LooksSound sizes core (core.passes by).units) may.may.1 (sound.loaded.looks by) in
+    let kind = (entry_is ready ((core.passes by).units may.may.0) (entry_word_at sizes core next) looks.1).0 in let is = may.is in (
       refl,
       unshut_entry (slot_of_entry sizes next) (entry_word_at sizes core next) (λ e. omega (arith, e, kind)) (λ e. omega (arith, e, kind)),
       shut_entry (slot_of_entry sizes next) (found + 1) (omega (arith, kind, is)),
     )
 fits sizes first by core found (Return next) sound may =
-    let looks : InWindow core next × (is_entry_of held may.may.0 (entry_word_at sizes core next) ≡ true) = subst (LooksSound sizes core (core.passes by).pages) may.may.2 (sound.loaded.looks by) in
-    let kind = (entry_is held may.may.0 (entry_word_at sizes core next) looks.1).0 in let is = may.is in
+    let looks : InWindow core next × (is_entry_of held ((core.passes by).units may.may.0) (entry_word_at sizes core next) ≡ true) = subst (LooksSound sizes core (core.passes by).units) may.may.2 (sound.loaded.looks by) in
+    let kind = (entry_is held ((core.passes by).units may.may.0) (entry_word_at sizes core next) looks.1).0 in let is = may.is in
     let one = (sound.ownership by).held next (subst (λ s. IsHeldEntry s next) (sym may.may.2) refl) in
     (refl, omega (arith, one), unshut_entry (slot_of_entry sizes next) (found - 1) (λ e. omega (arith, e, kind, is)) (λ e. omega (arith, e, kind, is)))
 fits sizes first by core found (Turn page) sound may = refl

@@ -34,6 +34,7 @@ use Rattle.nv_core.proofs.steps.CleanerOps.{IsTending, tending}
 use Rattle.nv_core.proofs.steps.CleanerLands.{IsLanding, tended_lands}
 use Rattle.nv_core.proofs.steps.CleanerControls.{of_cleaner_worked}
 use Rattle.nv_core.proofs.state.WorkWords.{worked_word}
+use Rattle.nv_core.proofs.steps.SearchLaws.{hinted_next, pledged_next}
 
 -- ---- no step leads to a fault
 
@@ -50,7 +51,7 @@ none_fails sizes values pass found (Give cell) may = clear_failing _ (clear_to s
 none_fails sizes values pass found (Place reply) may = clear_failing _ (clear_to sizes values pass (Place reply) found tt may)
 none_fails sizes values pass found Grow may = clear_failing _ (clear_to sizes values pass Grow found tt may)
 none_fails sizes values pass found (Turn page) may = λ z. z
-none_fails sizes values pass found (Hint buffer page) may = λ z. z
+none_fails sizes values pass found (Hint buffer unit) may = hinted_next (λ s. IsFailing s → ⊥) values pass buffer unit may (λ z. z)
 none_fails sizes values pass found Stop may = stops pass.control may
   where
     stops : (control : Control) → IsFailing control → IsFailing (after_stop pass control) → ⊥
@@ -60,7 +61,7 @@ none_fails sizes values pass found Stop may = stops pass.control may
     stops control is = absurd is
 none_fails sizes values pass found Draw may = if_both (λ s. IsFailing s → ⊥) (found == pass.head) (SeizeEntry found) (leaving pass.owned) (λ _ z. z) (λ _. clear_failing (leaving pass.owned) (clear_leaving pass.owned))
 none_fails sizes values pass found (Seize next) may = if_both (λ s. IsFailing s → ⊥) (next + 1 == pass.first + pass.entries) (CommitGroup 0) (SeizeEntry (next + 1)) (λ _ z. z) (λ _ z. z)
-none_fails sizes values pass found (Pledge page) may = if_both (λ s. IsFailing s → ⊥) (page + 1 == end_page sizes pass.call) (ReadyEntry (if pass.entries == 1 then pass.first else pass.first + 1)) (PledgePage (page + 1)) (λ _ z. z) (λ _ z. z)
+none_fails sizes values pass found (Pledge unit) may = pledged_next (λ s. IsFailing s → ⊥) sizes pass may.0 may.1 (if_both (λ s. IsFailing s → ⊥) (may.0 + 1 == end_page sizes pass.call) (ReadyEntry (if pass.entries == 1 then pass.first else pass.first + 1)) (PledgePage (may.0 + 1)) (λ _ z. z) (λ _ z. z))
 none_fails sizes values pass found (Ready next) may = if_both (λ s. IsFailing s → ⊥) (next == pass.first) TakePlace (ReadyEntry (if next + 1 == pass.first + pass.entries then pass.first else next + 1)) (λ _ z. z) (λ _ z. z)
 none_fails sizes values pass found (Break next) may = if_both (λ s. IsFailing s → ⊥) (next + 1 == pass.first + pass.entries) (leaving (without (ENTRY (slot_of_entry sizes next)) pass.owned)) (BreakEntry (next + 1))
     (λ _. clear_failing (leaving (without (ENTRY (slot_of_entry sizes next)) pass.owned)) (clear_leaving (without (ENTRY (slot_of_entry sizes next)) pass.owned))) (λ _ z. z)

@@ -10,7 +10,7 @@ use Rattle.nv_core.specs.steps.CleanerSteps.{after_cleaner_work}
 use Rattle.nv_core.specs.invariant.CleanerNumbers.{IsCleaned, IsFreed}
 use Rattle.nv_core.specs.state.Passes.{Control, TakePage, LoadStop, ReadStore, SeizeEntry, CommitGroup, PledgePage, ReadyEntry, TakePlace, SetStopAfterRead, SetStopAfterCommit, BreakEntry, Pass, IsUnseized, IsFilling, IsAmong, is_write, page_count, first_page, end_page, without, ReadPiece, ReturnEntry, SetStopAfterPiece, Cleaning, GiveStore, plain_call}
 use Rattle.nv_core.specs.steps.Ops.{Op, page_at, ready_word, Load, Take, Give, Place, Stop, Draw, Seize, Pledge, Ready, Grow, Break, Split, PutBack, Join, value_after, Turn, Hint, Hold, Return, ByCleaner}
-use Rattle.nv_core.specs.steps.ControlSteps.{control_after, after_stop, leaving}
+use Rattle.nv_core.specs.steps.ControlSteps.{control_after, after_pledge, after_stop, leaving}
 use Rattle.nv_core.specs.steps.PassSteps.{stepped, begun}
 use Rattle.nv_core.specs.steps.Order.{Values, Work, CallEnabled, CallDue, IsFailing, commit_steps}
 use Rattle.nv_core.specs.steps.StepKinds.{EnabledByKind}
@@ -249,9 +249,9 @@ readies_one sizes first by core found next sound may = record {
   no_other_freed = λ n ne f. let one = sound.window.filling_is by next here in let z = sound.window.freed_is n next f in omega (arith, one, z);
   cleans = λ s c. absurd ((unswept.1 s).1 c);
   cleans_still = λ _ s c ne. absurd ((unswept.0 s).1 c);
-  cleans_here = λ e. absurd (let kind = kind_is 2 (if next == (core.passes by).first then (core.passes by).entries else 0) (page_at sizes (core.passes by) next) (omega arith) in omega (arith, e, kind));
+  cleans_here = λ e. absurd (let kind = kind_is 2 (if next == (core.passes by).first then (core.passes by).entries else 0) ((core.passes by).units (page_at sizes (core.passes by) next)) (omega arith) in omega (arith, e, kind));
   no_other_cleaned = λ n ne c. let one = ap kind_of (sound.window.filling_is by next here) in let k = sound.window.cleaned_is n next c in omega (arith, one, k);
-  is = inr (inr (let kind = kind_is 2 (if next == (core.passes by).first then (core.passes by).entries else 0) (page_at sizes (core.passes by) next) (omega arith) in (λ e. omega (arith, e, kind), λ e. omega (arith, e, kind))));
+  is = inr (inr (let kind = kind_is 2 (if next == (core.passes by).first then (core.passes by).entries else 0) ((core.passes by).units (page_at sizes (core.passes by) next)) (omega arith) in (λ e. omega (arith, e, kind), λ e. omega (arith, e, kind))));
 }
   where
     unswept : Unswept (core.passes by).control × Unswept (changed_pass sizes by core (Ready next) found).control
@@ -377,25 +377,26 @@ window_step sizes first by core Stop found sound may = stays sizes first by core
 window_step sizes first by core Draw found sound may = drawn sizes first by core found sound may
 window_step sizes first by core (Seize next) found sound may = window_entry sizes core by next filling (changed_pass sizes by core (Seize next) found) _ _ _ _ sound.window (seizes_one sizes first by core found next sound may)
 window_step sizes first by core (Pledge page) found sound may = stays sizes first by core (Pledge page) found sound may refl refl (λ slot. refl)
-    (let at : HasDrawn sizes (core.passes by).call (core.passes by).entries × IsPage sizes (core.passes by).call page = subst (FactsAt sizes (core.passes by)) may.may (sound.control_facts by).at in
-    at_alike _ (core.passes by) (changed_pass sizes by core (Pledge page) found) (PledgePage page) _ may.may refl tt (to_call sizes (core.passes by) (Pledge page) found tt (at_call sizes core.values (core.passes by) (Pledge page) tt may.may)) (λ n. (pledged_alike sizes (core.passes by) page n at.0.some).0) (λ n. (pledged_alike sizes (core.passes by) page n at.0.some).1))
+    (let next = may.may.0 in
+    let at : HasDrawn sizes (core.passes by).call (core.passes by).entries × IsPage sizes (core.passes by).call next = subst (FactsAt sizes (core.passes by)) may.may.1 (sound.control_facts by).at in
+    at_alike _ (core.passes by) (changed_pass sizes by core (Pledge page) found) (PledgePage next) _ may.may.1 (ap (after_pledge sizes (core.passes by)) may.may.1) tt (subst (λ s. IsAtCall (after_pledge sizes (core.passes by) s)) may.may.1 (to_call sizes (core.passes by) (Pledge page) found tt (at_call sizes core.values (core.passes by) (Pledge page) tt may.may))) (λ n. (pledged_alike sizes (core.passes by) next n at.0.some).0) (λ n. (pledged_alike sizes (core.passes by) next n at.0.some).1))
 window_step sizes first by core (Ready next) found sound may = window_entry sizes core by next _ (changed_pass sizes by core (Ready next) found) _ _ _ _ sound.window (readies_one sizes first by core found next sound may)
 window_step sizes first by core Grow found sound may = stays sizes first by core Grow found sound may refl refl (λ slot. refl) (plain sizes by core Grow found by _ tt tt may.may)
 window_step sizes first by core (Turn page) found sound may = stays sizes first by core (Turn page) found sound may refl refl (λ slot. refl) (plain sizes by core (Turn page) found by _ tt tt may.may)
 window_step sizes first by core (Hint buffer page) found sound may = stays sizes first by core (Hint buffer page) found sound may refl refl (λ slot. refl) (plain sizes by core (Hint buffer page) found by _ tt tt may.may)
 window_step sizes first by core (Break next) found sound may = window_entry sizes core by next broken (changed_pass sizes by core (Break next) found) _ _ _ _ sound.window (breaks_one sizes first by core found next sound may)
 window_step sizes first by core (Hold next) found sound may =
-    let looks : InWindow core next × (is_entry_of ready may.may.0 (entry_word_at sizes core next) ≡ true) = subst (LooksSound sizes core (core.passes by).pages) may.may.1 (sound.loaded.looks by) in
-    let old = (entry_is ready may.may.0 (entry_word_at sizes core next) looks.1).0 in
-    let new = (entry_is held may.may.0 (found + 1) (hold_is may.may.0 found (subst (λ w. is_entry_of ready may.may.0 w ≡ true) may.is looks.1))).0 in
+    let looks : InWindow core next × (is_entry_of ready ((core.passes by).units may.may.0) (entry_word_at sizes core next) ≡ true) = subst (LooksSound sizes core (core.passes by).units) may.may.1 (sound.loaded.looks by) in
+    let old = (entry_is ready ((core.passes by).units may.may.0) (entry_word_at sizes core next) looks.1).0 in
+    let new = (entry_is held ((core.passes by).units may.may.0) (found + 1) (hold_is ((core.passes by).units may.may.0) found (subst (λ w. is_entry_of ready ((core.passes by).units may.may.0) w ≡ true) may.is looks.1))).0 in
     window_entry sizes core by next (found + 1) (changed_pass sizes by core (Hold next) found) _ _ _ _ sound.window
     (reads_one sizes core by next (found + 1) (changed_pass sizes by core (Hold next) found) sound.window looks.0
     (clear_from sizes core.values (core.passes by) (Hold next) tt may.may) (clear_to sizes core.values (core.passes by) (Hold next) found tt may.may) (of_call sizes core by (Hold next) found tt may.may)
     (omega (arith, old)) (omega (arith, old)) (omega (arith, new)) (omega (arith, new)))
 window_step sizes first by core (Return next) found sound may =
-    let looks : InWindow core next × (is_entry_of held may.may.0 (entry_word_at sizes core next) ≡ true) = subst (LooksSound sizes core (core.passes by).pages) may.may.2 (sound.loaded.looks by) in
-    let old = (entry_is held may.may.0 (entry_word_at sizes core next) looks.1).0 in
-    let new = (entry_is ready may.may.0 (found - 1) (return_is may.may.0 found (subst (λ w. is_entry_of held may.may.0 w ≡ true) may.is looks.1))).0 in
+    let looks : InWindow core next × (is_entry_of held ((core.passes by).units may.may.0) (entry_word_at sizes core next) ≡ true) = subst (LooksSound sizes core (core.passes by).units) may.may.2 (sound.loaded.looks by) in
+    let old = (entry_is held ((core.passes by).units may.may.0) (entry_word_at sizes core next) looks.1).0 in
+    let new = (entry_is ready ((core.passes by).units may.may.0) (found - 1) (return_is ((core.passes by).units may.may.0) found (subst (λ w. is_entry_of held ((core.passes by).units may.may.0) w ≡ true) may.is looks.1))).0 in
     window_entry sizes core by next (found - 1) (changed_pass sizes by core (Return next) found) _ _ _ _ sound.window
     (reads_one sizes core by next (found - 1) (changed_pass sizes by core (Return next) found) sound.window looks.0
     (clear_from sizes core.values (core.passes by) (Return next) tt may.may) (clear_to sizes core.values (core.passes by) (Return next) found tt may.may) (of_call sizes core by (Return next) found tt may.may)

@@ -3,7 +3,7 @@ use Rattle.std.proofs.Common.{◌≡◌, ◌≢◌, ℕ, ◌+◌, ◌≤◌, ◌
 use Rattle.std.proofs.lemmas.Bool.{eqb-true, eq-eqb}
 use Rattle.nv_plain.specs.Histories.{Answered}
 use Rattle.nv_core.specs.state.Words.{Sizes, Word, STOP, ORDER, HEAD, TAIL, SIZE, LENGTH, STORE, ENTRY, HINT, PAGE, DIRTY, same, CLEANUP, CLEANER, HEADER, ready, is_entry_of, slot_of_entry}
-use Rattle.nv_core.specs.state.Passes.{Control, Idle, TakePage, LoadLength, TakeSize, LoadStop, LoadOrder, VisitPage, TakeStore, ReadStore, GiveStore, TakeCleanup, Search, LoadHint, TakeVictim, GiveVictim, VictimGiven, NotFound, HintSet, Searching, WriteLoadHead, WriteLoadTail, DrawNumbers, SeizeEntry, CommitGroup, PledgePage, ReadyEntry, TakePlace, GrowLength, GiveSize, GivePage, GiveBack, SetStopAfterRead, SetStopAfterCommit, BreakEntry, Pass, file_of, is_read, is_write, page_count, first_page, end_page, nth_of, without, times, ReadLoadHead, ReadLoadTail, LoadEntry, HoldEntry, ReturnEntry, GiveCleanup, SetStopAfterPiece}
+use Rattle.nv_core.specs.state.Passes.{Control, Idle, TakePage, LoadLength, TakeSize, LoadStop, LoadOrder, VisitPage, TakeStore, ReadStore, GiveStore, TakeCleanup, Search, LoadHint, TakeVictim, GiveVictim, VictimGiven, NotFound, HintSet, Searching, WriteLoadHead, WriteLoadTail, DrawNumbers, SeizeEntry, CommitGroup, PledgePage, ReadyEntry, TakePlace, GrowLength, GiveSize, GivePage, GiveBack, SetStopAfterRead, SetStopAfterCommit, BreakEntry, Pass, file_of, is_read, is_write, page_count, first_page, end_page, nth_of, without, times, ReadLoadHead, ReadLoadTail, LoadEntry, HoldEntry, ReturnEntry, GiveCleanup, SetStopAfterPiece, page_of_unit}
 use Rattle.nv_core.specs.steps.Ops.{Op, Stays, Comes, moved, Load, Take, Give, Place, Stop, Draw, Seize, Pledge, Ready, Grow, Break, Turn, Hint, Hold, Return, ByCleaner}
 use Rattle.nv_core.specs.steps.ControlSteps.{copying, control_after, after_load, after_give, after_stop, leaving, giving, ending, ordered, exceeds, scanning, after_head, after_tail, after_look, after_hold, after_return}
 use Rattle.nv_core.specs.steps.PassSteps.{stepped, pages_after}
@@ -14,7 +14,7 @@ use Rattle.nv_core.specs.invariant.CleanerOwnership.{count_in}
 use Rattle.nv_core.specs.invariant.Ownership.{one_if, page_held, size_held, lock_held, HoldsLocks, cleanup_held, store_times, cleaner_held, header_held}
 use Rattle.nv_core.proofs.state.Changes.{differ, same_true}
 use Rattle.nv_core.proofs.state.Choices.{if_both, when_true, when_false, leaving_both, gives_one}
-use Rattle.nv_core.proofs.steps.SearchLaws.{hinting_next, tried_next}
+use Rattle.nv_core.proofs.steps.SearchLaws.{hinting_next, tried_next, clearing_next, pledged_next, hinted_next}
 use Rattle.nv_core.proofs.invariant.LockLaws.{times_else, times_without, times_without_else}
 use Rattle.nv_core.proofs.invariant.PageLists.{count_more, end_less, end_none, end_whole}
 use Rattle.nv_core.proofs.invariant.PageSteps.{HasAll}
@@ -105,7 +105,7 @@ missed_locks : (sizes : Sizes) (values : Values) (pass : Pass) (page tries : ℕ
 missed_locks sizes values pass page tries held (JustNow from miss none) = at_control sizes pass (VisitPage from) miss.control held
 missed_locks sizes values pass page tries held (AfterTries search is over) = go search over (at_control sizes pass (Searching page tries search) is held)
   where
-    go : (search : Search) → IsTryOver (values (PAGE page)) search → HoldsLocks sizes pass (Searching page tries search) → HoldsAt sizes pass LoadStop pass.owned
+    go : (search : Search) → IsTryOver (values (PAGE (pass.units page))) search → HoldsLocks sizes pass (Searching page tries search) → HoldsAt sizes pass LoadStop pass.owned
     go (VictimGiven buffer) over held = held
     go NotFound over held = held
     go HintSet over held = held
@@ -146,10 +146,10 @@ lock_loads sizes values pass (ENTRY slot) found number history held may =
     let now = stepped sizes number history (Load (ENTRY slot)) found pass in
     let full = at_control sizes pass (LoadEntry may.0 may.1) may.2 held in
     subst (λ s. HoldsLocks sizes now (after_look pass found s)) (sym may.2)
-    (if_both (HoldsLocks sizes now) (is_entry_of ready may.0 found) (HoldEntry may.0 may.1) (scanning pass may.0 (may.1 + 1)) (λ _. full) (λ _. scan_locks sizes pass now may.0 (may.1 + 1) full))
-lock_loads sizes values pass (DIRTY page) found number history held may =
-    let full = missed_locks sizes values pass page may.tries held may.miss in
-    if_both (HoldsLocks sizes (stepped sizes number history (Load (DIRTY page)) found pass)) (found == 0) (TakeStore page false) (TakeCleanup page) (λ _. full) (λ _. full)
+    (if_both (HoldsLocks sizes now) (is_entry_of ready (pass.units may.0) found) (HoldEntry may.0 may.1) (scanning pass may.0 (may.1 + 1)) (λ _. full) (λ _. scan_locks sizes pass now may.0 (may.1 + 1) full))
+lock_loads sizes values pass (DIRTY unit) found number history held may =
+    let full = missed_locks sizes values pass may.0 may.1.tries held may.1.miss in
+    if_both (HoldsLocks sizes (stepped sizes number history (Load (DIRTY unit)) found pass)) (found == 0) (TakeStore (page_of_unit sizes pass unit) false) (TakeCleanup (page_of_unit sizes pass unit)) (λ _. full) (λ _. full)
 lock_loads sizes values pass (HINT buffer) found number history held may =
     let now = stepped sizes number history (Load (HINT buffer)) found pass in
     let full = at_control sizes pass (Searching may.page may.tries (LoadHint buffer)) may.is held in
@@ -174,27 +174,27 @@ more_none : (n : ℕ) → n ≡ n + 0
 more_none n = omega arith
 
 -- a page of the call
-lock_page : (sizes : Sizes) (pass : Pass) (page found number : ℕ) (history : List Answered) → HoldsLocks sizes pass pass.control → pass.control ≡ TakePage page
-    → HoldsLocks sizes (stepped sizes number history (Take (PAGE page)) found pass) (if found == 0 then (if page + 1 == end_page sizes pass.call then LoadLength else TakePage (page + 1)) else leaving pass.owned)
-lock_page sizes pass page found number history held may =
+lock_page : (sizes : Sizes) (pass : Pass) (unit found number : ℕ) (history : List Answered) → HoldsLocks sizes pass pass.control → (page : ℕ) → pass.control ≡ TakePage page → unit ≡ pass.units page
+    → HoldsLocks sizes (stepped sizes number history (Take (PAGE unit)) found pass) (if found == 0 then (if page + 1 == end_page sizes pass.call then LoadLength else TakePage (page + 1)) else leaving pass.owned)
+lock_page sizes pass unit found number history held page may of =
     if_both (HoldsLocks sizes now) (found == 0) (if page + 1 == end_page sizes pass.call then LoadLength else TakePage (page + 1)) (leaving pass.owned)
     (λ e. if_both (HoldsLocks sizes now) (page + 1 == end_page sizes pass.call) LoadLength (TakePage (page + 1))
-    (λ _. taken sizes pass now (TakePage page) LoadLength (PAGE page) (took sizes pass (PAGE page) found number history e) (owed LoadLength (more e) refl (λ f. refl) (λ p. refl) refl refl) before)
-    (λ _. taken sizes pass now (TakePage page) (TakePage (page + 1)) (PAGE page) (took sizes pass (PAGE page) found number history e) (owed (TakePage (page + 1)) (more e) refl (λ f. refl) (λ p. refl) refl refl) before))
-    (missed sizes pass (PAGE page) found number history)
+    (λ _. taken sizes pass now (TakePage page) LoadLength (PAGE unit) (took sizes pass (PAGE unit) found number history e) (owed LoadLength (more e) refl (λ f. refl) (λ p. refl) refl refl) before)
+    (λ _. taken sizes pass now (TakePage page) (TakePage (page + 1)) (PAGE unit) (took sizes pass (PAGE unit) found number history e) (owed (TakePage (page + 1)) (more e) refl (λ f. refl) (λ p. refl) refl refl) before))
+    (missed sizes pass (PAGE unit) found number history)
   where
     now : Pass
-    now = stepped sizes number history (Take (PAGE page)) found pass
+    now = stepped sizes number history (Take (PAGE unit)) found pass
 
     before : HoldsLocks sizes pass (TakePage page)
     before = at_control sizes pass (TakePage page) may held
 
-    more : (found == 0) ≡ true → (p : ℕ) → count_in (stepped sizes number history (Take (PAGE page)) found pass).pages p ≡ one_if (p == page) + count_in pass.pages p
-    more e p = ap (λ l. count_in l p) (ap (pages_after pass (Take (PAGE page)) found) may ∙ when_true (found == 0) (pass.pages ++ page ∷ []) pass.pages e) ∙ count_more pass.pages page p
+    more : (found == 0) ≡ true → (p : ℕ) → count_in (stepped sizes number history (Take (PAGE unit)) found pass).pages p ≡ one_if (p == unit) + count_in pass.pages p
+    more e p = ap (λ l. count_in l p) (ap (pages_after pass (Take (PAGE unit)) found) may ∙ when_true (found == 0) (pass.pages ++ unit ∷ []) pass.pages e) ∙ count_more pass.pages unit p
 
-    owed : (control : Control) → ((p : ℕ) → page_held sizes (stepped sizes number history (Take (PAGE page)) found pass) control p ≡ one_if (p == page) + count_in pass.pages p)
-        → size_held (stepped sizes number history (Take (PAGE page)) found pass) control ≡ one_if pass.sized → ((f : ℕ) → store_times (stepped sizes number history (Take (PAGE page)) found pass) control f ≡ (if f == file_of pass.call then 0 else 0)) → ((p : ℕ) → cleanup_held (stepped sizes number history (Take (PAGE page)) found pass).pages control p ≡ 0) → cleaner_held control ≡ 0 → header_held control ≡ 0
-        → (other : Word) → lock_held sizes (stepped sizes number history (Take (PAGE page)) found pass) control other ≡ one_if (same other (PAGE page)) + lock_held sizes pass (TakePage page) other
+    owed : (control : Control) → ((p : ℕ) → page_held sizes (stepped sizes number history (Take (PAGE unit)) found pass) control p ≡ one_if (p == unit) + count_in pass.pages p)
+        → size_held (stepped sizes number history (Take (PAGE unit)) found pass) control ≡ one_if pass.sized → ((f : ℕ) → store_times (stepped sizes number history (Take (PAGE unit)) found pass) control f ≡ (if f == file_of pass.call then 0 else 0)) → ((p : ℕ) → cleanup_held (stepped sizes number history (Take (PAGE unit)) found pass).units control p ≡ 0) → cleaner_held control ≡ 0 → header_held control ≡ 0
+        → (other : Word) → lock_held sizes (stepped sizes number history (Take (PAGE unit)) found pass) control other ≡ one_if (same other (PAGE unit)) + lock_held sizes pass (TakePage page) other
     owed control pages size store none cleaner header (PAGE p) = pages p
     owed control pages size store none cleaner header (SIZE file) = ap (λ n. if file == file_of pass.call then n else 0) size ∙ no_more _
     owed control pages size store none cleaner header (STORE file) = store file ∙ no_more _
@@ -273,16 +273,17 @@ lock_takes sizes pass (STORE file) found number history stands held may =
     owed (SIZE other) = no_more _
     owed (CLEANUP page) = no_more _
     owed other = refl
-lock_takes sizes pass (CLEANUP page) found number history stands held may =
-    if_both (HoldsLocks sizes now) (found == 0) (TakeStore page true) (leaving pass.owned)
-    (λ e. taken sizes pass now (TakeCleanup page) (TakeStore page true) (CLEANUP page) (took sizes pass (CLEANUP page) found number history e) owed (at_control sizes pass (TakeCleanup page) may held))
-    (missed sizes pass (CLEANUP page) found number history)
+lock_takes sizes pass (CLEANUP unit) found number history stands held may =
+    clearing_next (HoldsLocks sizes now) sizes pass unit found may
+    (if_both (HoldsLocks sizes now) (found == 0) (TakeStore may.0 true) (leaving pass.owned)
+    (λ e. taken sizes pass now (TakeCleanup may.0) (TakeStore may.0 true) (CLEANUP unit) (took sizes pass (CLEANUP unit) found number history e) owed (at_control sizes pass (TakeCleanup may.0) may.1 held))
+    (missed sizes pass (CLEANUP unit) found number history))
   where
     now : Pass
-    now = stepped sizes number history (Take (CLEANUP page)) found pass
+    now = stepped sizes number history (Take (CLEANUP unit)) found pass
 
-    owed : (other : Word) → lock_held sizes (stepped sizes number history (Take (CLEANUP page)) found pass) (TakeStore page true) other ≡ one_if (same other (CLEANUP page)) + lock_held sizes pass (TakeCleanup page) other
-    owed (CLEANUP other) = more_none _
+    owed : (other : Word) → lock_held sizes (stepped sizes number history (Take (CLEANUP unit)) found pass) (TakeStore may.0 true) other ≡ one_if (same other (CLEANUP unit)) + lock_held sizes pass (TakeCleanup may.0) other
+    owed (CLEANUP other) = ap (λ u. one_if (other == u)) (sym may.2) ∙ more_none _
     owed (PAGE other) = no_more _
     owed (SIZE file) = no_more _
     owed (STORE file) = no_more _
@@ -317,13 +318,13 @@ lock_gives sizes pass (SIZE file) found number history GiveSize at pages held ma
     owed other = refl
 lock_gives sizes pass (PAGE page) found number history (GivePage next) at pages held may =
     if_both (HoldsLocks sizes now) (next + 1 == end_page sizes pass.call) Idle (GivePage (next + 1))
-    (λ last. given sizes pass now (GivePage next) Idle (PAGE page) refl some (owed Idle (λ p. less p ∙ ap (λ n. one_if (p == next) + n) (none p last)) refl (λ f. refl) (λ p. refl) refl refl) held)
+    (λ last. given sizes pass now (GivePage next) Idle (PAGE page) refl some (owed Idle (λ p. less p ∙ ap (λ n. one_if (p == pass.units next) + n) (none p last)) refl (λ f. refl) (λ p. refl) refl refl) held)
     (λ _. given sizes pass now (GivePage next) (GivePage (next + 1)) (PAGE page) refl some (owed (GivePage (next + 1)) less refl (λ f. refl) (λ p. refl) refl refl) held)
   where
     now : Pass
     now = stepped sizes number history (Give (PAGE page)) found pass
 
-    less : (p : ℕ) → count_in (drop (nth_of sizes pass.call next) pass.pages) p ≡ one_if (p == next) + count_in (drop (nth_of sizes pass.call (next + 1)) pass.pages) p
+    less : (p : ℕ) → count_in (drop (nth_of sizes pass.call next) pass.pages) p ≡ one_if (p == pass.units next) + count_in (drop (nth_of sizes pass.call (next + 1)) pass.pages) p
     less p = end_less sizes pass.call pass.pages pages next p at
 
     none : (p : ℕ) → (next + 1 == end_page sizes pass.call) ≡ true → count_in (drop (nth_of sizes pass.call (next + 1)) pass.pages) p ≡ 0
@@ -331,10 +332,10 @@ lock_gives sizes pass (PAGE page) found number history (GivePage next) at pages 
 
     some : 1 ≤ times (PAGE page) pass.owned
     some = subst (λ p. 1 ≤ times (PAGE p) pass.owned) (sym may)
-        (let a = held (PAGE next) (λ slot. differ (PAGE next) (ENTRY slot) refl) in let b = less next in let c : one_if (next == next) ≡ 1 = when_true (next == next) 1 0 (eq-eqb next next refl) in omega (arith, a, b, c))
+        (let a = held (PAGE (pass.units next)) (λ slot. differ (PAGE (pass.units next)) (ENTRY slot) refl) in let b = less (pass.units next) in let c : one_if (pass.units next == pass.units next) ≡ 1 = when_true (pass.units next == pass.units next) 1 0 (eq-eqb (pass.units next) (pass.units next) refl) in omega (arith, a, b, c))
 
-    owed : (control : Control) → ((p : ℕ) → count_in (drop (nth_of sizes pass.call next) pass.pages) p ≡ one_if (p == next) + page_held sizes (stepped sizes number history (Give (PAGE page)) found pass) control p)
-        → size_held (stepped sizes number history (Give (PAGE page)) found pass) control ≡ 0 → ((f : ℕ) → (if f == file_of pass.call then 0 else 0) ≡ store_times (stepped sizes number history (Give (PAGE page)) found pass) control f) → ((p : ℕ) → cleanup_held pass.pages control p ≡ 0) → 0 ≡ cleaner_held control → 0 ≡ header_held control
+    owed : (control : Control) → ((p : ℕ) → count_in (drop (nth_of sizes pass.call next) pass.pages) p ≡ one_if (p == pass.units next) + page_held sizes (stepped sizes number history (Give (PAGE page)) found pass) control p)
+        → size_held (stepped sizes number history (Give (PAGE page)) found pass) control ≡ 0 → ((f : ℕ) → (if f == file_of pass.call then 0 else 0) ≡ store_times (stepped sizes number history (Give (PAGE page)) found pass) control f) → ((p : ℕ) → cleanup_held pass.units control p ≡ 0) → 0 ≡ cleaner_held control → 0 ≡ header_held control
         → (other : Word) → lock_held sizes pass (GivePage next) other ≡ one_if (same other (PAGE page)) + lock_held sizes (stepped sizes number history (Give (PAGE page)) found pass) control other
     owed control pages size store clean cleaner header (PAGE p) = subst (λ q. count_in (drop (nth_of sizes pass.call next) pass.pages) p ≡ one_if (p == q) + page_held sizes (stepped sizes number history (Give (PAGE page)) found pass) control p) (sym may) (pages p)
     owed control pages size store clean cleaner header (SIZE file) = ap (λ n. if file == file_of pass.call then n else 0) (sym size) ∙ no_more _
@@ -345,8 +346,8 @@ lock_gives sizes pass (PAGE page) found number history (GivePage next) at pages 
     owed control pages size store clean cleaner header other = refl
 lock_gives sizes pass (STORE file) found number history (GiveStore page dirty) at pages held may =
     if_both (HoldsLocks sizes now) dirty (ReadLoadHead page) (VisitPage (page + 1))
-    (λ e. given sizes pass now (GiveStore page dirty) (ReadLoadHead page) (STORE file) refl some (owed (ReadLoadHead page) (λ p. refl) refl (λ f. refl) (λ p. ap (λ b. one_if (b && p == page)) e) refl refl) held)
-    (λ e. given sizes pass now (GiveStore page dirty) (VisitPage (page + 1)) (STORE file) refl some (owed (VisitPage (page + 1)) (λ p. refl) refl (λ f. refl) (λ p. ap (λ b. one_if (b && p == page)) e) refl refl) held)
+    (λ e. given sizes pass now (GiveStore page dirty) (ReadLoadHead page) (STORE file) refl some (owed (ReadLoadHead page) (λ p. refl) refl (λ f. refl) (λ p. ap (λ b. one_if (b && p == pass.units page)) e) refl refl) held)
+    (λ e. given sizes pass now (GiveStore page dirty) (VisitPage (page + 1)) (STORE file) refl some (owed (VisitPage (page + 1)) (λ p. refl) refl (λ f. refl) (λ p. ap (λ b. one_if (b && p == pass.units page)) e) refl refl) held)
   where
     now : Pass
     now = stepped sizes number history (Give (STORE file)) found pass
@@ -355,7 +356,7 @@ lock_gives sizes pass (STORE file) found number history (GiveStore page dirty) a
     some = (let a = held (STORE file) (λ slot. differ (STORE file) (ENTRY slot) refl) in let b : one_if (file == file_of pass.call) ≡ 1 = when_true (file == file_of pass.call) 1 0 (eq-eqb file (file_of pass.call) may) in omega (arith, a, b))
 
     owed : (next : Control) → ((p : ℕ) → count_in pass.pages p ≡ page_held sizes (stepped sizes number history (Give (STORE file)) found pass) next p)
-        → one_if pass.sized ≡ size_held (stepped sizes number history (Give (STORE file)) found pass) next → ((f : ℕ) → (if f == file_of pass.call then 0 else 0) ≡ store_times (stepped sizes number history (Give (STORE file)) found pass) next f) → ((p : ℕ) → one_if (dirty && p == page) ≡ cleanup_held pass.pages next p) → 0 ≡ cleaner_held next → 0 ≡ header_held next
+        → one_if pass.sized ≡ size_held (stepped sizes number history (Give (STORE file)) found pass) next → ((f : ℕ) → (if f == file_of pass.call then 0 else 0) ≡ store_times (stepped sizes number history (Give (STORE file)) found pass) next f) → ((p : ℕ) → one_if (dirty && p == pass.units page) ≡ cleanup_held pass.units next p) → 0 ≡ cleaner_held next → 0 ≡ header_held next
         → (other : Word) → lock_held sizes pass (GiveStore page dirty) other ≡ one_if (same other (STORE file)) + lock_held sizes (stepped sizes number history (Give (STORE file)) found pass) next other
     owed next pages size store clean cleaner header (STORE other) = subst (λ n. (if other == file_of pass.call then 1 else 0) ≡ one_if (other == file) + n) (store other)
         (subst (λ f. (if other == file_of pass.call then 1 else 0) ≡ one_if (other == f) + (if other == file_of pass.call then 0 else 0)) (sym may) (choice (other == file_of pass.call)))
@@ -376,7 +377,7 @@ lock_gives sizes pass (CLEANUP page) found number history (GiveCleanup next) at 
     now = stepped sizes number history (Give (CLEANUP page)) found pass
 
     some : 1 ≤ times (CLEANUP page) pass.owned
-    some = (let a = held (CLEANUP page) (λ slot. differ (CLEANUP page) (ENTRY slot) refl) in let b : one_if (page == next) ≡ 1 = when_true (page == next) 1 0 (eq-eqb page next may) in omega (arith, a, b))
+    some = (let a = held (CLEANUP page) (λ slot. differ (CLEANUP page) (ENTRY slot) refl) in let b : one_if (page == pass.units next) ≡ 1 = when_true (page == pass.units next) 1 0 (eq-eqb page (pass.units next) may) in omega (arith, a, b))
 
     owed : (other : Word) → lock_held sizes pass (GiveCleanup next) other ≡ one_if (same other (CLEANUP page)) + lock_held sizes (stepped sizes number history (Give (CLEANUP page)) found pass) (VisitPage (next + 1)) other
     owed (CLEANUP other) = ap (λ p. one_if (other == p)) (sym may) ∙ more_none _
@@ -445,10 +446,11 @@ lock_steps sizes values pass (Seize next) found number history of_call stands he
     let now = stepped sizes number history (Seize next) found pass in
     let full = entry_taken sizes pass now LoadStop (slot_of_entry sizes next) refl (at_control sizes pass (SeizeEntry next) may held) in
     if_both (HoldsLocks sizes now) (next + 1 == pass.first + pass.entries) (CommitGroup 0) (SeizeEntry (next + 1)) (λ _. full) (λ _. full)
-lock_steps sizes values pass (Pledge page) found number history of_call stands held may =
-    let full = at_control sizes pass (PledgePage page) may held in
-    if_both (HoldsLocks sizes (stepped sizes number history (Pledge page) found pass)) (page + 1 == end_page sizes pass.call)
-    (ReadyEntry (if pass.entries == 1 then pass.first else pass.first + 1)) (PledgePage (page + 1)) (λ _. full) (λ _. full)
+lock_steps sizes values pass (Pledge unit) found number history of_call stands held may =
+    let full = at_control sizes pass (PledgePage may.0) may.1 held in
+    let now = stepped sizes number history (Pledge unit) found pass in
+    pledged_next (HoldsLocks sizes now) sizes pass may.0 may.1 (if_both (HoldsLocks sizes now) (may.0 + 1 == end_page sizes pass.call)
+    (ReadyEntry (if pass.entries == 1 then pass.first else pass.first + 1)) (PledgePage (may.0 + 1)) (λ _. full) (λ _. full))
 lock_steps sizes values pass (Ready next) found number history of_call stands held may =
     let now = stepped sizes number history (Ready next) found pass in
     let full = entry_given sizes pass now LoadStop (slot_of_entry sizes next) refl (at_control sizes pass (ReadyEntry next) may held) in
@@ -470,6 +472,7 @@ lock_steps sizes values pass (Return next) found number history of_call stands h
     (λ _. out sizes now (without (ENTRY (slot_of_entry sizes next)) pass.owned) refl)
     (λ _. scan_locks sizes pass now may.0 (next + 1) (entry_given sizes pass now (ReturnEntry may.0 next may.1) (slot_of_entry sizes next) refl (at_control sizes pass (ReturnEntry may.0 next may.1) may.2 held))))
 lock_steps sizes values pass (Turn page) found number history of_call stands held may = missed_locks sizes values pass page may.tries held may.miss
-lock_steps sizes values pass (Hint buffer page) found number history of_call stands held may = at_control sizes pass (Searching page may.tries (VictimGiven buffer)) may.is held
+lock_steps sizes values pass (Hint buffer unit) found number history of_call stands held may =
+    hinted_next (HoldsLocks sizes (stepped sizes number history (Hint buffer unit) found pass)) values pass buffer unit may (at_control sizes pass (Searching may.page may.tries (VictimGiven buffer)) may.is held)
 lock_steps sizes values pass (ByCleaner cleaner_op) found number history of_call stands held may = absurd of_call
 lock_steps sizes values pass op found number history of_call stands held may = absurd may

@@ -19,6 +19,7 @@ use Rattle.nv_core.proofs.state.Choices.{if_both, when_true, not_both, busy}
 use Rattle.nv_core.proofs.invariant.ClearLaws.{IsClear, clear_filling, entry_stays, IsBare, IsStill, bare_clear, bare_held, bare_leaving, bare_scanning, bare_from, bare_to}
 use Rattle.nv_core.proofs.state.SlotLaws.{apart, Entries, entries_same, entries_more, entries_less}
 use Rattle.nv_core.proofs.invariant.OwnershipLaws.{IsOfCall, lock_steps}
+use Rattle.nv_core.proofs.steps.SearchLaws.{pledged_next}
 
 -- the numbers whose entries a pass owns: those that it is filling, the one that it reads, or those that a cleaner owns
 abbrev pub HasEntry : Control → (first entries number : ℕ) → Type 0
@@ -210,9 +211,9 @@ entry_steps sizes values pass Draw found of_call stands may held =
 entry_steps sizes values pass (Seize next) found of_call stands may held =
     let at : HasDrawn sizes pass.call pass.entries × IsAmong pass.first pass.entries next = subst (FactsAt sizes pass) may stands.at in
     seizes sizes pass next (few_entries sizes pass.call pass.entries at.0 (stands.allowed (busy _ _ may refl))) at.1 (at_control sizes pass (SeizeEntry next) may held)
-entry_steps sizes values pass (Pledge page) found of_call stands may held =
-    let at : HasDrawn sizes pass.call pass.entries × IsPage sizes pass.call page = subst (FactsAt sizes pass) may stands.at in
-    pledges sizes pass page at.0.some (at_control sizes pass (PledgePage page) may held)
+entry_steps sizes values pass (Pledge unit) found of_call stands (page, is, same) held =
+    let at : HasDrawn sizes pass.call pass.entries × IsPage sizes pass.call page = subst (FactsAt sizes pass) is stands.at in
+    pledged_next (λ s. InOwned sizes s pass.first pass.entries pass.owned) sizes pass page is (pledges sizes pass page at.0.some (at_control sizes pass (PledgePage page) is held))
 entry_steps sizes values pass (Ready next) found of_call stands may held =
     let at : HasDrawn sizes pass.call pass.entries × IsAmong pass.first pass.entries next = subst (FactsAt sizes pass) may stands.at in
     readies sizes pass next (few_entries sizes pass.call pass.entries at.0 (stands.allowed (busy _ _ may refl))) at.1 (at_control sizes pass (ReadyEntry next) may held)

@@ -23,7 +23,7 @@ use Rattle.nv_core.proofs.invariant.KeepsMade.{made_step, made_begin, made_work}
 use Rattle.nv_core.specs.state.Totals.{total}
 use Rattle.nv_core.proofs.invariant.KeepsFaultedWrites.{broken_step, broken_begin, broken_work}
 use Rattle.nv_core.proofs.invariant.KeepsFaultedLengths.{broken_lengths_step, broken_lengths_begin, broken_lengths_work}
-use Rattle.nv_core.proofs.invariant.IndexLaws.{index_kept}
+use Rattle.nv_core.proofs.invariant.IndexLaws.{index_step, index_begin, index_work}
 use Rattle.nv_core.proofs.invariant.KeepsRooms.{rooms_step, rooms_begin, rooms_work}
 use Rattle.nv_core.proofs.invariant.KeepsHistory.{history_step, history_begin, history_work}
 use Rattle.nv_core.specs.invariant.Ownership.{one_if}
@@ -64,7 +64,7 @@ sound_step sizes first by core op found sound made may = record {
   searches = searches_step sizes first by core op found sound may;
   devices = devices_step sizes first by core op sound;
   rooms = rooms_step sizes first by core op found sound may;
-  index = index_kept core (after_step sizes by op found core) refl sound.index;
+  index = index_step sizes by core sound.index op found;
   grouped = let g = sound.grouped in record {
     log = log_stepped sizes (core.passes by) op found g.log;
     groups = groups_step sizes first by core g.log op found sound g.groups g.progress may;
@@ -98,7 +98,7 @@ sound_begin sizes first by core call sound made may = record {
   searches = searches_begin sizes by core call sound.searches;
   devices = sound.devices;
   rooms = rooms_begin sizes by core call sound.rooms may;
-  index = index_kept core (after_begin sizes by call core) refl sound.index;
+  index = index_begin sizes by core sound.index call;
   grouped = let g = sound.grouped in record {
     log = g.log;
     groups = groups_begin sizes by core g.log call g.groups;
@@ -131,7 +131,7 @@ sound_work ends sizes first by core work sound made may = record {
   searches = searches_work sizes by core work may sound.searches;
   devices = devices_work sizes first by core work sound;
   rooms = rooms_work ends sizes first by core work sound may;
-  index = index_kept core (after_work sizes by work core) refl sound.index;
+  index = index_work sizes by core sound.index work;
   grouped = let g = sound.grouped in record {
     log = log_worked (core.passes by) work.ending (core.passes by).control g.log;
     groups = groups_work sizes by core g.log work g.groups may;
@@ -188,7 +188,7 @@ lock_word mount cell lock = absurd (not_both lock refl)
 pub opening_is_sound : OpeningIsSound
 opening_is_sound mount is_mount = record {
   numbers = record { unborn = λ n less. record { idle = refl; owned = refl; mine = refl; faulted = refl; left = refl }; ended = λ n ended. absurd ended };
-  control_facts = λ n. record { at = tt; pages = tt; allowed = λ called. absurd (not_both called refl) };
+  control_facts = λ n. record { at = tt; pages = tt; allowed = λ called. absurd (not_both called refl); within = λ page less. less };
   ownership = λ n. record { locks = λ cell lock. sym (nothing mount.sizes (opening_pass mount) cell); filling = λ s fills. absurd fills; held = λ s holds. absurd holds; none = λ slot off away. refl };
   locks = record { bit = lock_word mount; keyed = λ cell. record { free = λ unshut n. refl; held = λ shut. absurd (not_both shut (open_cell mount cell)) } };
   window = record {
@@ -238,7 +238,7 @@ opening_is_sound mount is_mount = record {
   searches = record { hints = first_hints mount is_mount; each = λ n. tt };
   devices = record { each = λ cell. refl };
   rooms = record { free = λ slot less is. is_mount.ready slot less; ready = λ slot less kind. is_mount.ready slot less; filling = λ by number fills. absurd fills; header = λ zero still. is_mount.header; moving = λ by. tt };
-  index = record { apart = λ one other e. e; direct = λ unit. refl };
+  index = record { apart = λ one other e. e; known = λ n page. refl; direct = λ unit. refl };
   grouped = record {
     log = none;
     groups = groups_opening mount.sizes none (λ n. false) (opening mount) refl (λ n. refl);

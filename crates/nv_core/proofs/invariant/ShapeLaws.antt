@@ -13,7 +13,7 @@ use Rattle.nv_core.specs.steps.Ops.{Op, Give, Draw, Seize, Pledge, Split, PutBac
 use Rattle.nv_core.specs.steps.ControlSteps.{leaving}
 use Rattle.nv_core.specs.steps.PassSteps.{begun}
 use Rattle.nv_core.specs.steps.Order.{Values, Work, CallEnabled, CallDue, SaysPage, SaysOf, commit_steps}
-use Rattle.nv_core.specs.state.Core.{Core, with_value, changes, changed_pass, after_step, after_begin, after_work, worked, control_worked, fetched_worked, values_read, values_worked, values_robbed, values_given, values_stepped}
+use Rattle.nv_core.specs.state.Core.{Core, with_value, changes, changed_pass, after_step, after_begin, after_work, worked, control_worked, fetched_worked, values_read, values_worked, values_robbed, values_given, values_stepped, pledging}
 use Rattle.nv_core.specs.steps.Events.{Act, BeginsCall, TakesStep, CallsDevice, Event, after_act, after_event, after_run, IsRun}
 use Rattle.nv_core.proofs.steps.ByKind.{StepEnabledByKind, ActEnabledByKind, act_kind}
 use Rattle.nv_core.specs.steps.Opening.{opening}
@@ -22,6 +22,7 @@ use Rattle.nv_core.proofs.state.Changes.{by_word, by_number, number_self}
 use Rattle.nv_core.proofs.state.Choices.{if_both, when_true, leaving_both}
 use Rattle.nv_core.proofs.steps.CleanerControls.{of_cleaner_worked}
 use Rattle.nv_core.proofs.steps.ControlSteps.{piece_page, IsPlain, control_kept}
+use Rattle.nv_core.proofs.steps.SearchLaws.{pledged_next}
 
 -- ---- values
 
@@ -71,13 +72,14 @@ shape_patched_by sizes first call page now is = is
 shapes_with : (page : ℕ) (first values : Values) (word : Word) (value : Value) → HasShape page (first word) value → HaveShapes page first values → HaveShapes page first (with_value values word value)
 shapes_with page first values word value here all = by_word (λ w v. HasShape page (first w) v) values word value here (λ other ne. all other)
 
-shapes_robbed : (page : ℕ) (first values : Values) (pages : List ℕ) (control : Control) → HaveShapes page first values → HaveShapes page first (values_robbed pages control values)
-shapes_robbed page first values pages (Searching missed tries (GiveVictim buffer victim)) all =
-    shapes_with page first (with_value values (PAGE missed) (received (values (PAGE victim)) (values (PAGE missed)))) (PAGE victim) (emptied (values (PAGE victim)))
+shapes_robbed : (page : ℕ) (first values : Values) (units : ℕ → ℕ) (control : Control) → HaveShapes page first values → HaveShapes page first (values_robbed units control values)
+shapes_robbed page first values units (Searching missed tries (GiveVictim buffer victim)) all =
+    let own = PAGE (units missed) in
+    shapes_with page first (with_value values own (received (values (PAGE victim)) (values own))) (PAGE victim) (emptied (values (PAGE victim)))
     (shape_emptied page (first (PAGE victim)) (values (PAGE victim)) (all (PAGE victim)))
-    (shapes_with page first values (PAGE missed) (received (values (PAGE victim)) (values (PAGE missed)))
-    (shape_received page (first (PAGE victim)) (values (PAGE victim)) (first (PAGE missed)) (values (PAGE missed)) (all (PAGE victim)) (all (PAGE missed))) all)
-shapes_robbed page first values pages control all = all
+    (shapes_with page first values own (received (values (PAGE victim)) (values own))
+    (shape_received page (first (PAGE victim)) (values (PAGE victim)) (first own) (values own) (all (PAGE victim)) (all own)) all)
+shapes_robbed page first values units control all = all
 
 -- what a read has fetched of a page that it patches has at least a page
 abbrev LongFor : ℕ → List (ℕ × List ℕ) → Option ℕ → Type 0
@@ -89,12 +91,14 @@ IsFull size pass = LongFor size pass.fetched (piece_page pass.control)
 
 shapes_given : (size : ℕ) (first values : Values) (pass : Pass) (control : Control) → LongFor size pass.fetched (piece_page control) → HaveShapes size first values → HaveShapes size first (values_given pass control values)
 shapes_given size first values pass (GiveCleanup page) long all =
-    shapes_with size first values (PAGE page) (filled (fetched_bytes pass.fetched page) (values (PAGE page))) (shape_filled size (first (PAGE page)) (fetched_bytes pass.fetched page) (values (PAGE page)) long (all (PAGE page))) all
-shapes_given size first values pass control long all = shapes_robbed size first values pass.pages control all
+    let own = PAGE (pass.units page) in
+    shapes_with size first values own (filled (fetched_bytes pass.fetched page) (values own)) (shape_filled size (first own) (fetched_bytes pass.fetched page) (values own) long (all own)) all
+shapes_given size first values pass control long all = shapes_robbed size first values pass.units control all
 
 shapes_stepped : (sizes : Sizes) (first values : Values) (pass : Pass) (op : Op) → IsFull sizes.page pass → HaveShapes sizes.page first values → HaveShapes sizes.page first (values_stepped sizes pass op values)
-shapes_stepped sizes first values pass (Pledge page) long all =
-    shapes_with sizes.page first values (PAGE page) (patched_by sizes pass.call page (values (PAGE page))) (shape_patched_by sizes (first (PAGE page)) pass.call page (values (PAGE page)) (all (PAGE page))) all
+shapes_stepped sizes first values pass (Pledge unit) long all =
+    let page = pledging pass.control in
+    shapes_with sizes.page first values (PAGE unit) (patched_by sizes pass.call page (values (PAGE unit))) (shape_patched_by sizes (first (PAGE unit)) pass.call page (values (PAGE unit)) (all (PAGE unit))) all
 shapes_stepped sizes first values pass (Give cell) long all = shapes_given sizes.page first values pass pass.control long all
 shapes_stepped sizes first values pass op long all = all
 
@@ -110,11 +114,12 @@ long_read sizes at bytes (AStore device) says = long_said sizes at bytes device.
 long_read sizes at bytes value says = absurd says
 
 shapes_read : (sizes : Sizes) (first values old : Values) (pass : Pass) (work : Work) (job : Job) (how : CallEnding) (control : Control) → work.job ≡ job → CallDue sizes old pass work control → HaveShapes sizes.page first values
-    → HaveShapes sizes.page first (values_read pass.pages job how control values)
+    → HaveShapes sizes.page first (values_read pass.units job how control values)
 shapes_read sizes first values old pass work (PageRead at bytes) Made (ReadStore page false) is due all =
     let same : due.bytes ≡ bytes = cc (due.job, is) in
-    shapes_with sizes.page first values (PAGE page) (filled bytes (values (PAGE page)))
-    (shape_filled sizes.page (first (PAGE page)) bytes (values (PAGE page)) (subst (λ some. sizes.page ≤ length some) same (long_read sizes _ due.bytes _ due.says)) (all (PAGE page))) all
+    let own = PAGE (pass.units page) in
+    shapes_with sizes.page first values own (filled bytes (values own))
+    (shape_filled sizes.page (first own) bytes (values own) (subst (λ some. sizes.page ≤ length some) same (long_read sizes _ due.bytes _ due.says)) (all own)) all
 shapes_read sizes first values old pass work job how control is due all = all
 
 shapes_worked : (sizes : Sizes) (first values : Values) (pass : Pass) (work : Work) → CallEnabled sizes values pass work → HaveShapes sizes.page first values → HaveShapes sizes.page first (values_worked pass work values)
@@ -144,9 +149,10 @@ full_here sizes by core found Draw may is = if_both (λ s. LongFor sizes.page (c
     (λ _. leaving_both (λ s. LongFor sizes.page (core.passes by).fetched (piece_page s)) (core.passes by).owned (λ _. tt) (λ _. tt))
 full_here sizes by core found (Seize number) may is =
     if_both (λ s. LongFor sizes.page (core.passes by).fetched (piece_page s)) (number + 1 == (core.passes by).first + (core.passes by).entries) (CommitGroup 0) (SeizeEntry (number + 1)) (λ _. tt) (λ _. tt)
-full_here sizes by core found (Pledge page) may is =
-    if_both (λ s. LongFor sizes.page (core.passes by).fetched (piece_page s)) (page + 1 == end_page sizes (core.passes by).call)
-    (ReadyEntry (if (core.passes by).entries == 1 then (core.passes by).first else (core.passes by).first + 1)) (PledgePage (page + 1)) (λ _. tt) (λ _. tt)
+full_here sizes by core found (Pledge unit) (page, at, same) is =
+    pledged_next (λ s. LongFor sizes.page (core.passes by).fetched (piece_page s)) sizes (core.passes by) page at
+    (if_both (λ s. LongFor sizes.page (core.passes by).fetched (piece_page s)) (page + 1 == end_page sizes (core.passes by).call)
+    (ReadyEntry (if (core.passes by).entries == 1 then (core.passes by).first else (core.passes by).first + 1)) (PledgePage (page + 1)) (λ _. tt) (λ _. tt))
 full_here sizes by core found op may is =
     control_kept sizes core.values (core.passes by) (λ s. LongFor sizes.page (core.passes by).fetched (piece_page s)) (plain_full sizes.page (core.passes by).fetched)
     (λ page one other a b long. subst (LongFor sizes.page (core.passes by).fetched) (a ∙ sym b) long) found op tt may is

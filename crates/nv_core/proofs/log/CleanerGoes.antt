@@ -86,17 +86,17 @@ module _ (sizes : Sizes) (first : Values) (core : Core) (sound : Sound sizes fir
   of_cleaner_sweeping b s number is = tt
 
   module _ (by : ℕ) (batch : Batch) (i : ℕ) (at : (core.passes by).control ≡ Cleaning batch (cleaner.TakeCleanup i)) (own slot : ℕ) (zero_ : core.words (CLEANUP own) ≡ 0) (here : page_of (core.words (ENTRY slot)) ≡ own) where
-    cleanup_of : (n page : ℕ) (control : Control) → (core.passes n).control ≡ control → ((cell : Word) → ((slot : ℕ) → cell ≢ ENTRY slot) → times cell (core.passes n).owned ≡ lock_held sizes (core.passes n) control cell)
-        → one_if (page == page) ≡ lock_held sizes (core.passes n) control (CLEANUP page) → times (CLEANUP page) (core.passes n).owned ≡ 1
-    cleanup_of n page control e locks is = locks (CLEANUP page) (not_entry_cleanup page) ∙ sym is ∙ when_true (page == page) 1 0 (number_self page)
+    cleanup_of : (n unit : ℕ) (control : Control) → (core.passes n).control ≡ control → ((cell : Word) → ((slot : ℕ) → cell ≢ ENTRY slot) → times cell (core.passes n).owned ≡ lock_held sizes (core.passes n) control cell)
+        → one_if (unit == unit) ≡ lock_held sizes (core.passes n) control (CLEANUP unit) → times (CLEANUP unit) (core.passes n).owned ≡ 1
+    cleanup_of n unit control e locks is = locks (CLEANUP unit) (not_entry_cleanup unit) ∙ sym is ∙ when_true (unit == unit) 1 0 (number_self unit)
 
     held_off : (n : ℕ) (control : Control) → (core.passes n).control ≡ control → (number : ℕ) → IsHeldEntry control number → slot_of_entry sizes number ≢ slot
-    held_off n (ReadPiece page next) e number is = reader_free n page own number slot (cleanup_of n page (ReadPiece page next) e (subst (HoldsLocks sizes (core.passes n)) e (sound.ownership n).locks) refl) zero_
-        (let l : InWindow core next × (is_entry_of held page (entry_word_at sizes core next) ≡ true) = subst (LooksSound sizes core (core.passes n).pages) e (sound.loaded.looks n) in subst (λ k. is_entry_of held page (entry_word_at sizes core k) ≡ true) (sym is) l.1) here
-    held_off n (ReturnEntry page next failed) e number is = reader_free n page own number slot (cleanup_of n page (ReturnEntry page next failed) e (subst (HoldsLocks sizes (core.passes n)) e (sound.ownership n).locks) refl) zero_
-        (let l : InWindow core next × (is_entry_of held page (entry_word_at sizes core next) ≡ true) = subst (LooksSound sizes core (core.passes n).pages) e (sound.loaded.looks n) in subst (λ k. is_entry_of held page (entry_word_at sizes core k) ≡ true) (sym is) l.1) here
-    held_off n (SetStopAfterPiece page next) e number is = reader_free n page own number slot (cleanup_of n page (SetStopAfterPiece page next) e (subst (HoldsLocks sizes (core.passes n)) e (sound.ownership n).locks) refl) zero_
-        (let l : InWindow core next × (is_entry_of held page (entry_word_at sizes core next) ≡ true) = subst (LooksSound sizes core (core.passes n).pages) e (sound.loaded.looks n) in subst (λ k. is_entry_of held page (entry_word_at sizes core k) ≡ true) (sym is) l.1) here
+    held_off n (ReadPiece page next) e number is = reader_free n ((core.passes n).units page) own number slot (cleanup_of n ((core.passes n).units page) (ReadPiece page next) e (subst (HoldsLocks sizes (core.passes n)) e (sound.ownership n).locks) refl) zero_
+        (let l : InWindow core next × (is_entry_of held ((core.passes n).units page) (entry_word_at sizes core next) ≡ true) = subst (LooksSound sizes core (core.passes n).units) e (sound.loaded.looks n) in subst (λ k. is_entry_of held ((core.passes n).units page) (entry_word_at sizes core k) ≡ true) (sym is) l.1) here
+    held_off n (ReturnEntry page next failed) e number is = reader_free n ((core.passes n).units page) own number slot (cleanup_of n ((core.passes n).units page) (ReturnEntry page next failed) e (subst (HoldsLocks sizes (core.passes n)) e (sound.ownership n).locks) refl) zero_
+        (let l : InWindow core next × (is_entry_of held ((core.passes n).units page) (entry_word_at sizes core next) ≡ true) = subst (LooksSound sizes core (core.passes n).units) e (sound.loaded.looks n) in subst (λ k. is_entry_of held ((core.passes n).units page) (entry_word_at sizes core k) ≡ true) (sym is) l.1) here
+    held_off n (SetStopAfterPiece page next) e number is = reader_free n ((core.passes n).units page) own number slot (cleanup_of n ((core.passes n).units page) (SetStopAfterPiece page next) e (subst (HoldsLocks sizes (core.passes n)) e (sound.ownership n).locks) refl) zero_
+        (let l : InWindow core next × (is_entry_of held ((core.passes n).units page) (entry_word_at sizes core next) ≡ true) = subst (LooksSound sizes core (core.passes n).units) e (sound.loaded.looks n) in subst (λ k. is_entry_of held ((core.passes n).units page) (entry_word_at sizes core k) ≡ true) (sym is) l.1) here
     held_off n (Cleaning b s) e number is = λ same.
         let one = one_cleaner n by b batch s (cleaner.TakeCleanup i) e at (of_cleaner_sweeping b s number is) tt in
         subst (λ t. IsHeldEntry t number) (sym e ∙ ap (λ k. (core.passes k).control) one ∙ at) is

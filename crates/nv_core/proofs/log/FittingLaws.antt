@@ -179,10 +179,10 @@ ready_pieces_fit opens keeps groups mount events slot is_mount some run =
 
 pub held_pieces_fit : RunsAreSound → ReadyPiecesFit → HeldPiecesFit
 held_pieces_fit sound fits mount events by page number is_mount some run at =
-    fits mount events (slot_of_entry mount.sizes number) is_mount some run (held_was (entry_word_at mount.sizes core number) (entry_is held page (entry_word_at mount.sizes core number) looks.1).0)
+    fits mount events (slot_of_entry mount.sizes number) is_mount some run (held_was (entry_word_at mount.sizes core number) (entry_is held ((core.passes by).units page) (entry_word_at mount.sizes core number) looks.1).0)
   where
     core : Core
     core = after_run mount.sizes (opening mount) events
 
-    looks : InWindow (after_run mount.sizes (opening mount) events) number × (is_entry_of held page (entry_word_at mount.sizes (after_run mount.sizes (opening mount) events) number) ≡ true)
-    looks = subst (LooksSound mount.sizes core (core.passes by).pages) at ((sound mount events is_mount run).loaded.looks by)
+    looks : InWindow (after_run mount.sizes (opening mount) events) number × (is_entry_of held (((after_run mount.sizes (opening mount) events).passes by).units page) (entry_word_at mount.sizes (after_run mount.sizes (opening mount) events) number) ≡ true)
+    looks = subst (LooksSound mount.sizes core (core.passes by).units) at ((sound mount events is_mount run).loaded.looks by)

@@ -27,6 +27,7 @@ use Rattle.nv_core.proofs.invariant.ControlFactLaws.{worked_control}
 use Rattle.nv_core.proofs.steps.CleanerControls.{of_cleaner_worked}
 use Rattle.nv_core.proofs.log.DrawLaws.{drawn_group, lost_head, won_draw}
 use Rattle.nv_core.proofs.steps.CleanerOps.{IsAtTail, retires_hand}
+use Rattle.nv_core.proofs.steps.SearchLaws.{hinted_next}
 
 pub clear_group : (control : Control) → IsClear control → HasGroup control → ⊥
 clear_group (SeizeEntry next) clear is = clear
@@ -50,7 +51,7 @@ had sizes values pass found (Give cell) ne may is = absurd (clear_group _ (clear
 had sizes values pass found (Place reply) ne may is = absurd (clear_group _ (clear_to sizes values pass (Place reply) found tt may) is)
 had sizes values pass found Grow ne may is = absurd (clear_group _ (clear_to sizes values pass Grow found tt may) is)
 had sizes values pass found (Turn page) ne may is = absurd is
-had sizes values pass found (Hint buffer page) ne may is = absurd is
+had sizes values pass found (Hint buffer unit) ne may is = absurd (hinted_next (λ s. HasGroup s → ⊥) values pass buffer unit may (λ z. z) is)
 had sizes values pass found Stop ne may is = stops pass.control may is
   where
     stops : (control : Control) → IsFailing control → HasGroup (after_stop pass control) → HasGroup control
@@ -60,7 +61,7 @@ had sizes values pass found Stop ne may is = stops pass.control may is
     stops control may is = absurd may
 had sizes values pass found Draw ne may is = absurd (not_both refl ne)
 had sizes values pass found (Seize next) ne may is = subst HasGroup (sym may) tt
-had sizes values pass found (Pledge page) ne may is = subst HasGroup (sym may) tt
+had sizes values pass found (Pledge page) ne may is = subst HasGroup (sym may.1) tt
 had sizes values pass found (Ready next) ne may is = subst HasGroup (sym may) tt
 had sizes values pass found (Break next) ne may is = subst HasGroup (sym may) tt
 had sizes values pass found (Hold next) ne may is = absurd (clear_group _ (clear_to sizes values pass (Hold next) found tt may) is)
@@ -280,7 +281,7 @@ groups_step sizes first by core log (Take cell) found sound groups progress may 
 groups_step sizes first by core log (Give cell) found sound groups progress may = step_same sizes first by core log (Give cell) found sound groups may refl refl (λ is. (had sizes core.values (core.passes by) found (Give cell) refl may.may is, refl))
 groups_step sizes first by core log (Place reply) found sound groups progress may = step_same sizes first by core log (Place reply) found sound groups may refl refl (λ is. (had sizes core.values (core.passes by) found (Place reply) refl may.may is, refl))
 groups_step sizes first by core log (Turn page) found sound groups progress may = step_same sizes first by core log (Turn page) found sound groups may refl refl (λ is. absurd is)
-groups_step sizes first by core log (Hint buffer page) found sound groups progress may = step_same sizes first by core log (Hint buffer page) found sound groups may refl refl (λ is. absurd is)
+groups_step sizes first by core log (Hint buffer page) found sound groups progress may = step_same sizes first by core log (Hint buffer page) found sound groups may refl refl (λ is. (had sizes core.values (core.passes by) found (Hint buffer page) refl may.may is, refl))
 groups_step sizes first by core log Stop found sound groups progress may = step_same sizes first by core log Stop found sound groups may refl refl (λ is. (had sizes core.values (core.passes by) found Stop refl may.may is, refl))
 groups_step sizes first by core log (Seize next) found sound groups progress may = step_same sizes first by core log (Seize next) found sound groups may refl refl (λ is. (had sizes core.values (core.passes by) found (Seize next) refl may.may is, refl))
 groups_step sizes first by core log (Pledge page) found sound groups progress may = step_same sizes first by core log (Pledge page) found sound groups may refl refl (λ is. (had sizes core.values (core.passes by) found (Pledge page) refl may.may is, refl))

@@ -1,5 +1,5 @@
 -- Each event keeps the header but for its tail, and the lines of each part.
-use Rattle.std.proofs.Common.{◌≡◌, ◌≢◌, ◌⊎◌, ℕ, zero, suc, ◌+◌, ◌==◌, true, false, ◌∷◌, length, take, inl, inr, refl, sym, ap, ap₂, subst, ◌∙◌, arith, List}
+use Rattle.std.proofs.Common.{◌≡◌, ◌≢◌, ◌⊎◌, ℕ, zero, suc, ◌+◌, ◌==◌, true, false, ◌∷◌, length, take, inl, inr, refl, sym, ap, ap₂, subst, ◌∙◌, arith}
 use Rattle.std.specs.Prelude.{Option, Some, None, option_map}
 use Rattle.std.proofs.Math.Numerals.{add-one}
 use Rattle.std.proofs.lemmas.Bool.{cases_eq, eqb-true}
@@ -21,7 +21,7 @@ use Rattle.nv_core.specs.steps.CleanerSteps.{group_file}
 use Rattle.nv_core.specs.state.Passes.{Control, CommitGroup, ReadStore, ReadPiece, Cleaning, Pass, file_of}
 use Rattle.nv_core.specs.steps.Ops.{Op, Pledge, patched_by, Give}
 use Rattle.nv_core.specs.steps.Order.{Values, Work, CallEnabled, CallDue, CleanerCallDue, IsNextCall, IsPieceRead, IsTailCall}
-use Rattle.nv_core.specs.state.Core.{with_value, values_read, values_worked, values_stepped}
+use Rattle.nv_core.specs.state.Core.{with_value, values_read, values_worked, values_stepped, pledging}
 use Rattle.nv_core.specs.log.Written.{IsPart}
 use Rattle.nv_core.specs.log.Tails.{Tails, still, tails_moved, tails_worked}
 use Rattle.nv_core.specs.log.Retiring.{TailsAt}
@@ -48,7 +48,7 @@ header_kept first tails old new same lines stays = record {
 -- ---- steps
 
 pub header_stepped : (sizes : Sizes) (pass : Pass) (op : Op) (values : Values) → values_stepped sizes pass op values HEADER ≡ values HEADER
-header_stepped sizes pass (Pledge page) values = word_else values (PAGE page) (patched_by sizes pass.call page (values (PAGE page))) HEADER (differ HEADER (PAGE page) refl)
+header_stepped sizes pass (Pledge unit) values = word_else values (PAGE unit) (patched_by sizes pass.call (pledging pass.control) (values (PAGE unit))) HEADER (differ HEADER (PAGE unit) refl)
 header_stepped sizes pass (Give cell) values = given_else pass pass.control values HEADER (λ page. differ HEADER (PAGE page) refl)
 header_stepped sizes pass op values = refl
 
@@ -58,9 +58,9 @@ header_step sizes first tails pass op values stays = header_kept first tails val
 
 -- ---- device calls
 
-pub header_read : (pages : List ℕ) (job : Job) (how : CallEnding) (control : Control) (values : Values) → values_read pages job how control values HEADER ≡ values HEADER
-header_read pages (PageRead at bytes) Made (ReadStore page false) values = word_else values (PAGE page) (filled bytes (values (PAGE page))) HEADER (differ HEADER (PAGE page) refl)
-header_read pages job how control values = refl
+pub header_read : (units : ℕ → ℕ) (job : Job) (how : CallEnding) (control : Control) (values : Values) → values_read units job how control values HEADER ≡ values HEADER
+header_read units (PageRead at bytes) Made (ReadStore page false) values = word_else values (PAGE (units page)) (filled bytes (values (PAGE (units page)))) HEADER (differ HEADER (PAGE (units page)) refl)
+header_read units job how control values = refl
 
 -- a part that a step has come to
 abbrev HasStepped : LineStep → Value → Part → Type 0
@@ -136,7 +136,7 @@ module _ (laws : LogLaws) (first : Values) (tails : Tails) (pass : Pass) (work :
     (stays : HeaderStays first tails values) (due : IsTailCall tail calls work) (count : tails.calls ≡ calls) (to : tails.calls ≢ 0 → tails.next ≡ tail) where
   tail_value : values_worked pass work values HEADER ≡ called (PartStep due.step due.spares) work.ending (values HEADER)
   tail_value =
-      header_read pass.pages work.job work.ending pass.control (with_value values work.cell (called work.job work.ending (values work.cell)))
+      header_read pass.units work.job work.ending pass.control (with_value values work.cell (called work.job work.ending (values work.cell)))
       ∙ ap (λ c. with_value values c (called work.job work.ending (values c)) HEADER) due.cell
       ∙ word_here values HEADER (called work.job work.ending (values HEADER))
       ∙ ap (λ j. called j work.ending (values HEADER)) due.job
@@ -259,7 +259,7 @@ header_work laws sizes first tails pass work values stays at_tails may = go pass
 
     header : (cell : Word) → work.cell ≡ cell → HEADER ≢ cell → (part : Part) → IsPart (values_worked pass work values HEADER) part → IsPart (values HEADER) part
     header cell e ne part is = subst (λ v. IsPart v part)
-        (header_read pass.pages work.job work.ending pass.control (with_value values work.cell (called work.job work.ending (values work.cell))) ∙ at cell e HEADER ∙ word_else values cell (called work.job work.ending (values cell)) HEADER ne) is
+        (header_read pass.units work.job work.ending pass.control (with_value values work.cell (called work.job work.ending (values work.cell))) ∙ at cell e HEADER ∙ word_else values cell (called work.job work.ending (values cell)) HEADER ne) is
 
     entry_else : (cell : Word) → work.cell ≡ cell → (slot : ℕ) → ENTRY slot ≢ cell → (part : Part) → IsPart (values_worked pass work values (ENTRY slot)) part → HasLines (values (ENTRY slot)) part
     entry_else cell e slot ne part is = (part, subst (λ v. IsPart v part) (part_worked pass work values slot ∙ at cell e (ENTRY slot) ∙ word_else values cell (called work.job work.ending (values cell)) (ENTRY slot) ne) is, refl)

@@ -8,7 +8,7 @@ use Rattle.nv_core.specs.state.Words.{Sizes, Word, STOP, ORDER, HEAD, TAIL, LENG
 use Rattle.nv_core.specs.state.Values.{CallEnding, Made, Failed, Refused}
 use Rattle.nv_core.specs.state.Cleaner.{CleanerOp, MoveTail}
 use Rattle.nv_core.specs.invariant.CleanerNumbers.{IsFreed}
-use Rattle.nv_core.specs.state.Passes.{Control, Cleaning, Idle, TakePage, LoadLength, TakeSize, LoadStop, LoadOrder, VisitPage, WriteLoadHead, WriteLoadTail, DrawNumbers, TakeStore, TakeCleanup, ReadStore, SeizeEntry, CommitGroup, PledgePage, ReadyEntry, TakePlace, GrowLength, GiveSize, GivePage, GiveBack, GiveStore, SetStopAfterRead, SetStopAfterCommit, BreakEntry, Pass, IsFilling, IsAmong, is_write, is_read, page_count, first_page, end_page, without, times, Searching, ReadLoadHead, LoadEntry, HoldEntry, ReadPiece, ReturnEntry, GiveCleanup, SetStopAfterPiece, plain_call}
+use Rattle.nv_core.specs.state.Passes.{Control, Cleaning, Idle, TakePage, LoadLength, TakeSize, LoadStop, LoadOrder, VisitPage, WriteLoadHead, WriteLoadTail, DrawNumbers, TakeStore, TakeCleanup, ReadStore, SeizeEntry, CommitGroup, PledgePage, ReadyEntry, TakePlace, GrowLength, GiveSize, GivePage, GiveBack, GiveStore, SetStopAfterRead, SetStopAfterCommit, BreakEntry, Pass, IsFilling, IsAmong, is_write, is_read, page_count, first_page, end_page, without, times, Searching, ReadLoadHead, LoadEntry, HoldEntry, ReadPiece, ReturnEntry, GiveCleanup, SetStopAfterPiece, plain_call, page_of_unit}
 use Rattle.nv_core.specs.steps.Ops.{Op, page_at, ready_word, Load, Take, Give, Place, Stop, Draw, Seize, Pledge, Ready, Grow, Break, Split, PutBack, Join, Turn, Hint, Hold, Return, ByCleaner, moved, cleaner_move}
 use Rattle.nv_core.specs.steps.ControlSteps.{control_after, after_load, after_give, after_stop, leaving, giving, ending, ordered, copying, exceeds, scanning, after_head, after_tail, after_look, after_hold, after_return}
 use Rattle.nv_core.specs.steps.PassSteps.{begun}
@@ -34,8 +34,10 @@ use Rattle.nv_core.proofs.log.KeepsGroups.{is_draw, log_group}
 use Rattle.nv_core.proofs.log.ReadiedLaws.{readied_before, readied_still, begun_before, begun_still, worked_before, worked_still}
 use Rattle.nv_core.proofs.steps.CleanerControls.{tended, tended_to, of_cleaner_worked}
 use Rattle.nv_core.proofs.steps.CleanerOps.{retires_hand}
-use Rattle.nv_core.proofs.steps.SearchLaws.{turned_at, looked_at, hinting_next, tried_at}
+use Rattle.nv_core.proofs.steps.SearchLaws.{turned_at, looked_at, hinting_next, tried_at, clearing_next, pledged_next, hinted_next}
 use Rattle.nv_core.proofs.invariant.PageLists.{pages_once}
+use Rattle.nv_core.proofs.steps.SearchLaws.{hinted_next}
+use Rattle.nv_core.proofs.invariant.IndexLaws.{same_unit}
 
 -- ---- where a flight begins and ends
 
@@ -73,17 +75,17 @@ not_loaded sizes values pass TAIL found may = elim may [
   | inr here ↦ subst (λ s. IsFlying pass (after_tail sizes pass found s) → ⊥) (sym here.1) (not_scanning pass pass here.0 found)
 ]
 not_loaded sizes values pass (ENTRY slot) found may = subst (λ s. IsFlying pass (after_look pass found s) → ⊥) (sym may.2)
-    (if_both (λ s. IsFlying pass s → ⊥) (is_entry_of ready may.0 found) (HoldEntry may.0 may.1) (scanning pass may.0 (may.1 + 1)) (λ _ z. z) (λ _. not_scanning pass pass may.0 (may.1 + 1)))
-not_loaded sizes values pass (DIRTY page) found may = if_both (λ s. IsFlying pass s → ⊥) (found == 0) (TakeStore page false) (TakeCleanup page) (λ _ z. z) (λ _ z. z)
+    (if_both (λ s. IsFlying pass s → ⊥) (is_entry_of ready (pass.units may.0) found) (HoldEntry may.0 may.1) (scanning pass may.0 (may.1 + 1)) (λ _ z. z) (λ _. not_scanning pass pass may.0 (may.1 + 1)))
+not_loaded sizes values pass (DIRTY unit) found may = if_both (λ s. IsFlying pass s → ⊥) (found == 0) (TakeStore (page_of_unit sizes pass unit) false) (TakeCleanup (page_of_unit sizes pass unit)) (λ _ z. z) (λ _ z. z)
 not_loaded sizes values pass (HINT buffer) found may = hinting_next (λ s. IsFlying pass s → ⊥) sizes pass buffer found may (λ z. z)
 not_loaded sizes values pass word found may = absurd may
 
 pub not_taken : (sizes : Sizes) (pass : Pass) (cell : Word) (found : ℕ) → MayTake pass cell → IsFlying pass (control_after sizes pass (Take cell) found) → ⊥
-not_taken sizes pass (PAGE page) found may = page_tried (λ s. IsFlying pass s → ⊥) sizes pass page found (λ z. z) (λ z. z) (not_leaving pass pass.owned) (λ _ _ _ z. z) may
+not_taken sizes pass (PAGE page) found may = page_tried (λ s. IsFlying pass s → ⊥) sizes pass page found (λ z. z) (λ _ z. z) (not_leaving pass pass.owned) (λ _ _ _ z. z) may
 not_taken sizes pass (SIZE file) found may = if_both (λ s. IsFlying pass s → ⊥) (found == 0) LoadLength (leaving pass.owned) (λ _ z. z) (λ _. not_leaving pass pass.owned)
 not_taken sizes pass (STORE file) found may = if_both (λ s. IsFlying pass s → ⊥) (found == 0) (copying pass.control) (leaving pass.owned)
     (λ _. subst (λ s. IsFlying pass (copying s) → ⊥) (sym may.2) (λ z. z)) (λ _. not_leaving pass pass.owned)
-not_taken sizes pass (CLEANUP page) found may = if_both (λ s. IsFlying pass s → ⊥) (found == 0) (TakeStore page true) (leaving pass.owned) (λ _ z. z) (λ _. not_leaving pass pass.owned)
+not_taken sizes pass (CLEANUP unit) found may = clearing_next (λ s. IsFlying pass s → ⊥) sizes pass unit found may (if_both (λ s. IsFlying pass s → ⊥) (found == 0) (TakeStore may.0 true) (leaving pass.owned) (λ _ z. z) (λ _. not_leaving pass pass.owned))
 not_taken sizes pass cell found may = absurd may
 
 pub not_given : (sizes : Sizes) (pass : Pass) (cell : Word) (control : Control) → IsGivingBack control → IsFlying pass (after_give sizes pass cell control) → ⊥
@@ -119,14 +121,14 @@ flew sizes values pass found Stop ne may is = absurd (stops pass.control may is)
     stops control may = absurd may
 flew sizes values pass found Draw ne may is = absurd (not_both refl ne)
 flew sizes values pass found (Seize next) ne may is = subst (IsFlying pass) (sym may) tt
-flew sizes values pass found (Pledge page) ne may is = subst (IsFlying pass) (sym may) tt
+flew sizes values pass found (Pledge page) ne may is = subst (IsFlying pass) (sym may.1) tt
 flew sizes values pass found (Ready next) ne may is = subst (IsFlying pass) (sym may) tt
 flew sizes values pass found (Break next) ne may is = absurd (if_both (λ s. IsFlying pass s → ⊥) (next + 1 == pass.first + pass.entries) (leaving (without (ENTRY (slot_of_entry sizes next)) pass.owned)) (BreakEntry (next + 1))
     (λ _. not_leaving pass (without (ENTRY (slot_of_entry sizes next)) pass.owned)) (λ _ z. z) is)
 flew sizes values pass found (Hold next) ne may is = absurd (subst (λ s. IsFlying pass (after_hold s)) may.1 is)
 flew sizes values pass found (Return next) ne may is = absurd (not_returned sizes pass pass may.0 next may.1 (subst (λ s. IsFlying pass (after_return sizes pass s)) may.2 is))
 flew sizes values pass found (Turn page) ne may is = absurd is
-flew sizes values pass found (Hint buffer page) ne may is = absurd is
+flew sizes values pass found (Hint buffer unit) ne may is = absurd (hinted_next (λ s. IsFlying pass s → ⊥) values pass buffer unit may (λ z. z) is)
 flew sizes values pass found (ByCleaner cleaner_op) ne may is = absurd (tended_to (λ s. IsFlying pass s → ⊥) (λ z. z) (λ _ _ z. z) sizes pass (moved (cleaner_move sizes cleaner_op found) pass.owned) cleaner_op found pass.control may is)
 flew sizes values pass found op ne may is = absurd may
 
@@ -150,20 +152,20 @@ not_placing sizes values pass (Load ORDER) ne may = elsewhere _ _ may refl
 not_placing sizes values pass (Load HEAD) ne may = elim may [ inl here ↦ elsewhere _ _ here refl | inr here ↦ elsewhere _ _ here.1 refl ]
 not_placing sizes values pass (Load TAIL) ne may = elim may [ inl here ↦ elsewhere _ _ here refl | inr here ↦ elsewhere _ _ here.1 refl ]
 not_placing sizes values pass (Load (ENTRY slot)) ne may = elsewhere _ _ may.2 refl
-not_placing sizes values pass (Load (DIRTY page)) ne may = looked_at (λ s. s ≡ TakePlace → ⊥) sizes values pass page (λ _. elsewhere _ _ refl refl) (λ _ _. elsewhere _ _ refl refl) may
+not_placing sizes values pass (Load (DIRTY unit)) ne may = looked_at (λ s. s ≡ TakePlace → ⊥) sizes values pass may.0 (λ _. elsewhere _ _ refl refl) (λ _ _. elsewhere _ _ refl refl) may.1
 not_placing sizes values pass (Load (HINT buffer)) ne may = elsewhere _ _ may.is refl
 not_placing sizes values pass (Load word) ne may = absurd may
-not_placing sizes values pass (Take (PAGE page)) ne may = tried_at (λ s. s ≡ TakePlace → ⊥) pass page (elsewhere _ _ refl refl) (λ _ _ _. elsewhere _ _ refl refl) may
+not_placing sizes values pass (Take (PAGE page)) ne may = tried_at (λ s. s ≡ TakePlace → ⊥) pass page (λ _. elsewhere _ _ refl refl) (λ _ _ _. elsewhere _ _ refl refl) may
 not_placing sizes values pass (Take (SIZE file)) ne may = elsewhere _ _ may.0 refl
 not_placing sizes values pass (Take (STORE file)) ne may = elsewhere _ _ may.2 refl
-not_placing sizes values pass (Take (CLEANUP page)) ne may = elsewhere _ _ may refl
+not_placing sizes values pass (Take (CLEANUP page)) ne may = elsewhere _ _ may.1 refl
 not_placing sizes values pass (Take cell) ne may = absurd may
 not_placing sizes values pass (Give cell) ne may = λ e. subst IsGivingBack e (gives_back pass cell pass.control may)
 not_placing sizes values pass (Place reply) ne may = absurd (not_both refl ne)
 not_placing sizes values pass Stop ne may = λ e. subst IsFailing e may
 not_placing sizes values pass Draw ne may = elsewhere _ _ may refl
 not_placing sizes values pass (Seize next) ne may = elsewhere _ _ may refl
-not_placing sizes values pass (Pledge page) ne may = elsewhere _ _ may refl
+not_placing sizes values pass (Pledge page) ne may = elsewhere _ _ may.1 refl
 not_placing sizes values pass (Ready next) ne may = elsewhere _ _ may refl
 not_placing sizes values pass Grow ne may = elsewhere _ _ may refl
 not_placing sizes values pass (Break next) ne may = elsewhere _ _ may refl
@@ -185,13 +187,13 @@ pub flying_pages : (pass : Pass) (control : Control) → IsFlying pass control �
 flying_pages pass DrawNumbers is = tt
 flying_pages pass control is = is
 
-holds_page : (sizes : Sizes) (pass : Pass) (control : Control) → HasPages pass control → PagesAt sizes pass control → HoldsLocks sizes pass control → (page : ℕ) → IsPage sizes pass.call page → times (PAGE page) pass.owned ≡ 1
-holds_page sizes pass DrawNumbers is pages holds page on = holds (PAGE page) (λ slot. differ (PAGE page) (ENTRY slot) refl) ∙ pages_once sizes pass.call pass.pages pages page on
-holds_page sizes pass (SeizeEntry number) is pages holds page on = holds (PAGE page) (λ slot. differ (PAGE page) (ENTRY slot) refl) ∙ pages_once sizes pass.call pass.pages pages page on
-holds_page sizes pass (CommitGroup calls) is pages holds page on = holds (PAGE page) (λ slot. differ (PAGE page) (ENTRY slot) refl) ∙ pages_once sizes pass.call pass.pages pages page on
-holds_page sizes pass (PledgePage next) is pages holds page on = holds (PAGE page) (λ slot. differ (PAGE page) (ENTRY slot) refl) ∙ pages_once sizes pass.call pass.pages pages page on
-holds_page sizes pass (ReadyEntry number) is pages holds page on = holds (PAGE page) (λ slot. differ (PAGE page) (ENTRY slot) refl) ∙ pages_once sizes pass.call pass.pages pages page on
-holds_page sizes pass TakePlace is pages holds page on = holds (PAGE page) (λ slot. differ (PAGE page) (ENTRY slot) refl) ∙ pages_once sizes pass.call pass.pages pages page on
+holds_page : (sizes : Sizes) (pass : Pass) (control : Control) → HasPages pass control → PagesAt sizes pass control → HoldsLocks sizes pass control → (page : ℕ) → IsPage sizes pass.call page → times (PAGE (pass.units page)) pass.owned ≡ 1
+holds_page sizes pass DrawNumbers is pages holds page on = holds (PAGE (pass.units page)) (λ slot. differ (PAGE (pass.units page)) (ENTRY slot) refl) ∙ pages_once sizes pass.call pass.pages pages page on
+holds_page sizes pass (SeizeEntry number) is pages holds page on = holds (PAGE (pass.units page)) (λ slot. differ (PAGE (pass.units page)) (ENTRY slot) refl) ∙ pages_once sizes pass.call pass.pages pages page on
+holds_page sizes pass (CommitGroup calls) is pages holds page on = holds (PAGE (pass.units page)) (λ slot. differ (PAGE (pass.units page)) (ENTRY slot) refl) ∙ pages_once sizes pass.call pass.pages pages page on
+holds_page sizes pass (PledgePage next) is pages holds page on = holds (PAGE (pass.units page)) (λ slot. differ (PAGE (pass.units page)) (ENTRY slot) refl) ∙ pages_once sizes pass.call pass.pages pages page on
+holds_page sizes pass (ReadyEntry number) is pages holds page on = holds (PAGE (pass.units page)) (λ slot. differ (PAGE (pass.units page)) (ENTRY slot) refl) ∙ pages_once sizes pass.call pass.pages pages page on
+holds_page sizes pass TakePlace is pages holds page on = holds (PAGE (pass.units page)) (λ slot. differ (PAGE (pass.units page)) (ENTRY slot) refl) ∙ pages_once sizes pass.call pass.pages pages page on
 holds_page sizes pass control is pages holds page on = absurd is
 
 pub one_pass : (sizes : Sizes) (first : Values) (core : Core) → Sound sizes first core → (one other : ℕ) → HasPages (core.passes one) (core.passes one).control → HasPages (core.passes other) (core.passes other).control
@@ -201,7 +203,8 @@ one_pass sizes first core sound one other a b page x y = elim (cases_eq other on
   | inr ne ↦ absurd (
       let here = holds_page sizes (core.passes one) (core.passes one).control a (sound.control_facts one).pages (sound.ownership one).locks page x in
       let there = holds_page sizes (core.passes other) (core.passes other).control b (sound.control_facts other).pages (sound.ownership other).locks page y in
-      let none = (only_holder (sound.locks.keyed (PAGE page)) one (omega (arith, here))).2 other ne in omega (arith, there, none))
+      let none = (only_holder (sound.locks.keyed (PAGE ((core.passes one).units page))) one (omega (arith, here))).2 other ne in
+      let same = ap (λ unit. times (PAGE unit) (core.passes other).owned) (same_unit core sound.index one other page) in omega (arith, there, none, same))
 ]
 
 -- ---- what keeps the writes in flight
@@ -298,7 +301,7 @@ module _ (sizes : Sizes) (first : Values) (log : Log) (placed : ℕ → Bool) (b
       let l = is.0 in (omega (arith, f, l), (flight.own by flying_now n is).below)
 
   value_ready : was_readied (ready_word sizes (core.passes by) next) ≡ true
-  value_ready = ready_is (if next == (core.passes by).first then (core.passes by).entries else 0) (page_at sizes (core.passes by) next)
+  value_ready = ready_is (if next == (core.passes by).first then (core.passes by).entries else 0) ((core.passes by).units (page_at sizes (core.passes by) next))
 
   now_ready : was_readied (entry_word_at sizes ready_core next) ≡ true
   now_ready = ap was_readied (word_here core.words (ENTRY (slot_of_entry sizes next)) (ready_word sizes (core.passes by) next)) ∙ value_ready
@@ -556,11 +559,14 @@ flight_step sizes first log placed by core (Seize next) found sound groups fligh
     (λ is. (subst (IsFlying (core.passes by)) (sym may.may) tt, refl))
     (λ _. if_both (λ s. s ≡ TakePlace → ⊥) (next + 1 == (core.passes by).first + (core.passes by).entries) (CommitGroup 0) (SeizeEntry (next + 1)) (λ _. elsewhere _ _ refl refl) (λ _. elsewhere _ _ refl refl))
 flight_step sizes first log placed by core (Pledge page) found sound groups flight may = plain_flight sizes first log placed by core (Pledge page) found sound flight may (not_made (Pledge page) refl) refl refl refl refl may.may
-    (λ is. (subst (IsFlying (core.passes by)) (sym may.may) tt, refl))
-    (λ _. if_both (λ s. s ≡ TakePlace → ⊥) (page + 1 == end_page sizes (core.passes by).call) (ReadyEntry (if (core.passes by).entries == 1 then (core.passes by).first else (core.passes by).first + 1)) (PledgePage (page + 1)) (λ _. elsewhere _ _ refl refl) (λ _. elsewhere _ _ refl refl))
+    (λ is. (subst (IsFlying (core.passes by)) (sym may.may.1) tt, refl))
+    (λ _. let next = may.may.0 in pledged_next (λ s. s ≡ TakePlace → ⊥) sizes (core.passes by) next may.may.1
+    (if_both (λ s. s ≡ TakePlace → ⊥) (next + 1 == end_page sizes (core.passes by).call) (ReadyEntry (if (core.passes by).entries == 1 then (core.passes by).first else (core.passes by).first + 1)) (PledgePage (next + 1)) (λ _. elsewhere _ _ refl refl) (λ _. elsewhere _ _ refl refl)))
 flight_step sizes first log placed by core (Ready next) found sound groups flight may = ready_flight sizes first log placed by core found next sound groups flight may
 flight_step sizes first log placed by core (Turn page) found sound groups flight may = plain_flight sizes first log placed by core (Turn page) found sound flight may (not_made (Turn page) refl) refl refl refl refl may.may (λ is. absurd is) (λ is _. is)
-flight_step sizes first log placed by core (Hint buffer page) found sound groups flight may = plain_flight sizes first log placed by core (Hint buffer page) found sound flight may (not_made (Hint buffer page) refl) refl refl refl refl may.may (λ is. absurd is) (λ is _. is)
+flight_step sizes first log placed by core (Hint buffer page) found sound groups flight may = plain_flight sizes first log placed by core (Hint buffer page) found sound flight may (not_made (Hint buffer page) refl) refl refl refl refl may.may
+    (λ is. absurd (hinted_next (λ s. IsFlying (changed_pass sizes by core (Hint buffer page) found) s → ⊥) core.values (core.passes by) buffer page may.may (λ z. z) is))
+    (λ is _. hinted_next (λ s. IsFlying (changed_pass sizes by core (Hint buffer page) found) s → ⊥) core.values (core.passes by) buffer page may.may (λ z. z) is)
 flight_step sizes first log placed by core Grow found sound groups flight may = plain_flight sizes first log placed by core Grow found sound flight may (not_made Grow refl) refl refl refl refl may.may
     (λ is. absurd (not_ending sizes (changed_pass sizes by core Grow found) (core.passes by) is)) (λ is _. not_ending sizes (changed_pass sizes by core Grow found) (core.passes by) is)
 flight_step sizes first log placed by core (Break next) found sound groups flight may =

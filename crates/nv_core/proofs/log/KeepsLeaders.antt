@@ -151,7 +151,7 @@ module _ (sizes : Sizes) (first : Values) (log : Log) (by : ℕ) (core : Core) (
       readied sizes log core (after_step sizes by (Ready next) found core)
       (set_head sizes first log by core sound groups leaders next value mine.within) (set_tail sizes first log by core sound groups leaders next value mine.within) groups leaders next
       (ap was_readied (set_here sizes first log by core sound groups leaders next value mine.within)
-      ∙ ready_is (if next == (core.passes by).first then (core.passes by).entries else 0) (page_at sizes (core.passes by) next))
+      ∙ ready_is (if next == (core.passes by).first then (core.passes by).entries else 0) ((core.passes by).units (page_at sizes (core.passes by) next)))
       (λ ne. sound.window.filling_is by (log.group next).first (subst (λ s. IsFilling s (core.passes by).first (core.passes by).entries (log.group next).first) (sym may.may) (inl (ap (λ one. one.first) mine.group))))
       mine.within (set_else sizes first log by core sound groups leaders next value mine.within)
 
@@ -244,12 +244,12 @@ leaders_step sizes first log by core (Ready next) found sound groups progress le
 leaders_step sizes first log by core (Break next) found sound groups progress leaders may = break_leaders sizes first log by core found sound groups leaders next may
 leaders_step sizes first log by core (Hold next) found sound groups progress leaders may =
     let re = holds_rekind sizes first by core found next sound may in
-    let looks : LooksSound sizes core (core.passes by).pages (HoldEntry may.may.0 next) = subst (LooksSound sizes core (core.passes by).pages) may.may.1 (sound.loaded.looks by) in
-    touch_leaders sizes log core (after_step sizes by (Hold next) found core) (slot_of_entry sizes next) (found + 1) refl re.now re.was (ap (λ k. k == cleaned) (entry_is ready may.may.0 (entry_word_at sizes core next) looks.1).0) leaders
+    let looks : LooksSound sizes core (core.passes by).units (HoldEntry may.may.0 next) = subst (LooksSound sizes core (core.passes by).units) may.may.1 (sound.loaded.looks by) in
+    touch_leaders sizes log core (after_step sizes by (Hold next) found core) (slot_of_entry sizes next) (found + 1) refl re.now re.was (ap (λ k. k == cleaned) (entry_is ready ((core.passes by).units may.may.0) (entry_word_at sizes core next) looks.1).0) leaders
 leaders_step sizes first log by core (Return next) found sound groups progress leaders may =
     let re = returns_rekind sizes first by core found next sound may in
-    let looks : LooksSound sizes core (core.passes by).pages (ReturnEntry may.may.0 next may.may.1) = subst (LooksSound sizes core (core.passes by).pages) may.may.2 (sound.loaded.looks by) in
-    touch_leaders sizes log core (after_step sizes by (Return next) found core) (slot_of_entry sizes next) (found - 1) refl re.now re.was (ap (λ k. k == cleaned) (entry_is held may.may.0 (entry_word_at sizes core next) looks.1).0) leaders
+    let looks : LooksSound sizes core (core.passes by).units (ReturnEntry may.may.0 next may.may.1) = subst (LooksSound sizes core (core.passes by).units) may.may.2 (sound.loaded.looks by) in
+    touch_leaders sizes log core (after_step sizes by (Return next) found core) (slot_of_entry sizes next) (found - 1) refl re.now re.was (ap (λ k. k == cleaned) (entry_is held ((core.passes by).units may.may.0) (entry_word_at sizes core next) looks.1).0) leaders
 leaders_step sizes first log by core (ByCleaner (cleaner.Hold next)) found sound groups progress leaders may =
     let re = cleaner_hold_rekind sizes first by core found next sound may in
     touch_leaders sizes log core (after_step sizes by (ByCleaner (cleaner.Hold next)) found core) (slot_of_entry sizes next) (found + 1) refl re.now re.was (ap (λ k. k == cleaned) (cleaner_hold_hand sizes first core sound by found next may).kind_is) leaders

@@ -49,6 +49,7 @@ use Rattle.nv_core.proofs.log.KeepsStores.{step_store, work_store, keeps_stores,
 use Rattle.nv_core.proofs.crash.CommutingLaws.{IsApartFrom, comes_first, after_both}
 use Rattle.nv_core.proofs.log.LiveLaws.{rising_same, rising_none, rising_split, rising_apart, all_apart, come_last, AllApart, pieces_after, pieces_apart, writes_apart}
 use Rattle.nv_core.proofs.log.Rekinded.{holds_kinds, returns_kinds}
+use Rattle.nv_core.proofs.steps.SearchLaws.{pledged_next, hinted_next}
 
 -- ---- the stores
 
@@ -115,7 +116,7 @@ unplaced_after sizes values pass found (Place reply) other may write e = not_pla
 unplaced_after sizes values pass found Stop other may write e = failing_flies pass pass.control may (flew sizes values pass found Stop refl may (subst (IsFlying pass) (sym e) write))
 unplaced_after sizes values pass found Draw other may write e = if_both (λ s. s ≡ TakePlace → ⊥) (found == pass.head) (SeizeEntry found) (leaving pass.owned) (λ _. elsewhere _ _ refl refl) (λ _ e. not_leaving pass pass.owned (subst (IsFlying pass) (sym e) write)) e
 unplaced_after sizes values pass found (Seize next) other may write e = if_both (λ s. s ≡ TakePlace → ⊥) (next + 1 == pass.first + pass.entries) (CommitGroup 0) (SeizeEntry (next + 1)) (λ _. elsewhere _ _ refl refl) (λ _. elsewhere _ _ refl refl) e
-unplaced_after sizes values pass found (Pledge page) other may write e = if_both (λ s. s ≡ TakePlace → ⊥) (page + 1 == end_page sizes pass.call) (ReadyEntry (if pass.entries == 1 then pass.first else pass.first + 1)) (PledgePage (page + 1)) (λ _. elsewhere _ _ refl refl) (λ _. elsewhere _ _ refl refl) e
+unplaced_after sizes values pass found (Pledge unit) other may write e = pledged_next (λ s. s ≡ TakePlace → ⊥) sizes pass may.0 may.1 (if_both (λ s. s ≡ TakePlace → ⊥) (may.0 + 1 == end_page sizes pass.call) (ReadyEntry (if pass.entries == 1 then pass.first else pass.first + 1)) (PledgePage (may.0 + 1)) (λ _. elsewhere _ _ refl refl) (λ _. elsewhere _ _ refl refl)) e
 unplaced_after sizes values pass found (Ready next) other may write e = if_both (λ s. s ≡ TakePlace → ⊥) (next == pass.first) TakePlace (ReadyEntry (if next + 1 == pass.first + pass.entries then pass.first else next + 1))
     (λ leads _. other next refl (eqb-true next pass.first leads)) (λ _. elsewhere _ _ refl refl) e
 unplaced_after sizes values pass found Grow other may write e = not_ending sizes pass pass (subst (IsFlying pass) (sym e) write)
@@ -123,7 +124,7 @@ unplaced_after sizes values pass found (Break next) other may write e = subst (I
 unplaced_after sizes values pass found (Hold next) other may write e = subst (λ s. IsFlying pass (after_hold s)) may.1 (subst (IsFlying pass) (sym e) write)
 unplaced_after sizes values pass found (Return next) other may write e = not_returned sizes pass pass may.0 next may.1 (subst (λ s. IsFlying pass (after_return sizes pass s)) may.2 (subst (IsFlying pass) (sym e) write))
 unplaced_after sizes values pass found (Turn page) other may write e = subst (IsFlying pass) (sym e) write
-unplaced_after sizes values pass found (Hint buffer page) other may write e = subst (IsFlying pass) (sym e) write
+unplaced_after sizes values pass found (Hint buffer unit) other may write e = hinted_next (λ s. s ≡ TakePlace → ⊥) values pass buffer unit may (elsewhere _ _ refl refl) e
 unplaced_after sizes values pass found (ByCleaner cleaner_op) other may write e = tended_to (λ s. s ≡ TakePlace → ⊥) (elsewhere _ _ refl refl) (λ _ _. elsewhere _ _ refl refl) sizes pass (moved (cleaner_move sizes cleaner_op found) pass.owned) cleaner_op found pass.control may e
 unplaced_after sizes values pass found op other may write e = absurd may
 
@@ -216,7 +217,7 @@ module _ (sizes : Sizes) (first : Values) (by : ℕ) (core : Core) (found : ℕ)
   clean_step (Seize next) not_so may n = entry_clean (slot_of_entry sizes next) filling (sym (not_cleaned (entry_word_at sizes core next) (λ e. not_both (ap was_readied (sym (seized sizes first by core found sound next may)) ∙ e) refl))) (ENTRY (slot_of_entry sizes n))
   clean_step (Break next) not_so may n = entry_clean (slot_of_entry sizes next) broken (sym (not_cleaned (entry_word_at sizes core next) (λ e. not_both (ap was_readied (sym (broke sizes first by core found sound next may)) ∙ e) refl))) (ENTRY (slot_of_entry sizes n))
   clean_step (Ready next) not_so may n = entry_clean (slot_of_entry sizes next) (ready_word sizes (core.passes by) next)
-      (ap (λ k. k == cleaned) (kind_is ready (if next == (core.passes by).first then (core.passes by).entries else 0) (page_at sizes (core.passes by) next) (omega arith))
+      (ap (λ k. k == cleaned) (kind_is ready (if next == (core.passes by).first then (core.passes by).entries else 0) ((core.passes by).units (page_at sizes (core.passes by) next)) (omega arith))
       ∙ sym (not_cleaned (entry_word_at sizes core next) (λ e. not_both (ap was_readied (sym (filled_was next may)) ∙ e) refl))) (ENTRY (slot_of_entry sizes n))
     where
       filled_was : (next : ℕ) → FoundEnabledByKind sizes by core (Ready next) found → entry_word_at sizes core next ≡ filling
@@ -361,7 +362,7 @@ module _ (plain : PlainLaws) (sizes : Sizes) (first : Values) (log : Log) (keep 
 
   test_next : is_ready sizes now next ≡ true
   test_next = ap was_readied (word_here core.words (ENTRY (slot_of_entry sizes next)) (ready_word sizes (core.passes by) next))
-      ∙ ready_is (if next == (core.passes by).first then (core.passes by).entries else 0) (page_at sizes (core.passes by) next)
+      ∙ ready_is (if next == (core.passes by).first then (core.passes by).entries else 0) ((core.passes by).units (page_at sizes (core.passes by) next))
 
   clean_same : (n : ℕ) → InWindow core n → is_cleaned sizes now n ≡ is_cleaned sizes core n
   clean_same n is = clean_step sizes first by core found sound (Ready next) refl may n

@@ -38,6 +38,7 @@ use Rattle.nv_core.proofs.steps.CleanerOps.{IsAtFree, IsTending, tending, cleane
 use Rattle.nv_core.proofs.log.CleanerReadied.{cleaner_hold_rekind, cleaner_return_rekind, cleans_rekind}
 use Rattle.nv_core.proofs.log.ReadiedLaws.{readied_still, begun_still, worked_still}
 use Rattle.nv_core.proofs.log.Rekinded.{IsRekinded, holds_rekind, returns_rekind, rekind_still, rekind_before}
+use Rattle.nv_core.proofs.steps.SearchLaws.{pledged_next}
 
 clear_readied : (control : Control) (first entries n : ℕ) → IsClear control → IsReadied control first entries n → ⊥
 clear_readied (ReadyEntry next) first entries n clear is = clear
@@ -184,7 +185,7 @@ module _ (sizes : Sizes) (first : Values) (log : Log) (by : ℕ) (core : Core) (
   word_now = word_here core.words (ENTRY (slot_of_entry sizes next)) (ready_word sizes pass next)
 
   kind_now : was_readied (entry_word_at sizes now next) ≡ true
-  kind_now = ap was_readied word_now ∙ ready_is (if next == pass.first then pass.entries else 0) (page_at sizes pass next)
+  kind_now = ap was_readied word_now ∙ ready_is (if next == pass.first then pass.entries else 0) (pass.units (page_at sizes pass next))
 
   word_apart : (n : ℕ) → InWindow core n → n ≢ next → entry_word_at sizes now n ≡ entry_word_at sizes core n
   word_apart n is ne = word_else core.words (ENTRY (slot_of_entry sizes next)) (ready_word sizes pass next) (ENTRY (slot_of_entry sizes n))
@@ -222,9 +223,9 @@ module _ (sizes : Sizes) (first : Values) (log : Log) (by : ℕ) (core : Core) (
     says = λ n is kind. elim (cases_eq n next) [
       | inl same ↦ subst (λ m. IsWordOf sizes core.names (log.group m) m (entry_word_at sizes now m)) (sym same)
           (subst (λ g. IsWordOf sizes core.names g next (entry_word_at sizes now next)) (sym (own next at_next.1).group) (same_says sizes core.names (group_of pass) next word_now record {
-            unit = page_at sizes pass next;
-            is = ap (λ kind. entry_word kind (if next == pass.first then pass.entries else 0) (page_at sizes pass next)) (sym (kind_is 2 (if next == pass.first then pass.entries else 0) (page_at sizes pass next) (omega arith)));
-            page = sound.index.direct (page_at sizes pass next);
+            unit = pass.units (page_at sizes pass next);
+            is = ap (λ kind. entry_word kind (if next == pass.first then pass.entries else 0) (pass.units (page_at sizes pass next))) (sym (kind_is 2 (if next == pass.first then pass.entries else 0) (pass.units (page_at sizes pass next)) (omega arith)));
+            page = sound.index.known by (page_at sizes pass next);
           }))
       | inr ne ↦ let e = word_apart n (window_was n is) ne in same_says sizes core.names (log.group n) n e (pieces.says n (window_was n is) (ap was_readied (sym e) ∙ kind))
     ];
@@ -395,8 +396,9 @@ said_step sizes first log by core (Seize next) found sound groups pieces may =
     entry_step sizes log by core (Seize next) found (slot_of_entry sizes next) filling pieces refl (λ e. not_both e refl) (λ e. not_both (ap was_readied (sym old) ∙ e) refl)
     (λ n. if_both (λ s. IsReadied s (core.passes by).first (core.passes by).entries n → was_readied (entry_word_at sizes core n) ≡ true) (next + 1 == (core.passes by).first + (core.passes by).entries) (CommitGroup 0) (SeizeEntry (next + 1)) (λ _ z. absurd z) (λ _ z. absurd z))
 said_step sizes first log by core (Pledge page) found sound groups pieces may = plain_step sizes log by core (Pledge page) found pieces may refl refl (λ slot. refl)
-    (λ n. if_both (λ s. IsReadied s (core.passes by).first (core.passes by).entries n → was_readied (entry_word_at sizes core n) ≡ true) (page + 1 == end_page sizes (core.passes by).call) (ReadyEntry (if (core.passes by).entries == 1 then (core.passes by).first else (core.passes by).first + 1)) (PledgePage (page + 1))
-    (λ _ z. absurd (pledged_none (core.passes by).first (core.passes by).entries n z)) (λ _ z. absurd z))
+    (λ n. let next = may.may.0 in pledged_next (λ s. IsReadied s (core.passes by).first (core.passes by).entries n → was_readied (entry_word_at sizes core n) ≡ true) sizes (core.passes by) next may.may.1
+    (if_both (λ s. IsReadied s (core.passes by).first (core.passes by).entries n → was_readied (entry_word_at sizes core n) ≡ true) (next + 1 == end_page sizes (core.passes by).call) (ReadyEntry (if (core.passes by).entries == 1 then (core.passes by).first else (core.passes by).first + 1)) (PledgePage (next + 1))
+    (λ _ z. absurd (pledged_none (core.passes by).first (core.passes by).entries n z)) (λ _ z. absurd z)))
 said_step sizes first log by core (Ready next) found sound groups pieces may = ready_step sizes first log by core found next sound groups pieces may
 said_step sizes first log by core (Break next) found sound groups pieces may =
     let at : HasDrawn sizes (core.passes by).call (core.passes by).entries × IsAmong (core.passes by).first (core.passes by).entries next = subst (FactsAt sizes (core.passes by)) may.may (sound.control_facts by).at in
@@ -437,14 +439,14 @@ cleaned_before sizes first by core op found n sound may within = go op may
 
     go : (op : Op) → FoundEnabledByKind sizes by core op found → kind_of (entry_word_at sizes (after_step sizes by op found core) n) ≡ cleaned → (kind_of (entry_word_at sizes core n) ≡ cleaned) ⊎ (op ≡ ByCleaner (Clean n))
     go (Seize next) may kind = inl (set next filling (λ e. omega (arith, e)) kind)
-    go (Ready next) may kind = inl (set next (ready_word sizes (core.passes by) next) (λ e. let k = kind_is 2 (if next == (core.passes by).first then (core.passes by).entries else 0) (page_at sizes (core.passes by) next) (omega arith) in omega (arith, e, k)) kind)
+    go (Ready next) may kind = inl (set next (ready_word sizes (core.passes by) next) (λ e. let k = kind_is 2 (if next == (core.passes by).first then (core.passes by).entries else 0) ((core.passes by).units (page_at sizes (core.passes by) next)) (omega arith) in omega (arith, e, k)) kind)
     go (Break next) may kind = inl (set next broken (λ e. omega (arith, e)) kind)
     go (Hold next) may kind =
-        let looks : InWindow core next × (is_entry_of ready may.may.0 (entry_word_at sizes core next) ≡ true) = subst (LooksSound sizes core (core.passes by).pages) may.may.1 (sound.loaded.looks by) in
-        let k = (entry_is ready may.may.0 (entry_word_at sizes core next) looks.1).0 in let i : entry_word_at sizes core next ≡ found = may.is in inl (set next (found + 1) (λ e. omega (arith, e, k, i)) kind)
+        let looks : InWindow core next × (is_entry_of ready ((core.passes by).units may.may.0) (entry_word_at sizes core next) ≡ true) = subst (LooksSound sizes core (core.passes by).units) may.may.1 (sound.loaded.looks by) in
+        let k = (entry_is ready ((core.passes by).units may.may.0) (entry_word_at sizes core next) looks.1).0 in let i : entry_word_at sizes core next ≡ found = may.is in inl (set next (found + 1) (λ e. omega (arith, e, k, i)) kind)
     go (Return next) may kind =
-        let looks : InWindow core next × (is_entry_of held may.may.0 (entry_word_at sizes core next) ≡ true) = subst (LooksSound sizes core (core.passes by).pages) may.may.2 (sound.loaded.looks by) in
-        let k = (entry_is held may.may.0 (entry_word_at sizes core next) looks.1).0 in let i : entry_word_at sizes core next ≡ found = may.is in inl (set next (found - 1) (λ e. omega (arith, e, k, i)) kind)
+        let looks : InWindow core next × (is_entry_of held ((core.passes by).units may.may.0) (entry_word_at sizes core next) ≡ true) = subst (LooksSound sizes core (core.passes by).units) may.may.2 (sound.loaded.looks by) in
+        let k = (entry_is held ((core.passes by).units may.may.0) (entry_word_at sizes core next) looks.1).0 in let i : entry_word_at sizes core next ≡ found = may.is in inl (set next (found - 1) (λ e. omega (arith, e, k, i)) kind)
     go (ByCleaner (cleaner.Hold next)) may kind = let k = (cleaner_hold_hand sizes first core sound by found next may).kind_is in let i : entry_word_at sizes core next ≡ found = may.is in inl (set next (found + 1) (λ e. omega (arith, e, k, i)) kind)
     go (ByCleaner (cleaner.Return next)) may kind = let k = (cleaner_return_hand sizes first core sound by found next may).kind_is in let i : entry_word_at sizes core next ≡ found = may.is in inl (set next (found - 1) (λ e. omega (arith, e, k, i)) kind)
     go (ByCleaner (Free next)) may kind = inl (set next free (λ e. omega (arith, e)) kind)

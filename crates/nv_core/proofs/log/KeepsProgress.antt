@@ -38,6 +38,7 @@ use Rattle.nv_core.proofs.log.KeepsGroups.{log_group}
 use Rattle.nv_core.proofs.steps.CleanerControls.{tended}
 use Rattle.nv_core.proofs.log.CleanerProgress.{AtBatch, At, all_at, from_all, stop_loaded, same_at, looked_on, batch_on, entry_head, entry_cleaned, entry_looked, entry_way, entry_at_other, kind_kept, turned, leaves, retreats, goes_next}
 use Rattle.nv_core.proofs.log.CleanerGoes.{IsSweeping, tail_loaded_sweeping, one_cleaner, holds_cleanup, IsQuietly, quiet_on}
+use Rattle.nv_core.proofs.steps.SearchLaws.{hinted_next, pledged_next}
 
 -- ---- a pass that is no cleaner then
 
@@ -73,11 +74,11 @@ step_call sizes values pass (Give cell) found other may = bare_call _ (bare_to s
 step_call sizes values pass (Place reply) found other may = bare_call _ (bare_to sizes values pass (Place reply) found tt may)
 step_call sizes values pass Grow found other may = bare_call _ (bare_to sizes values pass Grow found tt may)
 step_call sizes values pass (Turn page) found other may = tt
-step_call sizes values pass (Hint buffer page) found other may = tt
+step_call sizes values pass (Hint buffer unit) found other may = hinted_next IsCall values pass buffer unit may tt
 step_call sizes values pass Stop found other may = stop_call pass pass.control may
 step_call sizes values pass Draw found other may = if_both IsCall (found == pass.head) (SeizeEntry found) (leaving pass.owned) (λ _. tt) (λ _. leaving_call pass.owned)
 step_call sizes values pass (Seize number) found other may = if_both IsCall (number + 1 == pass.first + pass.entries) (CommitGroup 0) (SeizeEntry (number + 1)) (λ _. tt) (λ _. tt)
-step_call sizes values pass (Pledge page) found other may = if_both IsCall (page + 1 == end_page sizes pass.call) (ReadyEntry (if pass.entries == 1 then pass.first else pass.first + 1)) (PledgePage (page + 1)) (λ _. tt) (λ _. tt)
+step_call sizes values pass (Pledge unit) found other may = pledged_next IsCall sizes pass may.0 may.1 (if_both IsCall (may.0 + 1 == end_page sizes pass.call) (ReadyEntry (if pass.entries == 1 then pass.first else pass.first + 1)) (PledgePage (may.0 + 1)) (λ _. tt) (λ _. tt))
 step_call sizes values pass (Ready number) found other may = if_both IsCall (number == pass.first) TakePlace (ReadyEntry (if number + 1 == pass.first + pass.entries then pass.first else number + 1)) (λ _. tt) (λ _. tt)
 step_call sizes values pass (Break number) found other may = if_both IsCall (number + 1 == pass.first + pass.entries) (leaving (without (ENTRY (slot_of_entry sizes number)) pass.owned)) (BreakEntry (number + 1)) (λ _. leaving_call (without (ENTRY (slot_of_entry sizes number)) pass.owned)) (λ _. tt)
 step_call sizes values pass (Hold number) found other may = subst (λ s. IsCall (after_hold s)) (sym may.1) tt
@@ -481,21 +482,21 @@ module _ (sizes : Sizes) (first : Values) (by : ℕ) (core : Core) (found : ℕ)
       unready_entry (Break number) number broken refl (sound.window.filling_in by number own) (ap was_readied (sound.window.filling_is by number own)) (λ e. omega arith)
       (called (Break number) refl refl (λ f. f) may.may log)
   progress_step (Hold number) may =
-      let looks : InWindow core number × (is_entry_of ready may.may.0 (entry_word_at sizes core number) ≡ true) = subst (LooksSound sizes core (core.passes by).pages) may.may.1 (sound.loaded.looks by) in
-      let kind = entry_is ready may.may.0 (entry_word_at sizes core number) looks.1 in let is : entry_word_at sizes core number ≡ found = may.is in
+      let looks : InWindow core number × (is_entry_of ready ((core.passes by).units may.may.0) (entry_word_at sizes core number) ≡ true) = subst (LooksSound sizes core (core.passes by).units) may.may.1 (sound.loaded.looks by) in
+      let kind = entry_is ready ((core.passes by).units may.may.0) (entry_word_at sizes core number) looks.1 in let is : entry_word_at sizes core number ≡ found = may.is in
       let k = kind.0 in let up : kind_of (found + 1) ≡ held = omega (arith, k, is) in
-      read_entry (Hold number) number (found + 1) refl looks.0 may.may.0
-      ((subst (HoldsLocks sizes (core.passes by)) may.may.1 (sound.ownership by).locks) (CLEANUP may.may.0) (λ slot e. cc) ∙ when_true (may.may.0 == may.may.0) 1 0 (number_self may.may.0))
+      read_entry (Hold number) number (found + 1) refl looks.0 ((core.passes by).units may.may.0)
+      ((subst (HoldsLocks sizes (core.passes by)) may.may.1 (sound.ownership by).locks) (CLEANUP ((core.passes by).units may.may.0)) (λ slot e. cc) ∙ when_true ((core.passes by).units may.may.0 == (core.passes by).units may.may.0) 1 0 (number_self ((core.passes by).units may.may.0)))
       kind.1 (λ e. omega (arith, e, k)) (held_was (found + 1) up) (omega (arith, k, is)) (λ e. omega (arith, e, up)) refl (called (Hold number) refl refl (λ f. f) may.may log)
   progress_step (Return number) may =
-      let looks : InWindow core number × (is_entry_of held may.may.0 (entry_word_at sizes core number) ≡ true) = subst (LooksSound sizes core (core.passes by).pages) may.may.2 (sound.loaded.looks by) in
-      let kind = entry_is held may.may.0 (entry_word_at sizes core number) looks.1 in let is : entry_word_at sizes core number ≡ found = may.is in
+      let looks : InWindow core number × (is_entry_of held ((core.passes by).units may.may.0) (entry_word_at sizes core number) ≡ true) = subst (LooksSound sizes core (core.passes by).units) may.may.2 (sound.loaded.looks by) in
+      let kind = entry_is held ((core.passes by).units may.may.0) (entry_word_at sizes core number) looks.1 in let is : entry_word_at sizes core number ≡ found = may.is in
       let k = kind.0 in let down : kind_of (found - 1) ≡ ready = omega (arith, k, is) in
-      read_entry (Return number) number (found - 1) refl looks.0 may.may.0
-      ((subst (HoldsLocks sizes (core.passes by)) may.may.2 (sound.ownership by).locks) (CLEANUP may.may.0) (λ slot e. cc) ∙ when_true (may.may.0 == may.may.0) 1 0 (number_self may.may.0))
+      read_entry (Return number) number (found - 1) refl looks.0 ((core.passes by).units may.may.0)
+      ((subst (HoldsLocks sizes (core.passes by)) may.may.2 (sound.ownership by).locks) (CLEANUP ((core.passes by).units may.may.0)) (λ slot e. cc) ∙ when_true ((core.passes by).units may.may.0 == (core.passes by).units may.may.0) 1 0 (number_self ((core.passes by).units may.may.0)))
       kind.1 (λ e. omega (arith, e, k)) (ready_was (found - 1) down) (omega (arith, k, is)) (λ e. omega (arith, e, down)) refl (called (Return number) refl refl (λ f. f) may.may log)
   progress_step (Turn page) may = plain (Turn page) may refl refl refl (λ slot. refl) tt
-  progress_step (Hint buffer page) may = plain (Hint buffer page) may refl refl refl (λ slot. refl) tt
+  progress_step (Hint buffer page) may = plain (Hint buffer page) may refl refl refl (λ slot. refl) (hinted_next (At sizes log (now_of (Hint buffer page))) core.values (core.passes by) buffer page may.may tt)
   progress_step (ByCleaner cleaner_op) may = by_cleaner cleaner_op may
   progress_step Split may = plain Split may refl refl refl (λ slot. refl) tt
   progress_step (PutBack cell) may = plain (PutBack cell) may refl refl refl (λ slot. refl) (plain_at (PutBack cell) may refl refl (λ slot. refl) (λ one. untouched sizes by core (PutBack cell) found may STOP refl ∙ one) (core.passes by).control (all_at progress by))

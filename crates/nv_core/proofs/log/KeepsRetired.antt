@@ -183,10 +183,10 @@ module _ (sizes : Sizes) (first : Values) (tails : Tails) (log : Log) (by : ℕ)
       ]))
 
   holds_kind : (next : ℕ) → FoundEnabledByKind sizes by core (Hold next) found → kind_of (entry_word_at sizes core next) ≡ ready
-  holds_kind next may = let looks : InWindow core next × (is_entry_of ready may.may.0 (entry_word_at sizes core next) ≡ true) = subst (LooksSound sizes core (core.passes by).pages) may.may.1 (sound.loaded.looks by) in (entry_is ready may.may.0 (entry_word_at sizes core next) looks.1).0
+  holds_kind next may = let looks : InWindow core next × (is_entry_of ready ((core.passes by).units may.may.0) (entry_word_at sizes core next) ≡ true) = subst (LooksSound sizes core (core.passes by).units) may.may.1 (sound.loaded.looks by) in (entry_is ready ((core.passes by).units may.may.0) (entry_word_at sizes core next) looks.1).0
 
   returns_kind : (next : ℕ) → FoundEnabledByKind sizes by core (Return next) found → kind_of (entry_word_at sizes core next) ≡ held
-  returns_kind next may = let looks : InWindow core next × (is_entry_of held may.may.0 (entry_word_at sizes core next) ≡ true) = subst (LooksSound sizes core (core.passes by).pages) may.may.2 (sound.loaded.looks by) in (entry_is held may.may.0 (entry_word_at sizes core next) looks.1).0
+  returns_kind next may = let looks : InWindow core next × (is_entry_of held ((core.passes by).units may.may.0) (entry_word_at sizes core next) ≡ true) = subst (LooksSound sizes core (core.passes by).units) may.may.2 (sound.loaded.looks by) in (entry_is held ((core.passes by).units may.may.0) (entry_word_at sizes core next) looks.1).0
 
   clean_on : (op : Op) → FoundEnabledByKind sizes by core op found → (n : ℕ) → InWindow core n → CleanOn op n
   clean_on (Seize next) may n within kind = inl (not_there (slot_of_entry sizes next) filling (λ e. let k = ap kind_of (seized sizes first by core found sound next may) in omega (arith, e, k)) (ENTRY (slot_of_entry sizes n)) kind)

@@ -1,5 +1,5 @@
 -- Each event keeps what the stores tell.
-use Rattle.std.proofs.Common.{◌≡◌, ℕ, Bool, true, false, length, Option, inl, inr, refl, sym, ap, subst, ◌∙◌, List}
+use Rattle.std.proofs.Common.{◌≡◌, ℕ, Bool, true, false, length, Option, inl, inr, refl, sym, ap, subst, ◌∙◌}
 use Rattle.std.specs.Prelude.{Some, None, option_map}
 use Rattle.std.proofs.lemmas.Bool.{true≢false}
 use Rattle.nv_store.specs.Store.{Store}
@@ -9,7 +9,7 @@ use Rattle.nv_core.specs.state.Values.{Value, Bare, APart, AStore, ABuffer, Job,
 use Rattle.nv_core.specs.state.Passes.{Control, ReadStore, Pass}
 use Rattle.nv_core.specs.steps.Ops.{Op, Pledge, patched_by, Give}
 use Rattle.nv_core.specs.steps.Order.{Values, Work, CallMayLeave, IsTornOf}
-use Rattle.nv_core.specs.state.Core.{with_value, values_read, values_worked, values_stepped}
+use Rattle.nv_core.specs.state.Core.{with_value, values_read, values_worked, values_stepped, pledging}
 use Rattle.nv_core.specs.content.StorePages.{store_of_value, StoresTell}
 use Rattle.nv_core.proofs.state.Changes.{by_word, word_else, differ}
 use Rattle.nv_core.proofs.log.WrittenLaws.{given_else}
@@ -19,7 +19,7 @@ pub record StoresKept (first now : Values) : Type 0 where
   pub each : (file : ℕ) → store_of_value (now (STORE file)) ≡ store_of_value (first (STORE file))
 
 pub step_store : (sizes : Sizes) (pass : Pass) (op : Op) (values : Values) (file : ℕ) → values_stepped sizes pass op values (STORE file) ≡ values (STORE file)
-step_store sizes pass (Pledge page) values file = word_else values (PAGE page) (patched_by sizes pass.call page (values (PAGE page))) (STORE file) (differ (STORE file) (PAGE page) refl)
+step_store sizes pass (Pledge unit) values file = word_else values (PAGE unit) (patched_by sizes pass.call (pledging pass.control) (values (PAGE unit))) (STORE file) (differ (STORE file) (PAGE unit) refl)
 step_store sizes pass (Give cell) values file = given_else pass pass.control values (STORE file) (λ page. differ (STORE file) (PAGE page) refl)
 step_store sizes pass op values file = refl
 
@@ -47,16 +47,16 @@ called_store (PieceRead at bytes) how (AStore device) keeps = refl
 called_store (PieceWrite at bytes left) how (AStore device) keeps = absurd (true≢false (sym keeps))
 called_store StoreSync how (AStore device) keeps = absurd (true≢false (sym keeps))
 
-pub read_store : (pages : List ℕ) (job : Job) (how : CallEnding) (control : Control) (values : Values) (file : ℕ) → values_read pages job how control values (STORE file) ≡ values (STORE file)
-read_store pages (PageRead at bytes) Made (ReadStore page false) values file = word_else values (PAGE page) (filled bytes (values (PAGE page))) (STORE file) (differ (STORE file) (PAGE page) refl)
-read_store pages job how control values file = refl
+pub read_store : (units : ℕ → ℕ) (job : Job) (how : CallEnding) (control : Control) (values : Values) (file : ℕ) → values_read units job how control values (STORE file) ≡ values (STORE file)
+read_store units (PageRead at bytes) Made (ReadStore page false) values file = word_else values (PAGE (units page)) (filled bytes (values (PAGE (units page)))) (STORE file) (differ (STORE file) (PAGE (units page)) refl)
+read_store units job how control values file = refl
 
 pub stores_step : (sizes : Sizes) (first : Values) (pass : Pass) (op : Op) (values : Values) → StoresKept first values → StoresKept first (values_stepped sizes pass op values)
 stores_step sizes first pass op values was = record { each = λ file. ap store_of_value (step_store sizes pass op values file) ∙ was.each file }
 
 -- a device call leaves each store but its own
 pub work_store : (pass : Pass) (work : Work) (values : Values) (file : ℕ) → values_worked pass work values (STORE file) ≡ with_value values work.cell (called work.job work.ending (values work.cell)) (STORE file)
-work_store pass work values file = read_store pass.pages work.job work.ending pass.control (with_value values work.cell (called work.job work.ending (values work.cell))) file
+work_store pass work values file = read_store pass.units work.job work.ending pass.control (with_value values work.cell (called work.job work.ending (values work.cell))) file
 
 pub stores_work : (first : Values) (pass : Pass) (work : Work) (values : Values) → keeps_stores work.job ≡ true → StoresKept first values → StoresKept first (values_worked pass work values)
 stores_work first pass work values keeps was = record {

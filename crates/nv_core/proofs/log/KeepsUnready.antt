@@ -41,7 +41,8 @@ use Rattle.nv_core.proofs.log.DrawLaws.{drawn_group, lost_head, won_draw}
 use Rattle.nv_core.proofs.log.KeepsGroups.{log_group}
 use Rattle.nv_core.proofs.invariant.WindowLaws.{apart_within}
 use Rattle.nv_core.proofs.log.Rekinded.{IsRekinded, holds_rekind, returns_rekind, rekind_broken}
-use Rattle.nv_core.proofs.invariant.IndexLaws.{stands_for}
+use Rattle.nv_core.proofs.invariant.IndexLaws.{same_unit}
+use Rattle.nv_core.proofs.steps.SearchLaws.{pledged_next}
 
 -- ---- passes that break
 
@@ -75,8 +76,9 @@ breaking_now sizes by core found Draw may old number e = absurd (if_both (λ s. 
     (λ _. elsewhere _ _ refl refl number) (λ _. clear_breaking (leaving (core.passes by).owned) number (clear_leaving (core.passes by).owned)) e)
 breaking_now sizes by core found (Seize next) may old number e = absurd (if_both (λ s. s ≡ BreakEntry number → ⊥) (next + 1 == (core.passes by).first + (core.passes by).entries) (CommitGroup 0) (SeizeEntry (next + 1))
     (λ _. elsewhere _ _ refl refl number) (λ _. elsewhere _ _ refl refl number) e)
-breaking_now sizes by core found (Pledge page) may old number e = absurd (if_both (λ s. s ≡ BreakEntry number → ⊥) (page + 1 == end_page sizes (core.passes by).call) (ReadyEntry (if (core.passes by).entries == 1 then (core.passes by).first else (core.passes by).first + 1)) (PledgePage (page + 1))
-    (λ _. elsewhere _ _ refl refl number) (λ _. elsewhere _ _ refl refl number) e)
+breaking_now sizes by core found (Pledge unit) may old number e = absurd (pledged_next (λ s. s ≡ BreakEntry number → ⊥) sizes (core.passes by) may.0 may.1
+    (if_both (λ s. s ≡ BreakEntry number → ⊥) (may.0 + 1 == end_page sizes (core.passes by).call) (ReadyEntry (if (core.passes by).entries == 1 then (core.passes by).first else (core.passes by).first + 1)) (PledgePage (may.0 + 1))
+    (λ _. elsewhere _ _ refl refl number) (λ _. elsewhere _ _ refl refl number)) e)
 breaking_now sizes by core found (Ready next) may old number e = absurd (if_both (λ s. s ≡ BreakEntry number → ⊥) (next == (core.passes by).first) TakePlace (ReadyEntry (if next + 1 == (core.passes by).first + (core.passes by).entries then (core.passes by).first else next + 1))
     (λ _. elsewhere _ _ refl refl number) (λ _. elsewhere _ _ refl refl number) e)
 breaking_now sizes by core found (Hold next) may old number e = absurd (clear_breaking _ number (clear_to sizes core.values (core.passes by) (Hold next) found tt may) e)
@@ -215,22 +217,22 @@ has_number sizes pass control n at (inl is) = absurd is
 has_number sizes pass control n at (inr is) = absurd is
 
 -- and holds its pages
-group_page : (sizes : Sizes) (pass : Pass) (control : Control) → HasGroup control → PagesAt sizes pass control → HoldsLocks sizes pass control → (page : ℕ) → IsPage sizes pass.call page → times (PAGE page) pass.owned ≡ 1
-group_page sizes pass (SeizeEntry number) has pages held page on = holds_page sizes pass page pages on (held (PAGE page) (λ slot. differ (PAGE page) (ENTRY slot) refl))
-group_page sizes pass (CommitGroup calls) has pages held page on = holds_page sizes pass page pages on (held (PAGE page) (λ slot. differ (PAGE page) (ENTRY slot) refl))
-group_page sizes pass (PledgePage next) has pages held page on = holds_page sizes pass page pages on (held (PAGE page) (λ slot. differ (PAGE page) (ENTRY slot) refl))
-group_page sizes pass (ReadyEntry number) has pages held page on = holds_page sizes pass page pages on (held (PAGE page) (λ slot. differ (PAGE page) (ENTRY slot) refl))
-group_page sizes pass SetStopAfterCommit has pages held page on = holds_page sizes pass page pages on (held (PAGE page) (λ slot. differ (PAGE page) (ENTRY slot) refl))
-group_page sizes pass (BreakEntry number) has pages held page on = holds_page sizes pass page pages on (held (PAGE page) (λ slot. differ (PAGE page) (ENTRY slot) refl))
+group_page : (sizes : Sizes) (pass : Pass) (control : Control) → HasGroup control → PagesAt sizes pass control → HoldsLocks sizes pass control → (page : ℕ) → IsPage sizes pass.call page → times (PAGE (pass.units page)) pass.owned ≡ 1
+group_page sizes pass (SeizeEntry number) has pages held page on = holds_page sizes pass page pages on (held (PAGE (pass.units page)) (λ slot. differ (PAGE (pass.units page)) (ENTRY slot) refl))
+group_page sizes pass (CommitGroup calls) has pages held page on = holds_page sizes pass page pages on (held (PAGE (pass.units page)) (λ slot. differ (PAGE (pass.units page)) (ENTRY slot) refl))
+group_page sizes pass (PledgePage next) has pages held page on = holds_page sizes pass page pages on (held (PAGE (pass.units page)) (λ slot. differ (PAGE (pass.units page)) (ENTRY slot) refl))
+group_page sizes pass (ReadyEntry number) has pages held page on = holds_page sizes pass page pages on (held (PAGE (pass.units page)) (λ slot. differ (PAGE (pass.units page)) (ENTRY slot) refl))
+group_page sizes pass SetStopAfterCommit has pages held page on = holds_page sizes pass page pages on (held (PAGE (pass.units page)) (λ slot. differ (PAGE (pass.units page)) (ENTRY slot) refl))
+group_page sizes pass (BreakEntry number) has pages held page on = holds_page sizes pass page pages on (held (PAGE (pass.units page)) (λ slot. differ (PAGE (pass.units page)) (ENTRY slot) refl))
 group_page sizes pass control has pages held page on = absurd has
 
-drawing_page : (sizes : Sizes) (pass : Pass) (control : Control) → control ≡ DrawNumbers → PagesAt sizes pass control → HoldsLocks sizes pass control → (page : ℕ) → IsPage sizes pass.call page → times (PAGE page) pass.owned ≡ 1
+drawing_page : (sizes : Sizes) (pass : Pass) (control : Control) → control ≡ DrawNumbers → PagesAt sizes pass control → HoldsLocks sizes pass control → (page : ℕ) → IsPage sizes pass.call page → times (PAGE (pass.units page)) pass.owned ≡ 1
 drawing_page sizes pass control is pages held page on =
     let at : HoldsLocks sizes pass DrawNumbers = subst (HoldsLocks sizes pass) is held in
-    holds_page sizes pass page (subst (PagesAt sizes pass) is pages) on (at (PAGE page) (λ slot. differ (PAGE page) (ENTRY slot) refl))
+    holds_page sizes pass page (subst (PagesAt sizes pass) is pages) on (at (PAGE (pass.units page)) (λ slot. differ (PAGE (pass.units page)) (ENTRY slot) refl))
 
 module _ (sizes : Sizes) (first : Values) (log : Log) (placed : ℕ → Bool) (by : ℕ) (core : Core) (sound : Sound sizes first core) (groups : Groups sizes core log) (unready : Unready sizes log placed core) (drawing : (core.passes by).control ≡ DrawNumbers) where
-  holds : (page : ℕ) → IsPage sizes (core.passes by).call page → times (PAGE page) (core.passes by).owned ≡ 1
+  holds : (page : ℕ) → IsPage sizes (core.passes by).call page → times (PAGE ((core.passes by).units page)) (core.passes by).owned ≡ 1
   holds = drawing_page sizes (core.passes by) (core.passes by).control drawing (sound.control_facts by).pages (sound.ownership by).locks
 
   -- a pass that draws draws for no page of a write that another pass owns
@@ -239,13 +241,14 @@ module _ (sizes : Sizes) (first : Values) (log : Log) (placed : ℕ → Bool) (b
       let at = has_number sizes (core.passes other) (core.passes other).control n (sound.control_facts other).at has in
       let g = (groups.own other at.0 n at.1).group in
       let there = group_page sizes (core.passes other) (core.passes other).control at.0 (sound.control_facts other).pages (sound.ownership other).locks page (subst (λ x. IsPage sizes x.call page) g on) in
-      held_by_one sizes first core sound (PAGE page) other by there (holds page own) (λ e. subst HasGroup (ap (λ m. (core.passes m).control) (sym e) ∙ drawing) at.0)
+      held_by_one sizes first core sound (PAGE ((core.passes other).units page)) other by there (ap (λ u. times (PAGE u) (core.passes by).owned) (same_unit core sound.index other by page) ∙ holds page own) (λ e. subst HasGroup (ap (λ m. (core.passes m).control) (sym e) ∙ drawing) at.0)
 
   -- nor of a broken one
   none_broken : (n page : ℕ) → IsOfFault core (log.group n) → IsPage sizes (log.group n).call page → IsPage sizes (core.passes by).call page → ⊥
   none_broken n page is on own =
-      let none = sound.broken.pages is.by by page is.fault is.ended (stands_for sizes core sound.index is.fault.call page (subst (λ g. IsPage sizes g.call page) is.is on)) (subst HasChecked (sym drawing) tt) in
-      let one = holds page own in let no_victim = ap (λ s. victim_held s page) drawing in omega (arith, none, one, no_victim)
+      let unit = (core.passes by).units page in
+      let none = sound.broken.pages is.by by unit is.fault is.ended (subst (IsPage sizes is.fault.call) (sym (sound.index.known by page)) (subst (λ g. IsPage sizes g.call page) is.is on)) (subst HasChecked (sym drawing) tt) in
+      let one = holds page own in let no_victim = ap (λ s. victim_held s unit) drawing in omega (arith, none, one, no_victim)
 
   -- so it draws for none of a write whose leader isn't ready
   pub none_unready : (n page : ℕ) → IsUnready sizes log core n → IsPage sizes (log.group n).call page → IsPage sizes (core.passes by).call page → ⊥
@@ -340,7 +343,7 @@ unready_step sizes first log placed by core (Seize next) found sound groups flig
 unready_step sizes first log placed by core (Ready next) found sound groups flight unready may =
     let at : HasDrawn sizes (core.passes by).call (core.passes by).entries × IsAmong (core.passes by).first (core.passes by).entries next = subst (FactsAt sizes (core.passes by)) may.may (sound.control_facts by).at in
     let own = groups.own by (subst HasGroup (sym may.may) tt) next at.1 in
-    let kind : was_readied (ready_word sizes (core.passes by) next) ≡ true = ready_is (if next == (core.passes by).first then (core.passes by).entries else 0) (page_at sizes (core.passes by) next) in
+    let kind : was_readied (ready_word sizes (core.passes by) next) ≡ true = ready_is (if next == (core.passes by).first then (core.passes by).entries else 0) ((core.passes by).units (page_at sizes (core.passes by) next)) in
     entry_unready sizes first log placed by core (Ready next) found sound unready may next (ready_word sizes (core.passes by) next) refl own.within
     (λ e. absurd (not_both (ap was_readied (sym e) ∙ kind) refl))
 unready_step sizes first log placed by core (Break next) found sound groups flight unready may =

@@ -55,6 +55,7 @@ use Rattle.nv_core.proofs.log.KeepsGroups.{is_draw}
 use Rattle.nv_core.proofs.log.RowParts.{row_within}
 use Rattle.nv_core.proofs.log.WrittenLaws.{part_now, part_stepped, part_worked, part_called, value_called, value_not_called, steps_of, written_same, written_more, written_later, blank_later, told_on}
 use Rattle.nv_core.proofs.log.Rekinded.{IsRekinded, holds_rekind, returns_rekind}
+use Rattle.nv_core.proofs.steps.SearchLaws.{pledged_next}
 
 -- ---- whose a leader is
 
@@ -285,10 +286,12 @@ module _ (laws : LogLaws) (sizes : Sizes) (first : Values) (tails : Tails) (log 
       (let none : log.calls (core.passes by).first ≡ 0 = subst (HasCalls sizes log (core.passes by)) may.may (written.calls by) in
       if_both (HasCalls sizes log (changed_pass sizes by core (Seize next) found)) (next + 1 == (core.passes by).first + (core.passes by).entries) (CommitGroup 0) (SeizeEntry (next + 1)) (λ _. none) (λ _. none))
   other_step (Pledge page) may ne = plain_step (Pledge page) may refl refl (λ slot. refl)
-      (let all : log.calls (core.passes by).first ≡ commit_length sizes (core.passes by).call (core.passes by).first = subst (HasCalls sizes log (core.passes by)) may.may (written.calls by) in
-      if_both (HasCalls sizes log (changed_pass sizes by core (Pledge page) found)) (page + 1 == end_page sizes (core.passes by).call) (ReadyEntry (if (core.passes by).entries == 1 then (core.passes by).first else (core.passes by).first + 1)) (PledgePage (page + 1)) (λ _. all) (λ _. all))
+      (let all : log.calls (core.passes by).first ≡ commit_length sizes (core.passes by).call (core.passes by).first = subst (HasCalls sizes log (core.passes by)) may.may.1 (written.calls by) in
+      let next = may.may.0 in
+      pledged_next (HasCalls sizes log (changed_pass sizes by core (Pledge page) found)) sizes (core.passes by) next may.may.1
+      (if_both (HasCalls sizes log (changed_pass sizes by core (Pledge page) found)) (next + 1 == end_page sizes (core.passes by).call) (ReadyEntry (if (core.passes by).entries == 1 then (core.passes by).first else (core.passes by).first + 1)) (PledgePage (next + 1)) (λ _. all) (λ _. all)))
   other_step (Ready next) may ne = entry_step (Ready next) (slot_of_entry sizes next) (ready_word sizes (core.passes by) next) may refl
-      (λ e. absurd (not_both (ap was_readied (sym e) ∙ ready_is (if next == (core.passes by).first then (core.passes by).entries else 0) (page_at sizes (core.passes by) next)) refl))
+      (λ e. absurd (not_both (ap was_readied (sym e) ∙ ready_is (if next == (core.passes by).first then (core.passes by).entries else 0) ((core.passes by).units (page_at sizes (core.passes by) next))) refl))
       (let all : log.calls (core.passes by).first ≡ commit_length sizes (core.passes by).call (core.passes by).first = subst (HasCalls sizes log (core.passes by)) may.may (written.calls by) in
       if_both (λ s. HasCalls sizes log (changed_pass sizes by core (Ready next) found) s) (next == (core.passes by).first) TakePlace
       (ReadyEntry (if next + 1 == (core.passes by).first + (core.passes by).entries then (core.passes by).first else next + 1)) (λ _. tt) (λ _. all))

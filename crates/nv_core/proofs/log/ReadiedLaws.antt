@@ -157,7 +157,7 @@ module _ (sizes : Sizes) (first : Values) (by : ℕ) (core : Core) (found : ℕ)
 
   pub free_before : (op : Op) → FoundEnabledByKind sizes by core op found → (slot : ℕ) → FreeBefore op slot
   free_before (Ready next) may slot is = inl (set_otherwise (λ v. v ≡ free) (slot_of_entry sizes next) (ready_word sizes (core.passes by) next)
-      (λ e. not_both (ap was_readied (sym e) ∙ ready_is (if next == (core.passes by).first then (core.passes by).entries else 0) (page_at sizes (core.passes by) next)) refl) (ENTRY slot) is)
+      (λ e. not_both (ap was_readied (sym e) ∙ ready_is (if next == (core.passes by).first then (core.passes by).entries else 0) ((core.passes by).units (page_at sizes (core.passes by) next))) refl) (ENTRY slot) is)
   free_before (Seize next) may slot is = inl (set_otherwise (λ v. v ≡ free) (slot_of_entry sizes next) filling (λ e. omega (arith, e)) (ENTRY slot) is)
   free_before (Break next) may slot is = inl (set_otherwise (λ v. v ≡ free) (slot_of_entry sizes next) broken (λ e. omega (arith, e)) (ENTRY slot) is)
   free_before (Hold next) may slot is = inl (rekind_free sizes core next (found + 1) (holds_rekind sizes first by core found next sound may) (ENTRY slot) is)
@@ -181,7 +181,7 @@ module _ (sizes : Sizes) (first : Values) (by : ℕ) (core : Core) (found : ℕ)
 
   pub says_still : (op : Op) → FoundEnabledByKind sizes by core op found → (n : ℕ) → InWindow core n → SaysStill op n
   says_still (Ready next) may n within kind = inl (by_word (λ word v. was_readied (core.words word) ≡ true → was_readied v ≡ true) core.words (ENTRY (slot_of_entry sizes next)) (ready_word sizes (core.passes by) next)
-      (λ _. ready_is (if next == (core.passes by).first then (core.passes by).entries else 0) (page_at sizes (core.passes by) next)) (λ word ne e. e) (ENTRY (slot_of_entry sizes n)) kind)
+      (λ _. ready_is (if next == (core.passes by).first then (core.passes by).entries else 0) ((core.passes by).units (page_at sizes (core.passes by) next))) (λ word ne e. e) (ENTRY (slot_of_entry sizes n)) kind)
   says_still (Seize next) may n within kind = inl (was_none (slot_of_entry sizes next) filling (λ e. not_both (ap was_readied (sym (seized next may)) ∙ e) refl) (ENTRY (slot_of_entry sizes n)) kind)
   says_still (Break next) may n within kind = inl (was_none (slot_of_entry sizes next) broken (λ e. not_both (ap was_readied (sym (broke next may)) ∙ e) refl) (ENTRY (slot_of_entry sizes n)) kind)
   says_still (Hold next) may n within kind = inl (rekind_still sizes core next (found + 1) (holds_rekind sizes first by core found next sound may) (ENTRY (slot_of_entry sizes n)) kind)

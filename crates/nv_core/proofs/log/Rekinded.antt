@@ -22,15 +22,15 @@ pub record IsRekinded (sizes : Sizes) (core : Core) (next value : ℕ) : Type 0 
 -- an entry that a read holds is ready, and held then; and the one that it returns the other way round
 pub holds_kinds : (sizes : Sizes) (first : Values) (by : ℕ) (core : Core) (found next : ℕ) → Sound sizes first core → FoundEnabledByKind sizes by core (Hold next) found → (kind_of (entry_word_at sizes core next) ≡ ready) × (kind_of (found + 1) ≡ held)
 holds_kinds sizes first by core found next sound may =
-    let looks : InWindow core next × (is_entry_of ready may.may.0 (entry_word_at sizes core next) ≡ true) = subst (LooksSound sizes core (core.passes by).pages) may.may.1 (sound.loaded.looks by) in
-    let kind = (entry_is ready may.may.0 (entry_word_at sizes core next) looks.1).0 in
+    let looks : InWindow core next × (is_entry_of ready ((core.passes by).units may.may.0) (entry_word_at sizes core next) ≡ true) = subst (LooksSound sizes core (core.passes by).units) may.may.1 (sound.loaded.looks by) in
+    let kind = (entry_is ready ((core.passes by).units may.may.0) (entry_word_at sizes core next) looks.1).0 in
     let is : core.words (ENTRY (slot_of_entry sizes next)) ≡ found = may.is in
     (kind, omega (arith, kind, is))
 
 pub returns_kinds : (sizes : Sizes) (first : Values) (by : ℕ) (core : Core) (found next : ℕ) → Sound sizes first core → FoundEnabledByKind sizes by core (Return next) found → (kind_of (entry_word_at sizes core next) ≡ held) × (kind_of (found - 1) ≡ ready)
 returns_kinds sizes first by core found next sound may =
-    let looks : InWindow core next × (is_entry_of held may.may.0 (entry_word_at sizes core next) ≡ true) = subst (LooksSound sizes core (core.passes by).pages) may.may.2 (sound.loaded.looks by) in
-    let kind = (entry_is held may.may.0 (entry_word_at sizes core next) looks.1).0 in
+    let looks : InWindow core next × (is_entry_of held ((core.passes by).units may.may.0) (entry_word_at sizes core next) ≡ true) = subst (LooksSound sizes core (core.passes by).units) may.may.2 (sound.loaded.looks by) in
+    let kind = (entry_is held ((core.passes by).units may.may.0) (entry_word_at sizes core next) looks.1).0 in
     let is : core.words (ENTRY (slot_of_entry sizes next)) ≡ found = may.is in
     (kind, omega (arith, kind, is))
 
@@ -42,14 +42,14 @@ holds_rekind sizes first by core found next sound may = record {
   says = λ count page e. omega (arith, e, kind, is);
 }
   where
-    looks : InWindow core next × (is_entry_of ready may.may.0 (entry_word_at sizes core next) ≡ true)
-    looks = subst (LooksSound sizes core (core.passes by).pages) may.may.1 (sound.loaded.looks by)
+    looks : InWindow core next × (is_entry_of ready ((core.passes by).units may.may.0) (entry_word_at sizes core next) ≡ true)
+    looks = subst (LooksSound sizes core (core.passes by).units) may.may.1 (sound.loaded.looks by)
 
     is : core.words (ENTRY (slot_of_entry sizes next)) ≡ found
     is = may.is
 
     kind : kind_of (entry_word_at sizes core next) ≡ ready
-    kind = (entry_is ready may.may.0 (entry_word_at sizes core next) looks.1).0
+    kind = (entry_is ready ((core.passes by).units may.may.0) (entry_word_at sizes core next) looks.1).0
 
     up : kind_of (found + 1) ≡ held
     up = omega (arith, kind, is)
@@ -62,14 +62,14 @@ returns_rekind sizes first by core found next sound may = record {
   says = λ count page e. omega (arith, e, kind, is);
 }
   where
-    looks : InWindow core next × (is_entry_of held may.may.0 (entry_word_at sizes core next) ≡ true)
-    looks = subst (LooksSound sizes core (core.passes by).pages) may.may.2 (sound.loaded.looks by)
+    looks : InWindow core next × (is_entry_of held ((core.passes by).units may.may.0) (entry_word_at sizes core next) ≡ true)
+    looks = subst (LooksSound sizes core (core.passes by).units) may.may.2 (sound.loaded.looks by)
 
     is : core.words (ENTRY (slot_of_entry sizes next)) ≡ found
     is = may.is
 
     kind : kind_of (entry_word_at sizes core next) ≡ held
-    kind = (entry_is held may.may.0 (entry_word_at sizes core next) looks.1).0
+    kind = (entry_is held ((core.passes by).units may.may.0) (entry_word_at sizes core next) looks.1).0
 
     down : kind_of (found - 1) ≡ ready
     down = omega (arith, kind, is)

@@ -20,7 +20,7 @@ use Rattle.nv_core.specs.state.Values.{Value, Bare, APart, AStore, ABuffer, Job,
 use Rattle.nv_core.specs.state.Passes.{Control, ReadStore, Pass, page_count, GiveCleanup, fetched_bytes}
 use Rattle.nv_core.specs.steps.Ops.{Op, Pledge, patched_by, Give}
 use Rattle.nv_core.specs.steps.Order.{Values, Work, IsNextCall, IsPieceRead}
-use Rattle.nv_core.specs.state.Core.{with_value, values_read, values_worked, values_stepped, values_given}
+use Rattle.nv_core.specs.state.Core.{with_value, values_read, values_worked, values_stepped, values_given, pledging}
 use Rattle.nv_core.specs.log.Groups.{calls_after}
 use Rattle.nv_core.specs.log.Written.{IsPart, AreParts, CommitsNone, IsWritten, IsBlankEntry}
 use Rattle.nv_core.proofs.state.Changes.{word_here, word_else, differ}
@@ -35,20 +35,20 @@ steps_of sizes call first = []
 
 -- what is given back changes a page's buffer alone
 pub given_else : (pass : Pass) (control : Control) (values : Values) (cell : Word) → ((page : ℕ) → cell ≢ PAGE page) → values_given pass control values cell ≡ values cell
-given_else pass (GiveCleanup page) values cell ne = word_else values (PAGE page) (filled (fetched_bytes pass.fetched page) (values (PAGE page))) cell (ne page)
-given_else pass control values cell ne = robbed_else pass.pages control values cell ne
+given_else pass (GiveCleanup page) values cell ne = word_else values (PAGE (pass.units page)) (filled (fetched_bytes pass.fetched page) (values (PAGE (pass.units page)))) cell (ne (pass.units page))
+given_else pass control values cell ne = robbed_else pass.units control values cell ne
 
 pub part_stepped : (sizes : Sizes) (pass : Pass) (op : Op) (values : Values) (slot : ℕ) → values_stepped sizes pass op values (ENTRY slot) ≡ values (ENTRY slot)
-part_stepped sizes pass (Pledge page) values slot = word_else values (PAGE page) (patched_by sizes pass.call page (values (PAGE page))) (ENTRY slot) (differ (ENTRY slot) (PAGE page) refl)
+part_stepped sizes pass (Pledge unit) values slot = word_else values (PAGE unit) (patched_by sizes pass.call (pledging pass.control) (values (PAGE unit))) (ENTRY slot) (differ (ENTRY slot) (PAGE unit) refl)
 part_stepped sizes pass (Give cell) values slot = given_else pass pass.control values (ENTRY slot) (λ page. differ (ENTRY slot) (PAGE page) refl)
 part_stepped sizes pass op values slot = refl
 
-part_read : (pages : List ℕ) (job : Job) (how : CallEnding) (control : Control) (values : Values) (slot : ℕ) → values_read pages job how control values (ENTRY slot) ≡ values (ENTRY slot)
-part_read pages (PageRead at bytes) Made (ReadStore page false) values slot = word_else values (PAGE page) (filled bytes (values (PAGE page))) (ENTRY slot) (differ (ENTRY slot) (PAGE page) refl)
-part_read pages job how control values slot = refl
+part_read : (units : ℕ → ℕ) (job : Job) (how : CallEnding) (control : Control) (values : Values) (slot : ℕ) → values_read units job how control values (ENTRY slot) ≡ values (ENTRY slot)
+part_read units (PageRead at bytes) Made (ReadStore page false) values slot = word_else values (PAGE (units page)) (filled bytes (values (PAGE (units page)))) (ENTRY slot) (differ (ENTRY slot) (PAGE (units page)) refl)
+part_read units job how control values slot = refl
 
 pub part_worked : (pass : Pass) (work : Work) (values : Values) (slot : ℕ) → values_worked pass work values (ENTRY slot) ≡ with_value values work.cell (called work.job work.ending (values work.cell)) (ENTRY slot)
-part_worked pass work values slot = part_read pass.pages work.job work.ending pass.control (with_value values work.cell (called work.job work.ending (values work.cell))) slot
+part_worked pass work values slot = part_read pass.units work.job work.ending pass.control (with_value values work.cell (called work.job work.ending (values work.cell))) slot
 
 -- no step changes how many lines a part has
 pub one_lines : StepsKeepLines → (step : LineStep) (part : Part) → length (after_line_step step part) ≡ length part

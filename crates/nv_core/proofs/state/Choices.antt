@@ -38,13 +38,13 @@ leaving_both P (first ∷ rest) none some = some (λ e. true≢false (ap is_cons
     is_cons (one ∷ more) = true
 
 -- where a page's lock is tried: what holds of the next page and of the ends of it, and wherever a search stands
-pub page_tried : (P : Control → Type 0) (sizes : Sizes) (pass : Pass) (page found : ℕ) → P LoadLength → P (TakePage (page + 1)) → P (leaving pass.owned)
-    → ((missed tries : ℕ) (search : Search) → P (Searching missed tries search)) → MayTake pass (PAGE page) → P (control_after sizes pass (Take (PAGE page)) found)
-page_tried P sizes pass page found last next out other = tried_next P sizes pass page found
-    (λ _. if_both P (found == 0) (if page + 1 == end_page sizes pass.call then LoadLength else TakePage (page + 1)) (leaving pass.owned)
-    (λ _. if_both P (page + 1 == end_page sizes pass.call) LoadLength (TakePage (page + 1)) (λ _. last) (λ _. next)) (λ _. out))
-    (λ s. if_both P (found == 0) (Searching s.page s.tries (GiveVictim s.buffer page)) (Searching s.page s.tries NotFound)
-    (λ _. other s.page s.tries (GiveVictim s.buffer page)) (λ _. other s.page s.tries NotFound))
+pub page_tried : (P : Control → Type 0) (sizes : Sizes) (pass : Pass) (unit found : ℕ) → P LoadLength → ((page : ℕ) → P (TakePage (page + 1))) → P (leaving pass.owned)
+    → ((missed tries : ℕ) (search : Search) → P (Searching missed tries search)) → MayTake pass (PAGE unit) → P (control_after sizes pass (Take (PAGE unit)) found)
+page_tried P sizes pass unit found last next out other = tried_next P sizes pass unit found
+    (λ page _ _. if_both P (found == 0) (if page + 1 == end_page sizes pass.call then LoadLength else TakePage (page + 1)) (leaving pass.owned)
+    (λ _. if_both P (page + 1 == end_page sizes pass.call) LoadLength (TakePage (page + 1)) (λ _. last) (λ _. next page)) (λ _. out))
+    (λ s. if_both P (found == 0) (Searching s.page s.tries (GiveVictim s.buffer unit)) (Searching s.page s.tries NotFound)
+    (λ _. other s.page s.tries (GiveVictim s.buffer unit)) (λ _. other s.page s.tries NotFound))
 
 -- the control states at which a lock is given back
 abbrev pub IsGivingBack : Control → Type 0
@@ -100,15 +100,15 @@ load_busy sizes values pass ORDER may = busy _ _ may refl
 load_busy sizes values pass HEAD may = elim may [ inl at ↦ busy _ _ at refl | inr at ↦ busy _ _ at.1 refl ]
 load_busy sizes values pass TAIL may = elim may [ inl at ↦ busy _ _ at refl | inr at ↦ busy _ _ at.1 refl ]
 load_busy sizes values pass (ENTRY slot) may = busy _ _ may.2 refl
-load_busy sizes values pass (DIRTY page) may = looked_at (λ s. has_call s ≡ true) sizes values pass page (λ _. refl) (λ _ _. refl) may
+load_busy sizes values pass (DIRTY unit) may = looked_at (λ s. has_call s ≡ true) sizes values pass may.0 (λ _. refl) (λ _ _. refl) may.1
 load_busy sizes values pass (HINT buffer) may = busy _ _ may.is refl
 load_busy sizes values pass word may = absurd may
 
 take_busy : (pass : Pass) (word : Word) → MayTake pass word → has_call pass.control ≡ true
-take_busy pass (PAGE page) may = tried_at (λ s. has_call s ≡ true) pass page refl (λ _ _ _. refl) may
+take_busy pass (PAGE page) may = tried_at (λ s. has_call s ≡ true) pass page (λ _. refl) (λ _ _ _. refl) may
 take_busy pass (SIZE file) may = busy _ _ may.0 refl
 take_busy pass (STORE file) may = busy _ _ may.2 refl
-take_busy pass (CLEANUP page) may = busy _ _ may refl
+take_busy pass (CLEANUP unit) may = busy _ _ may.1 refl
 take_busy pass word may = absurd may
 
 back_busy : (control : Control) → IsGivingBack control → has_call control ≡ true
@@ -144,7 +144,7 @@ step_idle sizes values pass (Place reply) may = place_busy sizes values pass rep
 step_idle sizes values pass Stop may = fail_busy pass.control may
 step_idle sizes values pass Draw may = busy _ _ may refl
 step_idle sizes values pass (Seize number) may = busy _ _ may refl
-step_idle sizes values pass (Pledge page) may = busy _ _ may refl
+step_idle sizes values pass (Pledge unit) may = busy _ _ may.1 refl
 step_idle sizes values pass (Ready number) may = busy _ _ may refl
 step_idle sizes values pass Grow may = busy _ _ may refl
 step_idle sizes values pass (Break number) may = busy _ _ may refl

@@ -56,7 +56,7 @@ page_slot sizes call page number allowed is = mod_below number sizes.entries (le
 -- what it needs that they are made on words of the mount
 record Grounds (sizes : Sizes) (values : Values) (pass : Pass) : Type 0 where
   stands : ControlFacts sizes pass
-  knows : KnowsAt sizes values pass.pages pass.control
+  knows : KnowsAt sizes values pass.units pass.control
   gives : (cell : Word) → MayGive pass cell pass.control → IsWord sizes cell
   by_cleaner : (cleaner_op : CleanerOp) → CleanerEnabled sizes pass cleaner_op pass.control → IsWord sizes (cleaner_word sizes cleaner_op)
 
@@ -64,11 +64,15 @@ module _ (sizes : Sizes) (values : Values) (pass : Pass) (grounds : Grounds size
   stands_at : (control : Control) → pass.control ≡ control → FactsAt sizes pass control
   stands_at control is = subst (FactsAt sizes pass) is grounds.stands.at
 
-  knows_at : (control : Control) → pass.control ≡ control → KnowsAt sizes values pass.pages control
-  knows_at control is = subst (KnowsAt sizes values pass.pages) is grounds.knows
+  knows_at : (control : Control) → pass.control ≡ control → KnowsAt sizes values pass.units control
+  knows_at control is = subst (KnowsAt sizes values pass.units) is grounds.knows
 
   file_known : (file : ℕ) → IsAllowed sizes pass.call → file ≡ file_of pass.call → file < sizes.files
   file_known file allowed is = subst (λ f. f < sizes.files) (sym is) allowed.known
+
+  -- the unit of a page of the call
+  unit_within : (unit page : ℕ) → IsAllowed sizes pass.call → IsPage sizes pass.call page → unit ≡ pass.units page → unit < page_total sizes
+  unit_within unit page allowed is same = subst (λ u. u < page_total sizes) (sym same) (grounds.stands.within page (page_within sizes pass.call page allowed is))
 
   load_word : (word : Word) → IsAllowed sizes pass.call → MayLoad sizes values pass word → IsWord sizes word
   load_word STOP allowed may = tt
@@ -77,16 +81,16 @@ module _ (sizes : Sizes) (values : Values) (pass : Pass) (grounds : Grounds size
   load_word TAIL allowed may = tt
   load_word (LENGTH file) allowed may = file_known file allowed may.1
   load_word (ENTRY slot) allowed may = subst (λ s. s < sizes.entries) (sym may.3) (page_slot sizes pass.call may.0 may.1 allowed (stands_at (LoadEntry may.0 may.1) may.2).0.1)
-  load_word (DIRTY page) allowed may = page_within sizes pass.call page allowed (missed_page sizes values pass page may.tries grounds.stands.at may.miss).1
+  load_word (DIRTY unit) allowed may = unit_within unit may.0 allowed (missed_page sizes values pass may.0 may.1.tries grounds.stands.at may.1.miss).1 may.2
   load_word (HINT buffer) allowed may = (knows_at (Searching may.page may.tries (LoadHint buffer)) may.is).0
   load_word word allowed may = absurd may
 
   take_word : (cell : Word) → IsAllowed sizes pass.call → MayTake pass cell → IsWord sizes cell
-  take_word (PAGE page) allowed (inl at) = page_within sizes pass.call page allowed (stands_at (TakePage page) at).0
-  take_word (PAGE page) allowed (inr may) = (knows_at (Searching may.page may.tries (TakeVictim may.buffer page)) may.is).1
+  take_word (PAGE unit) allowed (inl (page, at, same)) = unit_within unit page allowed (stands_at (TakePage page) at).0 same
+  take_word (PAGE unit) allowed (inr may) = (knows_at (Searching may.page may.tries (TakeVictim may.buffer unit)) may.is).1
   take_word (SIZE file) allowed may = file_known file allowed may.1
   take_word (STORE file) allowed may = file_known file allowed may.3
-  take_word (CLEANUP page) allowed may = page_within sizes pass.call page allowed (stands_at (TakeCleanup page) may).1
+  take_word (CLEANUP unit) allowed (page, at, same) = unit_within unit page allowed (stands_at (TakeCleanup page) at).1 same
   take_word cell allowed may = absurd may
 
   call_word : (op : Op) → IsAllowed sizes pass.call → EnabledByKind sizes values pass op → IsWord sizes (word_of sizes pass op)
@@ -97,7 +101,7 @@ module _ (sizes : Sizes) (values : Values) (pass : Pass) (grounds : Grounds size
   call_word Stop allowed may = tt
   call_word Draw allowed may = tt
   call_word (Seize number) allowed may = slot_less sizes pass number (stands_at (SeizeEntry number) may).0 allowed
-  call_word (Pledge page) allowed may = page_within sizes pass.call page allowed (stands_at (PledgePage page) may).1
+  call_word (Pledge unit) allowed (page, at, same) = unit_within unit page allowed (stands_at (PledgePage page) at).1 same
   call_word (Ready number) allowed may = slot_less sizes pass number (stands_at (ReadyEntry number) may).0 allowed
   call_word Grow allowed may = allowed.known
   call_word (Break number) allowed may = slot_less sizes pass number (stands_at (BreakEntry number) may).0 allowed
@@ -105,7 +109,7 @@ module _ (sizes : Sizes) (values : Values) (pass : Pass) (grounds : Grounds size
   call_word (Hold number) allowed may = page_slot sizes pass.call may.0 number allowed (stands_at (HoldEntry may.0 number) may.1).0.1
   call_word (Return number) allowed may = page_slot sizes pass.call may.0 number allowed (stands_at (ReturnEntry may.0 number may.1) may.2).0.1
   call_word (Turn page) allowed may = tt
-  call_word (Hint buffer page) allowed may = knows_at (Searching page may.tries (VictimGiven buffer)) may.is
+  call_word (Hint buffer unit) allowed may = knows_at (Searching may.page may.tries (VictimGiven buffer)) may.is
   call_word op allowed may = absurd may
 
   step_word : (op : Op) → EnabledByKind sizes values pass op → IsWord sizes (word_of sizes pass op)
@@ -120,10 +124,10 @@ do_word sizes by core (Join number) grounds may = tt
 do_word sizes by core op grounds may = step_word sizes core.values (core.passes by) grounds op may
 
 -- a call that begins gives nothing back, and is no batch
-begun_grounds : (sizes : Sizes) (values : Values) (call : FileCall) (pass : Pass) → IsAllowed sizes (plain_call call) → Grounds sizes values (begun sizes call pass)
-begun_grounds sizes values call pass allowed = record {
-  stands = control_facts_begins sizes call pass allowed;
-  knows = if_both (KnowsAt sizes values []) (page_count sizes (plain_call call) == 0) LoadStop (TakePage (first_page sizes (plain_call call))) (λ _. tt) (λ _. tt);
+begun_grounds : (sizes : Sizes) (values : Values) (call : FileCall) (pass : Pass) → IsAllowed sizes (plain_call call) → ControlFacts sizes pass → Grounds sizes values (begun sizes call pass)
+begun_grounds sizes values call pass allowed stood = record {
+  stands = control_facts_begins sizes call pass allowed stood.within;
+  knows = if_both (KnowsAt sizes values pass.units) (page_count sizes (plain_call call) == 0) LoadStop (TakePage (first_page sizes (plain_call call))) (λ _. tt) (λ _. tt);
   gives = λ cell may. absurd (if_both (λ s. IsGivingBack s → ⊥) (page_count sizes (plain_call call) == 0) LoadStop (TakePage (first_page sizes (plain_call call))) (λ _ z. z) (λ _ z. z) (gives_back (begun sizes call pass) cell (first_control sizes (plain_call call)) may));
   by_cleaner = λ cleaner_op may. absurd (if_both (λ s. CleanerEnabled sizes (begun sizes call pass) cleaner_op s → ⊥) (page_count sizes (plain_call call) == 0) LoadStop (TakePage (first_page sizes (plain_call call))) (λ _ z. z) (λ _ z. z) may);
 }
@@ -217,7 +221,7 @@ module _ (sizes : Sizes) (first : Values) (core : Core) (sound : Sound sizes fir
     act_word : (act : Act) → ActEnabledByKind sizes by core act → IsOnWord sizes by core act
     act_word (BeginsCall call op found) may =
         do_word sizes by (after_begin sizes by call core) op
-        (subst (Grounds sizes core.values) (sym (number_here core.passes by (begun sizes call (core.passes by)))) (begun_grounds sizes core.values call (core.passes by) may.0.allowed)) may.1.may
+        (subst (Grounds sizes core.values) (sym (number_here core.passes by (begun sizes call (core.passes by)))) (begun_grounds sizes core.values call (core.passes by) may.0.allowed (sound.control_facts by))) may.1.may
     act_word (TakesStep op found) may = do_word sizes by core op grounds may.may
     act_word (CallsDevice work) may = tt
 

@@ -2,14 +2,14 @@
 use Rattle.std.proofs.Common.{◌≡◌, ℕ, ◌+◌, ◌^◌, ◌==◌, nat_lt, nat_le, not, ◌&&◌, true, false, if◌then◌else◌, List, inl, inr, refl, sym, subst}
 use Rattle.std.specs.Prelude.{Option, Some, None}
 use Rattle.nv_core.specs.state.Words.{Sizes, Word, STOP, ORDER, HEAD, TAIL, LENGTH, SIZE, STORE, ENTRY, HINT, PAGE, CLEANUP, DIRTY, ready, is_entry_of, slot_of_entry}
-use Rattle.nv_core.specs.state.Passes.{Control, Idle, LoadLength, TakeSize, LoadStop, LoadOrder, VisitPage, TakeCleanup, TakeStore, ReadStore, GiveStore, ReadLoadHead, ReadLoadTail, LoadEntry, HoldEntry, ReadPiece, ReturnEntry, GiveCleanup, WriteLoadHead, WriteLoadTail, DrawNumbers, SeizeEntry, CommitGroup, PledgePage, ReadyEntry, TakePlace, GrowLength, GiveSize, GivePage, GiveBack, SetStopAfterRead, SetStopAfterPiece, SetStopAfterCommit, BreakEntry, Cleaning, Searching, Pass, is_write, is_read, page_count, first_page, end_page, without, TakePage}
+use Rattle.nv_core.specs.state.Passes.{Control, Idle, LoadLength, TakeSize, LoadStop, LoadOrder, VisitPage, TakeCleanup, TakeStore, ReadStore, GiveStore, ReadLoadHead, ReadLoadTail, LoadEntry, HoldEntry, ReadPiece, ReturnEntry, GiveCleanup, WriteLoadHead, WriteLoadTail, DrawNumbers, SeizeEntry, CommitGroup, PledgePage, ReadyEntry, TakePlace, GrowLength, GiveSize, GivePage, GiveBack, SetStopAfterRead, SetStopAfterPiece, SetStopAfterCommit, BreakEntry, Cleaning, Searching, Pass, is_write, is_read, page_count, first_page, end_page, page_of_unit, without, TakePage}
 use Rattle.nv_core.specs.steps.Ops.{Op, Load, Take, Give, Place, Stop, Draw, Seize, Pledge, Ready, Grow, Break, Turn, Hint, Hold, Return, ByCleaner, cleaner_move, moved}
 use Rattle.nv_core.specs.steps.ControlSteps.{control_after, after_load, after_give, after_stop, after_head, after_tail, after_look, after_hold, after_return, scanning, leaving, giving, ending, ordered, copying, exceeds}
 use Rattle.nv_core.specs.steps.Order.{Values, IsFailing}
 use Rattle.nv_core.specs.steps.StepKinds.{MayLoad, MayTake, EnabledByKind}
 use Rattle.nv_core.proofs.state.Choices.{if_both, leaving_both, IsGivingBack, gives_back, page_tried}
 use Rattle.nv_core.proofs.steps.CleanerControls.{tended_to}
-use Rattle.nv_core.proofs.steps.SearchLaws.{hinting_next}
+use Rattle.nv_core.proofs.steps.SearchLaws.{hinting_next, clearing_next, hinted_next}
 
 -- the page that a read has fetched and is at, until it gives CLEANUP back
 abbrev pub piece_page : Control → Option ℕ
@@ -82,18 +82,20 @@ module _ (sizes : Sizes) (values : Values) (pass : Pass) (P : Control → Type 0
   to_loaded (ENTRY slot) found may is =
       let here = subst P may.2 is in
       subst (λ s. P (after_look pass found s)) (sym may.2)
-      (if_both P (is_entry_of ready may.0 found) (HoldEntry may.0 may.1) (scanning pass may.0 (may.1 + 1)) (λ _. piece may.0 (LoadEntry may.0 may.1) (HoldEntry may.0 may.1) refl refl here)
+      (if_both P (is_entry_of ready (pass.units may.0) found) (HoldEntry may.0 may.1) (scanning pass may.0 (may.1 + 1)) (λ _. piece may.0 (LoadEntry may.0 may.1) (HoldEntry may.0 may.1) refl refl here)
       (λ _. to_scanning (LoadEntry may.0 may.1) may.0 (may.1 + 1) refl here))
-  to_loaded (DIRTY page) found may is = if_both P (found == 0) (TakeStore page false) (TakeCleanup page) (λ _. plain (TakeStore page false) tt) (λ _. plain (TakeCleanup page) tt)
+  to_loaded (DIRTY unit) found may is =
+      let page = page_of_unit sizes pass unit in
+      if_both P (found == 0) (TakeStore page false) (TakeCleanup page) (λ _. plain (TakeStore page false) tt) (λ _. plain (TakeCleanup page) tt)
   to_loaded (HINT buffer) found may is = hinting_next P sizes pass buffer found may (plain (Searching may.page may.tries _) tt)
   to_loaded word found may is = absurd may
 
   to_taken : (cell : Word) (found : ℕ) → MayTake pass cell → P (control_after sizes pass (Take cell) found)
-  to_taken (PAGE page) found may = page_tried P sizes pass page found (plain LoadLength tt) (plain (TakePage (page + 1)) tt) (to_leaving pass.owned) (λ missed tries search. plain (Searching missed tries search) tt) may
+  to_taken (PAGE page) found may = page_tried P sizes pass page found (plain LoadLength tt) (λ page. plain (TakePage (page + 1)) tt) (to_leaving pass.owned) (λ missed tries search. plain (Searching missed tries search) tt) may
   to_taken (SIZE file) found may = if_both P (found == 0) LoadLength (leaving pass.owned) (λ _. plain LoadLength tt) (λ _. to_leaving pass.owned)
   to_taken (STORE file) found may = if_both P (found == 0) (copying pass.control) (leaving pass.owned)
       (λ _. subst (λ s. P (copying s)) (sym may.2) (plain (ReadStore may.0 may.1) tt)) (λ _. to_leaving pass.owned)
-  to_taken (CLEANUP page) found may = if_both P (found == 0) (TakeStore page true) (leaving pass.owned) (λ _. plain (TakeStore page true) tt) (λ _. to_leaving pass.owned)
+  to_taken (CLEANUP unit) found may = clearing_next P sizes pass unit found may (if_both P (found == 0) (TakeStore may.0 true) (leaving pass.owned) (λ _. plain (TakeStore may.0 true) tt) (λ _. to_leaving pass.owned))
   to_taken cell found may = absurd may
 
   to_given : (cell : Word) (control : Control) → IsGivingBack control → P control → P (after_give sizes pass cell control)
@@ -130,7 +132,7 @@ module _ (sizes : Sizes) (values : Values) (pass : Pass) (P : Control → Type 0
       (if_both P may.1 (leaving (without (ENTRY (slot_of_entry sizes number)) pass.owned)) (scanning pass may.0 (number + 1)) (λ _. to_leaving (without (ENTRY (slot_of_entry sizes number)) pass.owned))
       (λ _. to_scanning (ReturnEntry may.0 number may.1) may.0 (number + 1) refl here))
   control_kept found (Turn page) which may is = plain (Searching page _ _) tt
-  control_kept found (Hint buffer page) which may is = plain (Searching page _ _) tt
+  control_kept found (Hint buffer unit) which may is = hinted_next P values pass buffer unit may (plain (Searching may.page _ _) tt)
   control_kept found Draw which may is = absurd which
   control_kept found (Seize number) which may is = absurd which
   control_kept found (Pledge page) which may is = absurd which

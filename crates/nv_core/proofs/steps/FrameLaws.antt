@@ -8,7 +8,7 @@ use Rattle.nv_core.specs.state.Values.{Value, Job, PageRead, CallEnding, Made, c
 use Rattle.nv_core.specs.state.Passes.{Control, ReadStore, GiveVictim, Searching, GiveCleanup, PledgePage, Pass, times, fetched_bytes}
 use Rattle.nv_core.specs.steps.Ops.{Op, Give, Pledge, Split, Join, patched_by}
 use Rattle.nv_core.specs.steps.Order.{Values, Work, CallEnabled}
-use Rattle.nv_core.specs.state.Core.{Core, with_value, values_read, values_worked, values_robbed, values_given, values_stepped, changes, changed_pass, made_stepped, ended_stepped, after_step, after_begin}
+use Rattle.nv_core.specs.state.Core.{Core, with_value, values_read, values_worked, values_robbed, values_given, values_stepped, changes, changed_pass, made_stepped, ended_stepped, after_step, after_begin, pledging}
 use Rattle.nv_core.specs.invariant.ControlFacts.{FactsAt, PagesAt}
 use Rattle.nv_core.specs.invariant.Ownership.{HoldsLocks}
 use Rattle.nv_core.specs.steps.Events.{Event, Act, BeginsCall, TakesStep, CallsDevice, after_act, after_event, after_run, IsRun, own, EventEnabled}
@@ -32,31 +32,33 @@ away : (owned : List Word) (values : Values) (word : Word) (value : Value) (cell
 away owned values word value cell some none = word_else values word value cell (λ e. let t = ap (λ w. times w owned) e in omega (arith, t, some, none))
 
 module _ (sizes : Sizes) (pass : Pass) (values : Values) (cell : Word) (none : times cell pass.owned ≡ 0) where
-  page_away : (value : Value) (page : ℕ) → times (PAGE page) pass.owned ≡ 1 → with_value values (PAGE page) value cell ≡ values cell
-  page_away value page one = away pass.owned values (PAGE page) value cell (omega (arith, one)) none
+  page_away : (value : Value) (unit : ℕ) → times (PAGE unit) pass.owned ≡ 1 → with_value values (PAGE unit) value cell ≡ values cell
+  page_away value unit one = away pass.owned values (PAGE unit) value cell (omega (arith, one)) none
 
-  robbed_away : (control : Control) → FactsAt sizes pass control → PagesAt sizes pass control → HoldsLocks sizes pass control → values_robbed pass.pages control values cell ≡ values cell
+  robbed_away : (control : Control) → FactsAt sizes pass control → PagesAt sizes pass control → HoldsLocks sizes pass control → values_robbed pass.units control values cell ≡ values cell
   robbed_away (Searching page tries (GiveVictim buffer victim)) stands pages held =
-      away pass.owned (with_value values (PAGE page) (received (values (PAGE victim)) (values (PAGE page)))) (PAGE victim) (emptied (values (PAGE victim))) cell
+      let unit = pass.units page in
+      away pass.owned (with_value values (PAGE unit) (received (values (PAGE victim)) (values (PAGE unit)))) (PAGE victim) (emptied (values (PAGE victim))) cell
       (given_held sizes pass (PAGE victim) (Searching page tries (GiveVictim buffer victim)) stands pages held refl) none
-      ∙ page_away (received (values (PAGE victim)) (values (PAGE page))) page (searching_holds sizes pass page tries (GiveVictim buffer victim) stands pages held page stands.1)
+      ∙ page_away (received (values (PAGE victim)) (values (PAGE unit))) unit (searching_holds sizes pass page tries (GiveVictim buffer victim) stands pages held page stands.1)
   robbed_away control stands pages held = refl
 
   given_away : (control : Control) → FactsAt sizes pass control → PagesAt sizes pass control → HoldsLocks sizes pass control → values_given pass control values cell ≡ values cell
-  given_away (GiveCleanup page) stands pages held = page_away (filled (fetched_bytes pass.fetched page) (values (PAGE page))) page (whole_holds sizes pass (GiveCleanup page) tt pages held page stands.1)
+  given_away (GiveCleanup page) stands pages held = page_away (filled (fetched_bytes pass.fetched page) (values (PAGE (pass.units page)))) (pass.units page) (whole_holds sizes pass (GiveCleanup page) tt pages held page stands.1)
   given_away control stands pages held = robbed_away control stands pages held
 
-  read_away : (job : Job) (how : CallEnding) (control : Control) → FactsAt sizes pass control → PagesAt sizes pass control → HoldsLocks sizes pass control → values_read pass.pages job how control values cell ≡ values cell
-  read_away (PageRead at bytes) Made (ReadStore page false) stands pages held = page_away (filled bytes (values (PAGE page))) page (whole_holds sizes pass (ReadStore page false) tt pages held page stands.1)
+  read_away : (job : Job) (how : CallEnding) (control : Control) → FactsAt sizes pass control → PagesAt sizes pass control → HoldsLocks sizes pass control → values_read pass.units job how control values cell ≡ values cell
+  read_away (PageRead at bytes) Made (ReadStore page false) stands pages held = page_away (filled bytes (values (PAGE (pass.units page)))) (pass.units page) (whole_holds sizes pass (ReadStore page false) tt pages held page stands.1)
   read_away job how control stands pages held = refl
 
 step_away : (sizes : Sizes) (first : Values) (by : ℕ) (core : Core) (op : Op) → Sound sizes first core → StepEnabledByKind sizes by core op → (cell : Word) → times cell (core.passes by).owned ≡ 0
     → values_stepped sizes (core.passes by) op core.values cell ≡ core.values cell
-step_away sizes first by core (Pledge page) sound may cell none =
-    let stands : FactsAt sizes (core.passes by) (PledgePage page) = subst (FactsAt sizes (core.passes by)) may (sound.control_facts by).at in
-    let pages : PagesAt sizes (core.passes by) (PledgePage page) = subst (PagesAt sizes (core.passes by)) may (sound.control_facts by).pages in
-    let held = subst (HoldsLocks sizes (core.passes by)) may (sound.ownership by).locks in
-    page_away sizes (core.passes by) core.values cell none (patched_by sizes (core.passes by).call page (core.values (PAGE page))) page (whole_holds sizes (core.passes by) (PledgePage page) tt pages held page stands.1)
+step_away sizes first by core (Pledge unit) sound (page, at, same) cell none =
+    let stands : FactsAt sizes (core.passes by) (PledgePage page) = subst (FactsAt sizes (core.passes by)) at (sound.control_facts by).at in
+    let pages : PagesAt sizes (core.passes by) (PledgePage page) = subst (PagesAt sizes (core.passes by)) at (sound.control_facts by).pages in
+    let held = subst (HoldsLocks sizes (core.passes by)) at (sound.ownership by).locks in
+    page_away sizes (core.passes by) core.values cell none (patched_by sizes (core.passes by).call (pledging (core.passes by).control) (core.values (PAGE unit))) unit
+    (ap (λ u. times (PAGE u) (core.passes by).owned) same ∙ whole_holds sizes (core.passes by) (PledgePage page) tt pages held page stands.1)
 step_away sizes first by core (Give given) sound may cell none = given_away sizes (core.passes by) core.values cell none (core.passes by).control (sound.control_facts by).at (sound.control_facts by).pages (sound.ownership by).locks
 step_away sizes first by core op sound may cell none = refl
 

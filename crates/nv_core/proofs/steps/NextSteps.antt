@@ -24,36 +24,36 @@ Comes sizes values pass (Some op) = EnabledByKind sizes values pass op
 
 module _ (sizes : Sizes) (values : Values) (pass : Pass) where
   -- a page that is missed, after so many tries
-  miss_comes : (page tries : ℕ) → IsMiss sizes values pass page tries → EnabledByKind sizes values pass (miss sizes values page tries)
-  miss_comes page tries is = if_both (EnabledByKind sizes values pass) (lacks_buffer (values (PAGE page)) && nat_lt tries (2 * sizes.buffers)) (Turn page) (Load (DIRTY page))
-      (λ so. let both = and_parts (lacks_buffer (values (PAGE page))) (nat_lt tries (2 * sizes.buffers)) so in record { tries = tries; miss = is; lacks = both.0; few = ltb-true tries (2 * sizes.buffers) both.1 })
-      (λ not_so. record { tries = tries; miss = is; enough = enough (lacks_buffer (values (PAGE page))) not_so })
+  miss_comes : (page tries : ℕ) → IsMiss sizes values pass page tries → EnabledByKind sizes values pass (miss sizes values pass.units page tries)
+  miss_comes page tries is = if_both (EnabledByKind sizes values pass) (lacks_buffer (values (PAGE (pass.units page))) && nat_lt tries (2 * sizes.buffers)) (Turn page) (Load (DIRTY (pass.units page)))
+      (λ so. let both = and_parts (lacks_buffer (values (PAGE (pass.units page)))) (nat_lt tries (2 * sizes.buffers)) so in record { tries = tries; miss = is; lacks = both.0; few = ltb-true tries (2 * sizes.buffers) both.1 })
+      (λ not_so. (page, record { tries = tries; miss = is; enough = enough (lacks_buffer (values (PAGE (pass.units page)))) not_so }, refl))
     where
       enough : (lacks : Bool) → (lacks && nat_lt tries (2 * sizes.buffers)) ≡ false → (lacks ≡ false) ⊎ (2 * sizes.buffers ≤ tries)
       enough true not_so = inr (ltb-false tries (2 * sizes.buffers) not_so)
       enough false not_so = inl refl
 
   -- a read that has looked at the pages from one on up to another
-  read_comes : (from page count : ℕ) → pass.control ≡ VisitPage from → from ≤ page → AreValid values from page → end_read sizes pass.call pass.length - page ≡ count
+  read_comes : (from page count : ℕ) → pass.control ≡ VisitPage from → from ≤ page → AreValid values pass.units from page → end_read sizes pass.call pass.length - page ≡ count
       → EnabledByKind sizes values pass (read_on sizes values pass page count)
   read_comes from page zero at low valid left =
       subst (λ s. MayPlace sizes values pass (Bytes (gathered sizes values pass)) s) (sym at) (λ p above below. valid p above (omega (arith, left, below)), refl)
-  read_comes from page (suc count) at low valid left = if_both (EnabledByKind sizes values pass) (is_valid (values (PAGE page))) (read_on sizes values pass (page + 1) count) (miss sizes values page 0)
+  read_comes from page (suc count) at low valid left = if_both (EnabledByKind sizes values pass) (is_valid (values (PAGE (pass.units page)))) (read_on sizes values pass (page + 1) count) (miss sizes values pass.units page 0)
       (λ so. read_comes from (page + 1) count at (omega (arith, low)) (more so) (omega (arith, left)))
       (λ not_so. miss_comes page 0 (JustNow from record { control = at; later = low; within = omega (arith, left); passed = valid; missed = not_so } refl))
     where
-      more : is_valid (values (PAGE page)) ≡ true → AreValid values from (page + 1)
+      more : is_valid (values (PAGE (pass.units page))) ≡ true → AreValid values pass.units from (page + 1)
       more so p above below = elim (cases_eq p page) [
-        | inl same ↦ subst (λ q. is_valid (values (PAGE q)) ≡ true) (sym same) so
+        | inl same ↦ subst (λ q. is_valid (values (PAGE (pass.units q))) ≡ true) (sym same) so
         | inr ne ↦ valid p above (omega (arith, below, ne))
       ]
 
-  search_comes : (page tries : ℕ) (search : Search) → pass.control ≡ Searching page tries search → EnabledByKind sizes values pass (search_on sizes values page tries search)
+  search_comes : (page tries : ℕ) (search : Search) → pass.control ≡ Searching page tries search → EnabledByKind sizes values pass (search_on sizes values pass.units page tries search)
   search_comes page tries (LoadHint buffer) at = record { page = page; tries = tries; is = at }
   search_comes page tries (TakeVictim buffer victim) at = inr record { page = page; tries = tries; buffer = buffer; is = at }
   search_comes page tries (GiveVictim buffer victim) at = subst (λ s. MayGive pass (PAGE victim) s) (sym at) refl
-  search_comes page tries (VictimGiven buffer) at = if_both (EnabledByKind sizes values pass) (lacks_buffer (values (PAGE page))) (miss sizes values page tries) (Hint buffer page)
-      (λ so. miss_comes page tries (AfterTries (VictimGiven buffer) at so)) (λ not_so. record { tries = tries; is = at; has = not_so })
+  search_comes page tries (VictimGiven buffer) at = if_both (EnabledByKind sizes values pass) (lacks_buffer (values (PAGE (pass.units page)))) (miss sizes values pass.units page tries) (Hint buffer (pass.units page))
+      (λ so. miss_comes page tries (AfterTries (VictimGiven buffer) at so)) (λ not_so. record { page = page; tries = tries; is = at; unit_is = refl; has = not_so })
   search_comes page tries NotFound at = miss_comes page tries (AfterTries NotFound at tt)
   search_comes page tries HintSet at = miss_comes page tries (AfterTries HintSet at tt)
 
@@ -74,14 +74,14 @@ module _ (sizes : Sizes) (values : Values) (pass : Pass) where
   cleaner_op_comes batch inner (Some cleaner_op) at is = subst (CleanerEnabled sizes pass cleaner_op) (sym at) is
 
   comes : (control : Control) → pass.control ≡ control → Comes sizes values pass (step_at sizes values pass control)
-  comes (TakePage page) at = inl at
+  comes (TakePage page) at = inl (page, at, refl)
   comes LoadLength at = (at, refl)
   comes TakeSize at = (at, refl)
   comes LoadStop at = at
   comes LoadOrder at = at
   comes (VisitPage page) at = read_comes page page (end_read sizes pass.call pass.length - page) at (omega arith) (λ p above below. absurd (omega (arith, above, below))) refl
   comes (Searching page tries search) at = search_comes page tries search at
-  comes (TakeCleanup page) at = at
+  comes (TakeCleanup page) at = (page, at, refl)
   comes (TakeStore page dirty) at = (page, dirty, at, refl)
   comes (GiveStore page dirty) at = subst (λ s. MayGive pass (STORE (file_of pass.call)) s) (sym at) refl
   comes (ReadLoadHead page) at = inr (page, at)
@@ -89,17 +89,17 @@ module _ (sizes : Sizes) (values : Values) (pass : Pass) where
   comes (LoadEntry page number) at = (page, number, at, refl)
   comes (HoldEntry page number) at = (page, at)
   comes (ReturnEntry page number failed) at = (page, failed, at)
-  comes (GiveCleanup page) at = subst (λ s. MayGive pass (CLEANUP page) s) (sym at) refl
+  comes (GiveCleanup page) at = subst (λ s. MayGive pass (CLEANUP (pass.units page)) s) (sym at) refl
   comes WriteLoadHead at = inl at
   comes WriteLoadTail at = inl at
   comes DrawNumbers at = at
   comes (SeizeEntry number) at = at
-  comes (PledgePage page) at = at
+  comes (PledgePage page) at = (page, at, refl)
   comes (ReadyEntry number) at = at
   comes TakePlace at = subst (λ s. MayPlace sizes values pass (plain_reply pass.call) s) (sym at) refl
   comes GrowLength at = at
   comes GiveSize at = subst (λ s. MayGive pass (SIZE (file_of pass.call)) s) (sym at) refl
-  comes (GivePage page) at = subst (λ s. MayGive pass (PAGE page) s) (sym at) refl
+  comes (GivePage page) at = subst (λ s. MayGive pass (PAGE (pass.units page)) s) (sym at) refl
   comes GiveBack at = last_comes pass.owned at refl
   comes (SetStopAfterRead page dirty) at = subst IsFailing (sym at) tt
   comes (SetStopAfterPiece page number) at = subst IsFailing (sym at) tt
@@ -135,7 +135,7 @@ module _ (sizes : Sizes) (values : Values) (pass : Pass) where
   at_control control at = ap (step_at sizes values pass) at
 
   -- a read goes on behind so many pages, all of which count
-  passes_over : (steps page count : ℕ) → ((p : ℕ) → page ≤ p → p < page + steps → is_valid (values (PAGE p)) ≡ true)
+  passes_over : (steps page count : ℕ) → ((p : ℕ) → page ≤ p → p < page + steps → is_valid (values (PAGE (pass.units p))) ≡ true)
       → read_on sizes values pass page (steps + count) ≡ read_on sizes values pass (page + steps) count
   passes_over zero page count valid =
       let one : zero + count ≡ count = omega arith in let same : page ≡ page + zero = omega arith in
@@ -143,11 +143,11 @@ module _ (sizes : Sizes) (values : Values) (pass : Pass) where
   passes_over (suc steps) page count valid =
       let one : suc steps + count ≡ suc (steps + count) = omega arith in let same : page + 1 + steps ≡ page + suc steps = omega arith in
       ap (read_on sizes values pass page) one
-      ∙ (when_true (is_valid (values (PAGE page))) (read_on sizes values pass (page + 1) (steps + count)) (miss sizes values page 0) (valid page (omega arith) (omega arith))
+      ∙ (when_true (is_valid (values (PAGE (pass.units page)))) (read_on sizes values pass (page + 1) (steps + count)) (miss sizes values pass.units page 0) (valid page (omega arith) (omega arith))
       ∙ (passes_over steps (page + 1) count (λ p low high. valid p (omega (arith, low)) (omega (arith, high)))
       ∙ ap (λ p. read_on sizes values pass p count) same))
 
-  missed : (page tries : ℕ) → IsMiss sizes values pass page tries → Next (miss sizes values page tries)
+  missed : (page tries : ℕ) → IsMiss sizes values pass page tries → Next (miss sizes values pass.units page tries)
   missed page tries (JustNow from at none) =
       let low = at.later in let within = at.within in
       let all : end_read sizes pass.call pass.length - from ≡ (page - from) + suc (end_read sizes pass.call pass.length - page - 1) = omega (arith, low, within) in
@@ -156,11 +156,11 @@ module _ (sizes : Sizes) (values : Values) (pass : Pass) where
       ∙ ap Some (ap (read_on sizes values pass from) all
       ∙ (passes_over (page - from) from (suc (end_read sizes pass.call pass.length - page - 1)) (λ p above below. at.passed p above (omega (arith, below, low)))
       ∙ (ap (λ p. read_on sizes values pass p (suc (end_read sizes pass.call pass.length - page - 1))) same
-      ∙ (when_false (is_valid (values (PAGE page))) (read_on sizes values pass (page + 1) (end_read sizes pass.call pass.length - page - 1)) (miss sizes values page 0) at.missed
-      ∙ ap (miss sizes values page) (sym none)))))
+      ∙ (when_false (is_valid (values (PAGE (pass.units page)))) (read_on sizes values pass (page + 1) (end_read sizes pass.call pass.length - page - 1)) (miss sizes values pass.units page 0) at.missed
+      ∙ ap (miss sizes values pass.units page) (sym none)))))
   missed page tries (AfterTries (VictimGiven buffer) at over) =
       at_control (Searching page tries (VictimGiven buffer)) at
-      ∙ ap Some (when_true (lacks_buffer (values (PAGE page))) (miss sizes values page tries) (Hint buffer page) over)
+      ∙ ap Some (when_true (lacks_buffer (values (PAGE (pass.units page)))) (miss sizes values pass.units page tries) (Hint buffer (pass.units page)) over)
   missed page tries (AfterTries NotFound at over) = at_control (Searching page tries NotFound) at
   missed page tries (AfterTries HintSet at over) = at_control (Searching page tries HintSet) at
   missed page tries (AfterTries (LoadHint buffer) at over) = absurd over
@@ -169,13 +169,13 @@ module _ (sizes : Sizes) (values : Values) (pass : Pass) where
 
   turns : (page : ℕ) → MayTurn sizes values pass page → Next (Turn page)
   turns page may = missed page may.tries may.miss
-      ∙ ap Some (when_true (lacks_buffer (values (PAGE page)) && nat_lt may.tries (2 * sizes.buffers)) (Turn page) (Load (DIRTY page))
-      (and_from (lacks_buffer (values (PAGE page))) (nat_lt may.tries (2 * sizes.buffers)) may.lacks (lt-ltb may.tries (2 * sizes.buffers) may.few)))
+      ∙ ap Some (when_true (lacks_buffer (values (PAGE (pass.units page))) && nat_lt may.tries (2 * sizes.buffers)) (Turn page) (Load (DIRTY (pass.units page)))
+      (and_from (lacks_buffer (values (PAGE (pass.units page)))) (nat_lt may.tries (2 * sizes.buffers)) may.lacks (lt-ltb may.tries (2 * sizes.buffers) may.few)))
 
-  looks_up : (page : ℕ) → MayLookUp sizes values pass page → Next (Load (DIRTY page))
+  looks_up : (page : ℕ) → MayLookUp sizes values pass page → Next (Load (DIRTY (pass.units page)))
   looks_up page may = missed page may.tries may.miss
-      ∙ ap Some (when_false (lacks_buffer (values (PAGE page)) && nat_lt may.tries (2 * sizes.buffers)) (Turn page) (Load (DIRTY page))
-      (neither (lacks_buffer (values (PAGE page))) (nat_lt may.tries (2 * sizes.buffers)) (elim may.enough [ inl has ↦ inl has | inr many ↦ inr (le-ltb may.tries (2 * sizes.buffers) many) ])))
+      ∙ ap Some (when_false (lacks_buffer (values (PAGE (pass.units page))) && nat_lt may.tries (2 * sizes.buffers)) (Turn page) (Load (DIRTY (pass.units page)))
+      (neither (lacks_buffer (values (PAGE (pass.units page)))) (nat_lt may.tries (2 * sizes.buffers)) (elim may.enough [ inl has ↦ inl has | inr many ↦ inr (le-ltb may.tries (2 * sizes.buffers) many) ])))
 
   loads : (word : Word) → MayLoad sizes values pass word → Next (Load word)
   loads (LENGTH file) may = at_control LoadLength may.0 ∙ ap (λ f. Some (Load (LENGTH f))) (sym may.1)
@@ -186,16 +186,16 @@ module _ (sizes : Sizes) (values : Values) (pass : Pass) where
   loads TAIL (inl at) = at_control WriteLoadTail at
   loads TAIL (inr at) = at_control (ReadLoadTail at.0) at.1
   loads (ENTRY slot) may = at_control (LoadEntry may.0 may.1) may.2 ∙ ap (λ s. Some (Load (ENTRY s))) (sym may.3)
-  loads (DIRTY page) may = looks_up page may
+  loads (DIRTY unit) may = looks_up may.0 may.1 ∙ ap (λ u. Some (Load (DIRTY u))) (sym may.2)
   loads (HINT buffer) may = at_control (Searching may.page may.tries (LoadHint buffer)) may.is
   loads word may = absurd may
 
   takes : (cell : Word) → MayTake pass cell → Next (Take cell)
-  takes (PAGE page) (inl at) = at_control (TakePage page) at
+  takes (PAGE unit) (inl at) = at_control (TakePage at.0) at.1 ∙ ap (λ u. Some (Take (PAGE u))) (sym at.2)
   takes (PAGE page) (inr may) = at_control (Searching may.page may.tries (TakeVictim may.buffer page)) may.is
   takes (SIZE file) may = at_control TakeSize may.0 ∙ ap (λ f. Some (Take (SIZE f))) (sym may.1)
   takes (STORE file) may = at_control (TakeStore may.0 may.1) may.2 ∙ ap (λ f. Some (Take (STORE f))) (sym may.3)
-  takes (CLEANUP page) may = at_control (TakeCleanup page) may
+  takes (CLEANUP unit) may = at_control (TakeCleanup may.0) may.1 ∙ ap (λ u. Some (Take (CLEANUP u))) (sym may.2)
   takes cell may = absurd may
 
   last : (cell : Word) (owned : List Word) → is_of_calls cell ≡ true → IsLastTaken cell owned → give_last owned ≡ Some (Give cell)
@@ -230,9 +230,9 @@ module _ (sizes : Sizes) (values : Values) (pass : Pass) where
   stops SetStopAfterCommit at may = at_control SetStopAfterCommit at
   stops control at may = absurd may
 
-  hints : (buffer page : ℕ) → MayHint values pass.control buffer page → Next (Hint buffer page)
-  hints buffer page may = at_control (Searching page may.tries (VictimGiven buffer)) may.is
-      ∙ ap Some (when_false (lacks_buffer (values (PAGE page))) (miss sizes values page may.tries) (Hint buffer page) may.has)
+  hints : (buffer unit : ℕ) → MayHint values pass buffer unit → Next (Hint buffer unit)
+  hints buffer unit may = at_control (Searching may.page may.tries (VictimGiven buffer)) may.is
+      ∙ ap Some (when_false (lacks_buffer (values (PAGE (pass.units may.page)))) (miss sizes values pass.units may.page may.tries) (Hint buffer (pass.units may.page)) may.has ∙ ap (Hint buffer) (sym may.unit_is))
 
   by_cleaner : (cleaner_op : CleanerOp) (control : Control) → pass.control ≡ control → CleanerEnabled sizes pass cleaner_op control → Enabled sizes values pass (ByCleaner cleaner_op)
   by_cleaner cleaner_op (Cleaning batch inner) at may = inl (at_control (Cleaning batch inner) at ∙ ap (option_map (λ c. ByCleaner c)) may)
@@ -247,7 +247,7 @@ steps_are_next sizes values pass (Place reply) may = inl (places sizes values pa
 steps_are_next sizes values pass Stop may = inl (stops sizes values pass pass.control refl may)
 steps_are_next sizes values pass Draw may = inl (at_control sizes values pass DrawNumbers may)
 steps_are_next sizes values pass (Seize number) may = inl (at_control sizes values pass (SeizeEntry number) may)
-steps_are_next sizes values pass (Pledge page) may = inl (at_control sizes values pass (PledgePage page) may)
+steps_are_next sizes values pass (Pledge unit) may = inl (at_control sizes values pass (PledgePage may.0) may.1 ∙ ap (λ u. Some (Pledge u)) (sym may.2))
 steps_are_next sizes values pass (Ready number) may = inl (at_control sizes values pass (ReadyEntry number) may)
 steps_are_next sizes values pass Grow may = inl (at_control sizes values pass GrowLength may)
 steps_are_next sizes values pass (Break number) may = inl (at_control sizes values pass (BreakEntry number) may)

@@ -13,7 +13,7 @@ use Rattle.nv_core.specs.state.Passes.{Control, VisitPage, ReadStore, ReadPiece,
 use Rattle.nv_core.specs.steps.Ops.{Op, Load, Give, Place, Pledge, Turn, Hint, patched_by}
 use Rattle.nv_core.specs.steps.Order.{Values, Work, CallEnabled, CallMayEnd, CallMayLeave, CallDue, CleanerCallDue, IsPieceRead, SaysOf, SaysPieceOf, gathered, page_bytes, page_start}
 use Rattle.nv_core.specs.steps.StepKinds.{MayLoad, MayPlace, MayTurn, MayLookUp, MayHint, IsMissed, IsMiss, JustNow, AfterTries, IsTryOver, EnabledByKind}
-use Rattle.nv_core.specs.state.Core.{with_value, values_read, values_worked, values_given, values_stepped}
+use Rattle.nv_core.specs.state.Core.{with_value, values_read, values_worked, values_given, values_stepped, pledging}
 use Rattle.nv_core.specs.invariant.ControlFacts.{ControlFacts, FactsAt, PagesAt}
 use Rattle.nv_core.specs.invariant.Ownership.{Ownership, HoldsLocks}
 use Rattle.nv_core.specs.steps.Frames.{AgreeOn, DependsOnOwned, PassesDependOnOwned}
@@ -48,21 +48,21 @@ module _ (sizes : Sizes) (pass : Pass) (one other : Values) (holds : Ownership s
   -- ---- pages
 
   -- a page that a read has bytes of
-  read_same : (from page : ℕ) → pass.control ≡ VisitPage from → first_page sizes pass.call ≤ page → page < end_read sizes pass.call pass.length → one (PAGE page) ≡ other (PAGE page)
-  read_same from page is low high = held_same (PAGE page)
+  read_same : (from page : ℕ) → pass.control ≡ VisitPage from → first_page sizes pass.call ≤ page → page < end_read sizes pass.call pass.length → one (PAGE (pass.units page)) ≡ other (PAGE (pass.units page))
+  read_same from page is low high = held_same (PAGE (pass.units page))
       (let most = read_within sizes pass.call pass.length in let h = whole_holds sizes pass (VisitPage from) tt (pages_at (VisitPage from) is) (locks_at (VisitPage from) is) page (low, omega (arith, most, high)) in omega (arith, h))
 
   -- and one from the next on
-  later_same : (from page : ℕ) → pass.control ≡ VisitPage from → from ≤ page → page < end_read sizes pass.call pass.length → one (PAGE page) ≡ other (PAGE page)
+  later_same : (from page : ℕ) → pass.control ≡ VisitPage from → from ≤ page → page < end_read sizes pass.call pass.length → one (PAGE (pass.units page)) ≡ other (PAGE (pass.units page))
   later_same from page is low high = let first = (stands_at (VisitPage from) is).1 in read_same from page is (omega (arith, first, low)) high
 
   -- the page that is searched a buffer for
-  searched_same : (page tries : ℕ) (search : Search) → pass.control ≡ Searching page tries search → one (PAGE page) ≡ other (PAGE page)
-  searched_same page tries search is = held_same (PAGE page)
+  searched_same : (page tries : ℕ) (search : Search) → pass.control ≡ Searching page tries search → one (PAGE (pass.units page)) ≡ other (PAGE (pass.units page))
+  searched_same page tries search is = held_same (PAGE (pass.units page))
       (let at = stands_at (Searching page tries search) is in let h = searching_holds sizes pass page tries search at (pages_at (Searching page tries search) is) (locks_at (Searching page tries search) is) page at.1 in omega (arith, h))
 
   -- the page that a read has missed
-  missed_same : (page tries : ℕ) → IsMiss sizes one pass page tries → one (PAGE page) ≡ other (PAGE page)
+  missed_same : (page tries : ℕ) → IsMiss sizes one pass page tries → one (PAGE (pass.units page)) ≡ other (PAGE (pass.units page))
   missed_same page tries (JustNow from miss none) = later_same from page miss.control miss.later miss.within
   missed_same page tries (AfterTries search is over) = searched_same page tries search is
 
@@ -91,22 +91,28 @@ module _ (sizes : Sizes) (pass : Pass) (one other : Values) (holds : Ownership s
     enough = elim may.enough [ inl has ↦ inl (ap lacks_buffer (sym (missed_same page may.tries may.miss)) ∙ has) | inr many ↦ inr many ];
   }
 
-  may_hint : (buffer page : ℕ) → MayHint one pass.control buffer page → MayHint other pass.control buffer page
-  may_hint buffer page may = record { tries = may.tries; is = may.is; has = ap lacks_buffer (sym (searched_same page may.tries (VictimGiven buffer) may.is)) ∙ may.has }
+  may_hint : (buffer unit : ℕ) → MayHint one pass buffer unit → MayHint other pass buffer unit
+  may_hint buffer unit may = record {
+    page = may.page;
+    tries = may.tries;
+    is = may.is;
+    unit_is = may.unit_is;
+    has = ap lacks_buffer (sym (searched_same may.page may.tries (VictimGiven buffer) may.is)) ∙ may.has;
+  }
 
   may_load : (word : Word) → MayLoad sizes one pass word → MayLoad sizes other pass word
-  may_load (DIRTY page) may = may_look_up page may
+  may_load (DIRTY unit) may = (may.0, may_look_up may.0 may.1, may.2)
   may_load word may = may
 
   gathered_alike : (from : ℕ) → pass.control ≡ VisitPage from → gathered sizes one pass ≡ gathered sizes other pass
   gathered_alike from is = flat_map-same (part one) (part other) 0 (end_read sizes pass.call pass.length - first_page sizes pass.call)
       (λ i low high. let piece = piece_of (at_of pass.call) (covered pass.call pass.length) sizes.page i in
       ap (λ bytes. bytes_at bytes (piece.at % sizes.page) piece.size)
-      (page_bytes_same pass.fetched other one (first_page sizes pass.call + i) (read_same from (first_page sizes pass.call + i) is (omega arith) (omega (arith, high)))))
+      (page_bytes_same pass.units pass.fetched other one (first_page sizes pass.call + i) (read_same from (first_page sizes pass.call + i) is (omega arith) (omega (arith, high)))))
     where
       part : Values → ℕ → List ℕ
       part values i = let piece = piece_of (at_of pass.call) (covered pass.call pass.length) sizes.page i in
-          bytes_at (page_bytes pass.fetched values (first_page sizes pass.call + i)) (piece.at % sizes.page) piece.size
+          bytes_at (page_bytes pass.units pass.fetched values (first_page sizes pass.call + i)) (piece.at % sizes.page) piece.size
 
   may_place : (reply : Reply) (control : Control) → pass.control ≡ control → MayPlace sizes one pass reply control → MayPlace sizes other pass reply control
   may_place reply TakePlace is may = may
@@ -124,18 +130,20 @@ module _ (sizes : Sizes) (pass : Pass) (one other : Values) (holds : Ownership s
 
   given_same : (control : Control) → pass.control ≡ control → AgreeOn pass (values_given pass control one) (values_given pass control other)
   given_same (GiveCleanup page) is =
-      with_same pass one other (PAGE page) (filled (fetched_bytes pass.fetched page) (one (PAGE page))) (filled (fetched_bytes pass.fetched page) (other (PAGE page))) agree (λ has. ap (filled (fetched_bytes pass.fetched page)) (agree (PAGE page) has))
+      let own = PAGE (pass.units page) in
+      with_same pass one other own (filled (fetched_bytes pass.fetched page) (one own)) (filled (fetched_bytes pass.fetched page) (other own)) agree (λ has. ap (filled (fetched_bytes pass.fetched page)) (agree own has))
   given_same (Searching page tries (GiveVictim buffer victim)) is =
       let at : Control = Searching page tries (GiveVictim buffer victim) in
       let robbed = held_same (PAGE victim) (given_held sizes pass (PAGE victim) at (stands_at at is) (pages_at at is) (locks_at at is) refl) in
       with_same pass _ _ (PAGE victim) (emptied (one (PAGE victim))) (emptied (other (PAGE victim)))
-      (with_same pass one other (PAGE page) (received (one (PAGE victim)) (one (PAGE page))) (received (other (PAGE victim)) (other (PAGE page))) agree (λ has. ap₂ received robbed (agree (PAGE page) has)))
+      (let own = PAGE (pass.units page) in with_same pass one other own (received (one (PAGE victim)) (one own)) (received (other (PAGE victim)) (other own)) agree (λ has. ap₂ received robbed (agree own has)))
       (λ has. ap emptied robbed)
   given_same control is = agree
 
   stepped_same : (op : Op) → AgreeOn pass (values_stepped sizes pass op one) (values_stepped sizes pass op other)
-  stepped_same (Pledge page) =
-      with_same pass one other (PAGE page) (patched_by sizes pass.call page (one (PAGE page))) (patched_by sizes pass.call page (other (PAGE page))) agree (λ has. ap (patched_by sizes pass.call page) (agree (PAGE page) has))
+  stepped_same (Pledge unit) =
+      let page = pledging pass.control in
+      with_same pass one other (PAGE unit) (patched_by sizes pass.call page (one (PAGE unit))) (patched_by sizes pass.call page (other (PAGE unit))) agree (λ has. ap (patched_by sizes pass.call page) (agree (PAGE unit) has))
   stepped_same (Give cell) = given_same pass.control refl
   stepped_same op = agree
 
@@ -180,8 +188,9 @@ module _ (sizes : Sizes) (pass : Pass) (one other : Values) (holds : Ownership s
     here = may.here;
   }
 
-  copied_same : (v w : Values) (job : Job) (how : CallEnding) (control : Control) → AgreeOn pass v w → AgreeOn pass (values_read pass.pages job how control v) (values_read pass.pages job how control w)
-  copied_same v w (PageRead at bytes) Made (ReadStore page false) alike = with_same pass v w (PAGE page) (filled bytes (v (PAGE page))) (filled bytes (w (PAGE page))) alike (λ has. ap (filled bytes) (alike (PAGE page) has))
+  copied_same : (v w : Values) (job : Job) (how : CallEnding) (control : Control) → AgreeOn pass v w → AgreeOn pass (values_read pass.units job how control v) (values_read pass.units job how control w)
+  copied_same v w (PageRead at bytes) Made (ReadStore page false) alike =
+      let own = PAGE (pass.units page) in with_same pass v w own (filled bytes (v own)) (filled bytes (w own)) alike (λ has. ap (filled bytes) (alike own has))
   copied_same v w job how control alike = alike
 
   worked_same : (work : Work) → AgreeOn pass (values_worked pass work one) (values_worked pass work other)

@@ -3,12 +3,12 @@ use Rattle.std.proofs.Common.{◌≡◌, ◌≢◌, ◌⊎◌, ℕ, suc, ◌+◌
 use Rattle.std.proofs.lemmas.Bool.{ltb-true, ltb-false, lt-ltb, le-ltb, leb-true, leb-false, le-leb, lt-leb, eqb-true, eqb-false, eq-eqb, ne_eqb, cases_Bool, and_parts, and_from, and_left, and_right, or_cases, true≢false}
 use Rattle.nv_core.specs.state.Words.{Sizes, Word, STOP, ORDER, HEAD, TAIL, LENGTH, SIZE, STORE, ENTRY, HINT, PAGE, CLEANUP, DIRTY, kind_of, ready, is_entry_of, is_lock}
 use Rattle.nv_core.specs.state.Values.{lacks_buffer}
-use Rattle.nv_core.specs.state.Passes.{Control, TakePage, LoadLength, TakeSize, LoadStop, LoadOrder, VisitPage, TakeCleanup, TakeStore, ReadStore, GiveVictim, NotFound, Searching, ReadLoadHead, ReadLoadTail, LoadEntry, HoldEntry, GiveCleanup, WriteLoadHead, WriteLoadTail, DrawNumbers, SeizeEntry, TakePlace, GrowLength, GiveBack, Pass, at_of, len_of, is_write, is_read, page_count, first_page, end_page, IsLastTaken}
+use Rattle.nv_core.specs.state.Passes.{Control, TakePage, LoadLength, TakeSize, LoadStop, LoadOrder, VisitPage, TakeCleanup, TakeStore, ReadStore, GiveVictim, NotFound, Searching, ReadLoadHead, ReadLoadTail, LoadEntry, HoldEntry, GiveCleanup, WriteLoadHead, WriteLoadTail, DrawNumbers, SeizeEntry, TakePlace, GrowLength, GiveBack, Pass, at_of, len_of, is_write, is_read, page_count, first_page, end_page, IsLastTaken, page_of_unit}
 use Rattle.nv_core.specs.state.Cleaner.{Batch}
 use Rattle.nv_core.specs.state.Cleaner as cleaner
 use Rattle.nv_core.specs.steps.CleanerSteps.{count_of, may_pass, finishing, surveyed, batch_with_page, last_taken}
 use Rattle.nv_core.specs.steps.Ops.{Op, Load, Take, Give, Draw, Turn, ByCleaner}
-use Rattle.nv_core.specs.steps.ControlSteps.{out_of_call, phase, leaving, ending, exceeds, ordered, scanning, tries_of, control_after, after_load, after_look, after_page, copying, refused}
+use Rattle.nv_core.specs.steps.ControlSteps.{out_of_call, phase, leaving, ending, exceeds, ordered, scanning, tries_of, control_after, after_load, after_look, after_page, copying, refused, after_cleanup}
 use Rattle.nv_core.specs.steps.Order.{Values}
 use Rattle.nv_core.specs.steps.StepKinds.{MayLoad, MayTake, MayGive, CleanerEnabled, IsMiss, JustNow, AfterTries, MayTurn, MayLookUp}
 use Rattle.nv_core.proofs.steps.NextSteps.{next_steps_may_come}
@@ -69,22 +69,23 @@ load_exact sizes values pass HEAD found may = head_exact sizes pass found may
 load_exact sizes values pass TAIL found may = tail_exact sizes pass found may
 load_exact sizes values pass (ENTRY slot) found may = never sizes pass (Load (ENTRY slot)) found (λ z. z)
     (subst (λ s. IsOn (after_look pass found s)) (sym may.2)
-    (if_both IsOn (is_entry_of ready may.0 found) (HoldEntry may.0 may.1) (scanning pass may.0 (may.1 + 1)) (λ _. on 4) (λ _. on_scanning pass may.0 (may.1 + 1))))
-load_exact sizes values pass (DIRTY page) found may = never sizes pass (Load (DIRTY page)) found (λ z. z) (if_both IsOn (found == 0) (TakeStore page false) (TakeCleanup page) (λ _. on 4) (λ _. on 4))
+    (if_both IsOn (is_entry_of ready (pass.units may.0) found) (HoldEntry may.0 may.1) (scanning pass may.0 (may.1 + 1)) (λ _. on 4) (λ _. on_scanning pass may.0 (may.1 + 1))))
+load_exact sizes values pass (DIRTY unit) found may = never sizes pass (Load (DIRTY unit)) found (λ z. z) (if_both IsOn (found == 0) (TakeStore (page_of_unit sizes pass unit) false) (TakeCleanup (page_of_unit sizes pass unit)) (λ _. on 4) (λ _. on 4))
 load_exact sizes values pass (HINT buffer) found may = never sizes pass (Load (HINT buffer)) found (λ z. z) (subst (λ s. IsOn (after_load sizes (record pass { control = s }) (HINT buffer) found)) (sym may.is) (on 4))
 load_exact sizes values pass word found may = absurd may
 
 take_exact : (sizes : Sizes) (pass : Pass) (cell : Word) (found : ℕ) → MayTake pass cell → IsExact sizes pass (Take cell) found
-take_exact sizes pass (PAGE page) found (inl at) = decided sizes pass (Take (PAGE page)) found (found == 0) (if page + 1 == end_page sizes pass.call then LoadLength else TakePage (page + 1))
-    (ap (λ s. if found == 0 then after_page sizes pass.call page s else refused pass.owned (PAGE page) s) at)
+take_exact sizes pass (PAGE unit) found (inl (page, at, same)) = decided sizes pass (Take (PAGE unit)) found (found == 0) (if page + 1 == end_page sizes pass.call then LoadLength else TakePage (page + 1))
+    (ap (λ s. if found == 0 then after_page sizes pass.call s else refused pass.owned (PAGE unit) s) at)
     (λ r. ne_eqb found 0 r.1) (λ no. (λ s. subst IsSearching at s, eqb-false found 0 no)) (if_both IsOn (page + 1 == end_page sizes pass.call) LoadLength (TakePage (page + 1)) (λ _. on 1) (λ _. on 0))
-take_exact sizes pass (PAGE page) found (inr may) = never sizes pass (Take (PAGE page)) found (λ r. r.0 (subst IsSearching (sym may.is) tt))
-    (subst (λ s. IsOn (if found == 0 then after_page sizes pass.call page s else refused pass.owned (PAGE page) s)) (sym may.is)
-    (if_both IsOn (found == 0) (Searching may.page may.tries (GiveVictim may.buffer page)) (Searching may.page may.tries NotFound) (λ _. on 4) (λ _. on 4)))
+take_exact sizes pass (PAGE unit) found (inr may) = never sizes pass (Take (PAGE unit)) found (λ r. r.0 (subst IsSearching (sym may.is) tt))
+    (subst (λ s. IsOn (if found == 0 then after_page sizes pass.call s else refused pass.owned (PAGE unit) s)) (sym may.is)
+    (if_both IsOn (found == 0) (Searching may.page may.tries (GiveVictim may.buffer unit)) (Searching may.page may.tries NotFound) (λ _. on 4) (λ _. on 4)))
 take_exact sizes pass (SIZE file) found may = decided sizes pass (Take (SIZE file)) found (found == 0) LoadLength refl (λ r. ne_eqb found 0 r.1) (λ no. (λ s. subst IsSearching may.0 s, eqb-false found 0 no)) (on 1)
 take_exact sizes pass (STORE file) found may = decided sizes pass (Take (STORE file)) found (found == 0) (ReadStore may.0 may.1) (ap (λ s. if found == 0 then copying s else leaving pass.owned) may.2)
     (λ r. ne_eqb found 0 r.1) (λ no. (λ s. subst IsSearching may.2 s, eqb-false found 0 no)) (on 4)
-take_exact sizes pass (CLEANUP page) found may = decided sizes pass (Take (CLEANUP page)) found (found == 0) (TakeStore page true) refl (λ r. ne_eqb found 0 r.1) (λ no. (λ s. subst IsSearching may s, eqb-false found 0 no)) (on 4)
+take_exact sizes pass (CLEANUP unit) found may = decided sizes pass (Take (CLEANUP unit)) found (found == 0) (TakeStore may.0 true) (ap (λ s. if found == 0 then after_cleanup s else leaving pass.owned) may.1)
+    (λ r. ne_eqb found 0 r.1) (λ no. (λ s. subst IsSearching may.1 s, eqb-false found 0 no)) (on 4)
 take_exact sizes pass cell found may = absurd may
 
 pub refusals_are_exact : RefusalsAreExact
@@ -160,7 +161,7 @@ tries_are sizes values pass page tries (AfterTries search is over) = ap tries_of
 few_made : (sizes : Sizes) (values : Values) (pass : Pass) (page : ℕ) → MayTurn sizes values pass page → tries_of pass.control < 2 * sizes.buffers
 few_made sizes values pass page may = let few = may.few in let is = tries_are sizes values pass page may.tries may.miss in omega (arith, few, is)
 
-all_made : (sizes : Sizes) (values : Values) (pass : Pass) (page : ℕ) → MayLookUp sizes values pass page → lacks_buffer (values (PAGE page)) ≡ true → 2 * sizes.buffers ≤ tries_of pass.control
+all_made : (sizes : Sizes) (values : Values) (pass : Pass) (page : ℕ) → MayLookUp sizes values pass page → lacks_buffer (values (PAGE (pass.units page))) ≡ true → 2 * sizes.buffers ≤ tries_of pass.control
 all_made sizes values pass page may lacks = elim may.enough [
   | inl has ↦ absurd (true≢false (sym lacks ∙ has))
   | inr many ↦ let is = tries_are sizes values pass page may.tries may.miss in omega (arith, many, is)
@@ -169,7 +170,8 @@ all_made sizes values pass page may lacks = elim may.enough [
 pub searches_end : SearchesEnd
 searches_end = record {
   few = λ sizes values pass page may. few_made sizes values pass page (next_steps_may_come sizes values pass (Turn page) may);
-  enough = λ sizes values pass page may lacks. all_made sizes values pass page (next_steps_may_come sizes values pass (Load (DIRTY page)) may) lacks;
+  enough = λ sizes values pass unit may lacks. let look = next_steps_may_come sizes values pass (Load (DIRTY unit)) may in
+      all_made sizes values pass look.0 look.1 (subst (λ u. lacks_buffer (values (PAGE u)) ≡ true) look.2 lacks);
   counted = λ sizes pass page found. refl;
   rises = λ sizes pass page found less. omega (arith, less);
   turns = λ sizes pass page found is. ap (λ n. n % 2 ^ 64) is;

@@ -2,7 +2,7 @@
 use Rattle.std.specs.Prelude.{◌≡◌, ℕ, ◌+◌, ◌-◌, true, false, List}
 use Rattle.nv_plain.specs.Files.{Files}
 use Rattle.nv_core.specs.state.Words.{Sizes, TAIL}
-use Rattle.nv_core.specs.state.Passes.{Control, GiveStore, ReadLoadHead, ReadLoadTail, LoadEntry, HoldEntry, ReadPiece, ReturnEntry, GiveCleanup, fetched_bytes, page_named}
+use Rattle.nv_core.specs.state.Passes.{Control, GiveStore, ReadLoadHead, ReadLoadTail, LoadEntry, HoldEntry, ReadPiece, ReturnEntry, GiveCleanup, fetched_bytes}
 use Rattle.nv_core.specs.state.Core.{Core}
 use Rattle.nv_core.specs.log.Groups.{Log}
 use Rattle.nv_core.specs.content.PagesAfter.{page_in, page_now}
@@ -28,17 +28,17 @@ abbrev pub HasAll : Sizes → Files → Core → (fetched : List (ℕ × List �
 HasAll sizes opening core fetched page = fetched_bytes fetched page ≡ page_now sizes opening core page
 
 -- by where it stands
-abbrev pub PatchedAt : Sizes → Log → Files → Core → (pages : List ℕ) → (fetched : List (ℕ × List ℕ)) → (head : ℕ) → Control → Type 0
-PatchedAt sizes log opening core pages fetched head (GiveStore page true) = HasStores sizes core fetched (page_named pages page)
-PatchedAt sizes log opening core pages fetched head (ReadLoadHead page) = HasStores sizes core fetched (page_named pages page)
-PatchedAt sizes log opening core pages fetched head (ReadLoadTail page) = LacksFrom sizes log opening core fetched head (page_named pages page) 0
-PatchedAt sizes log opening core pages fetched head (LoadEntry page number) = LacksFrom sizes log opening core fetched head (page_named pages page) number
-PatchedAt sizes log opening core pages fetched head (HoldEntry page number) = LacksFrom sizes log opening core fetched head (page_named pages page) number
-PatchedAt sizes log opening core pages fetched head (ReadPiece page number) = LacksFrom sizes log opening core fetched head (page_named pages page) number
-PatchedAt sizes log opening core pages fetched head (ReturnEntry page number false) = LacksFrom sizes log opening core fetched head (page_named pages page) (number + 1)
-PatchedAt sizes log opening core pages fetched head (GiveCleanup page) = HasAll sizes opening core fetched (page_named pages page)
-PatchedAt sizes log opening core pages fetched head control = Unit {0}
+abbrev pub PatchedAt : Sizes → Log → Files → Core → (fetched : List (ℕ × List ℕ)) → (head : ℕ) → Control → Type 0
+PatchedAt sizes log opening core fetched head (GiveStore page true) = HasStores sizes core fetched page
+PatchedAt sizes log opening core fetched head (ReadLoadHead page) = HasStores sizes core fetched page
+PatchedAt sizes log opening core fetched head (ReadLoadTail page) = LacksFrom sizes log opening core fetched head page 0
+PatchedAt sizes log opening core fetched head (LoadEntry page number) = LacksFrom sizes log opening core fetched head page number
+PatchedAt sizes log opening core fetched head (HoldEntry page number) = LacksFrom sizes log opening core fetched head page number
+PatchedAt sizes log opening core fetched head (ReadPiece page number) = LacksFrom sizes log opening core fetched head page number
+PatchedAt sizes log opening core fetched head (ReturnEntry page number false) = LacksFrom sizes log opening core fetched head page (number + 1)
+PatchedAt sizes log opening core fetched head (GiveCleanup page) = HasAll sizes opening core fetched page
+PatchedAt sizes log opening core fetched head control = Unit {0}
 
 -- Each read is so far with its page.
 pub record PatchedReads (sizes : Sizes) (log : Log) (opening : Files) (core : Core) : Type 0 where
-  pub each : (number : ℕ) → PatchedAt sizes log opening core (core.passes number).pages (core.passes number).fetched (core.passes number).head (core.passes number).control
+  pub each : (number : ℕ) → PatchedAt sizes log opening core (core.passes number).fetched (core.passes number).head (core.passes number).control

@@ -1,12 +1,12 @@
 -- Control facts: what is so of a pass by where it stands in the order of steps.
-use Rattle.std.specs.Prelude.{◌≡◌, ◌≢◌, ℕ, zero, suc, ◌+◌, ◌^◌, ◌<◌, ◌≤◌, Bool, true, false, List, [], length}
+use Rattle.std.specs.Prelude.{◌≡◌, ◌≢◌, ℕ, zero, suc, ◌+◌, ◌^◌, ◌<◌, ◌≤◌, Bool, true, false, List, [], length, map}
 use Rattle.nv_header.specs.HeaderSteps.{tail_steps}
 use Rattle.nv_plain.specs.declared.call.FileCall.{FileCall}
-use Rattle.nv_core.specs.state.Words.{Sizes, Word}
+use Rattle.nv_core.specs.state.Words.{Sizes, Word, page_total}
 use Rattle.nv_core.specs.state.Cleaner.{Batch, CleanerControl, TakeHeader, LoadTail, LoadHead, WriteBack, CleanEntry, SubtractDirty, RefusedReturnEntry, FailedReturnEntry, RefusedGiveCleanup, SyncStores, MoveHeaderTail, FreeEntry, AdvanceTail, GiveStores, SetStop}
 use Rattle.nv_core.specs.state.Cleaner as cleaner
 use Rattle.nv_core.specs.steps.ControlSteps.{exceeds}
-use Rattle.nv_core.specs.state.Passes.{Control, Idle, TakePage, TakeSize, VisitPage, TakeCleanup, TakeStore, ReadStore, GiveStore, Search, TakeVictim, GiveVictim, Searching, ReadLoadHead, ReadLoadTail, LoadEntry, HoldEntry, ReadPiece, ReturnEntry, GiveCleanup, WriteLoadHead, WriteLoadTail, DrawNumbers, SeizeEntry, CommitGroup, PledgePage, ReadyEntry, GrowLength, GiveSize, GivePage, GiveBack, SetStopAfterRead, SetStopAfterPiece, SetStopAfterCommit, BreakEntry, Pass, IsAllowed, IsAmong, is_read, is_write, page_count, first_page, end_page, nth_of, first_pages, pages_of, Cleaning}
+use Rattle.nv_core.specs.state.Passes.{Control, Idle, TakePage, TakeSize, VisitPage, TakeCleanup, TakeStore, ReadStore, GiveStore, Search, TakeVictim, GiveVictim, Searching, ReadLoadHead, ReadLoadTail, LoadEntry, HoldEntry, ReadPiece, ReturnEntry, GiveCleanup, WriteLoadHead, WriteLoadTail, DrawNumbers, SeizeEntry, CommitGroup, PledgePage, ReadyEntry, GrowLength, GiveSize, GivePage, GiveBack, SetStopAfterRead, SetStopAfterPiece, SetStopAfterCommit, BreakEntry, Pass, IsAllowed, IsAmong, is_read, is_write, page_count, first_page, end_page, nth_of, first_pages, Cleaning}
 use Rattle.nv_core.specs.invariant.CleanerOwnership.{count_in}
 
 -- a page of a call
@@ -100,13 +100,18 @@ FactsAt sizes pass (BreakEntry number) = HasDrawn sizes pass.call pass.entries �
 FactsAt sizes pass (Cleaning batch inner) = CleanerFactsAt batch pass.owned inner
 FactsAt sizes pass control = Unit {0}
 
--- Its pages are those of its call, in their order: the ones before the page that it takes next, and then all. A refused call has some first ones.
+-- A pass has taken the units of so many first pages of its call, in their order, and no two of these pages have one unit.
+pub record HasTaken (sizes : Sizes) (call : FileCall) (units : ℕ → ℕ) (pages : List ℕ) (count : ℕ) : Type 0 where
+  pub all : pages ≡ map units (first_pages sizes call count)
+  pub apart : (one other : ℕ) → IsAmong (first_page sizes call) count one → IsAmong (first_page sizes call) count other → units one ≡ units other → one ≡ other
+
+-- It has taken those of the pages before the one that it takes next, and then all. A refused call has those of some first ones.
 abbrev pub PagesAt : Sizes → Pass → Control → Type 0
 PagesAt sizes pass Idle = Unit {0}
 PagesAt sizes pass (Cleaning batch inner) = Unit {0}
-PagesAt sizes pass (TakePage page) = pass.pages ≡ first_pages sizes pass.call (nth_of sizes pass.call page)
-PagesAt sizes pass GiveBack = (count : ℕ) × (count ≤ page_count sizes pass.call) × (pass.pages ≡ first_pages sizes pass.call count)
-PagesAt sizes pass control = pass.pages ≡ pages_of sizes pass.call
+PagesAt sizes pass (TakePage page) = HasTaken sizes pass.call pass.units pass.pages (nth_of sizes pass.call page)
+PagesAt sizes pass GiveBack = (count : ℕ) × (count ≤ page_count sizes pass.call) × HasTaken sizes pass.call pass.units pass.pages count
+PagesAt sizes pass control = HasTaken sizes pass.call pass.units pass.pages (page_count sizes pass.call)
 
 -- a pass has a call at hand
 abbrev pub has_call : Control → Bool
@@ -114,8 +119,9 @@ has_call Idle = false
 has_call (Cleaning batch inner) = false
 has_call control = true
 
--- A pass stands so, with these pages, and its call, if it has one, is one that may be begun.
+-- A pass stands so, with these pages; its call, if it has one, is one that may be begun; and by the pages of the mount it knows units of the mount.
 pub record ControlFacts (sizes : Sizes) (pass : Pass) : Type 0 where
   pub at : FactsAt sizes pass pass.control
   pub pages : PagesAt sizes pass pass.control
   pub allowed : has_call pass.control ≡ true → IsAllowed sizes pass.call
+  pub within : (page : ℕ) → page < page_total sizes → pass.units page < page_total sizes

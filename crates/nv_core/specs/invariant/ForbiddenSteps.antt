@@ -82,11 +82,11 @@ NoSeizureOfAHeldEntry =
     (sizes : Sizes) (first : Values) (core : Core) (by number : ℕ) → Sound sizes first core
     → Enabled sizes core.values (core.passes by) (Seize number) → core.words (ENTRY (slot_of_entry sizes number)) ≡ free
 
--- a search tries a page as its victim, or holds it as that
-abbrev pub IsSought : Control → (page : ℕ) → Type 0
-IsSought (Searching missed tries (TakeVictim buffer victim)) page = page ≡ victim
-IsSought (Searching missed tries (GiveVictim buffer victim)) page = page ≡ victim
-IsSought control page = ⊥
+-- a search tries a unit as its victim, or holds it as that
+abbrev pub IsSought : Control → (unit : ℕ) → Type 0
+IsSought (Searching missed tries (TakeVictim buffer victim)) unit = unit ≡ victim
+IsSought (Searching missed tries (GiveVictim buffer victim)) unit = unit ≡ victim
+IsSought control unit = ⊥
 
 -- A search never tries a page of its own call, nor holds one as its victim.
 abbrev pub NoVictimOfTheCall : Type 0
@@ -118,8 +118,8 @@ NoEntryHeldTwice =
 -- While a read looks for the pieces of a page, no other pass has its CLEANUP.
 abbrev pub NoOtherCleanup : Type 0
 NoOtherCleanup =
-    (sizes : Sizes) (first : Values) (core : Core) (by other page : ℕ) → Sound sizes first core
-    → cleanup_held (core.passes by).pages (core.passes by).control page ≡ 1 → times (CLEANUP page) (core.passes other).owned ≡ 1 → other ≡ by
+    (sizes : Sizes) (first : Values) (core : Core) (by other unit : ℕ) → Sound sizes first core
+    → cleanup_held (core.passes by).units (core.passes by).control unit ≡ 1 → times (CLEANUP unit) (core.passes other).owned ≡ 1 → other ≡ by
 
 -- A page has no more entries than the log, but for one that is pledged and one that a cleaner has cleaned: DIRTY says no more.
 abbrev pub NoDirtyAboveTheLog : Type 0

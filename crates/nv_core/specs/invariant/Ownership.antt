@@ -1,7 +1,7 @@
 -- Ownership: which cells a pass owns, by where it stands.
-use Rattle.std.specs.Prelude.{◌≡◌, ◌≢◌, ℕ, ◌+◌, ◌==◌, ◌&&◌, nat_le, nat_lt, Bool, if◌then◌else◌, drop, List}
+use Rattle.std.specs.Prelude.{◌≡◌, ◌≢◌, ℕ, ◌+◌, ◌==◌, ◌&&◌, nat_le, nat_lt, Bool, if◌then◌else◌, drop}
 use Rattle.nv_core.specs.state.Words.{Sizes, Word, SIZE, STORE, ENTRY, PAGE, CLEANUP, CLEANER, HEADER, slot_of_entry}
-use Rattle.nv_core.specs.state.Passes.{Control, Idle, TakeStore, ReadStore, GiveStore, Search, GiveVictim, Searching, ReadLoadHead, ReadLoadTail, LoadEntry, HoldEntry, ReadPiece, ReturnEntry, GiveCleanup, GivePage, GiveBack, SetStopAfterRead, SetStopAfterPiece, Pass, IsFilling, IsHeldEntry, file_of, nth_of, times, Cleaning, page_named}
+use Rattle.nv_core.specs.state.Passes.{Control, Idle, TakeStore, ReadStore, GiveStore, Search, GiveVictim, Searching, ReadLoadHead, ReadLoadTail, LoadEntry, HoldEntry, ReadPiece, ReturnEntry, GiveCleanup, GivePage, GiveBack, SetStopAfterRead, SetStopAfterPiece, Pass, IsFilling, IsHeldEntry, file_of, nth_of, times, Cleaning}
 use Rattle.nv_core.specs.state.Cleaner as cleaner
 use Rattle.nv_core.specs.invariant.CleanerOwnership.{count_in, of_cleaner_header, of_cleaner_store, of_cleaner_cleanup}
 
@@ -41,21 +41,21 @@ store_held (SetStopAfterRead page dirty) = 1
 store_held control = 0
 
 -- CLEANUP of a page with entries while it reads the store and the pieces
-abbrev pub cleanup_held : (pages : List ℕ) → Control → (page : ℕ) → ℕ
-cleanup_held pages (TakeStore next dirty) page = one_if (dirty && page == page_named pages next)
-cleanup_held pages (ReadStore next dirty) page = one_if (dirty && page == page_named pages next)
-cleanup_held pages (GiveStore next dirty) page = one_if (dirty && page == page_named pages next)
-cleanup_held pages (SetStopAfterRead next dirty) page = one_if (dirty && page == page_named pages next)
-cleanup_held pages (ReadLoadHead next) page = one_if (page == page_named pages next)
-cleanup_held pages (ReadLoadTail next) page = one_if (page == page_named pages next)
-cleanup_held pages (LoadEntry next number) page = one_if (page == page_named pages next)
-cleanup_held pages (HoldEntry next number) page = one_if (page == page_named pages next)
-cleanup_held pages (ReadPiece next number) page = one_if (page == page_named pages next)
-cleanup_held pages (ReturnEntry next number failed) page = one_if (page == page_named pages next)
-cleanup_held pages (SetStopAfterPiece next number) page = one_if (page == page_named pages next)
-cleanup_held pages (GiveCleanup next) page = one_if (page == page_named pages next)
-cleanup_held pages (Cleaning batch inner) page = of_cleaner_cleanup batch inner page
-cleanup_held pages control page = 0
+abbrev pub cleanup_held : (units : ℕ → ℕ) → Control → (unit : ℕ) → ℕ
+cleanup_held units (TakeStore next dirty) unit = one_if (dirty && unit == units next)
+cleanup_held units (ReadStore next dirty) unit = one_if (dirty && unit == units next)
+cleanup_held units (GiveStore next dirty) unit = one_if (dirty && unit == units next)
+cleanup_held units (SetStopAfterRead next dirty) unit = one_if (dirty && unit == units next)
+cleanup_held units (ReadLoadHead next) unit = one_if (unit == units next)
+cleanup_held units (ReadLoadTail next) unit = one_if (unit == units next)
+cleanup_held units (LoadEntry next number) unit = one_if (unit == units next)
+cleanup_held units (HoldEntry next number) unit = one_if (unit == units next)
+cleanup_held units (ReadPiece next number) unit = one_if (unit == units next)
+cleanup_held units (ReturnEntry next number failed) unit = one_if (unit == units next)
+cleanup_held units (SetStopAfterPiece next number) unit = one_if (unit == units next)
+cleanup_held units (GiveCleanup next) unit = one_if (unit == units next)
+cleanup_held units (Cleaning batch inner) unit = of_cleaner_cleanup batch inner unit
+cleanup_held units control unit = 0
 
 -- STORE of the call's file, or of those of a cleaner's batch
 abbrev pub store_times : Pass → Control → (file : ℕ) → ℕ
@@ -78,7 +78,7 @@ lock_held sizes pass control (SIZE file) = if file == file_of pass.call then siz
 lock_held sizes pass control (STORE file) = store_times pass control file
 lock_held sizes pass control CLEANER = cleaner_held control
 lock_held sizes pass control HEADER = header_held control
-lock_held sizes pass control (CLEANUP page) = cleanup_held pass.pages control page
+lock_held sizes pass control (CLEANUP unit) = cleanup_held pass.units control unit
 lock_held sizes pass control cell = 0
 
 -- its locks are those, but for a call on its way out, which gives them back one by one

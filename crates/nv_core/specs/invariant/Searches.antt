@@ -1,8 +1,8 @@
 -- Searches: what the hints say, and what a search for a buffer knows.
-use Rattle.std.specs.Prelude.{◌≡◌, ℕ, ◌<◌, true, false, List}
+use Rattle.std.specs.Prelude.{◌≡◌, ℕ, ◌<◌, true, false}
 use Rattle.nv_core.specs.state.Words.{Sizes, HINT, PAGE, page_total}
 use Rattle.nv_core.specs.state.Values.{Value, lacks_buffer}
-use Rattle.nv_core.specs.state.Passes.{Search, LoadHint, TakeVictim, GiveVictim, VictimGiven, NotFound, HintSet, Control, Searching, page_named}
+use Rattle.nv_core.specs.state.Passes.{Search, LoadHint, TakeVictim, GiveVictim, VictimGiven, NotFound, HintSet, Control, Searching}
 use Rattle.nv_core.specs.steps.Order.{Values}
 use Rattle.nv_core.specs.state.Core.{Core}
 
@@ -20,11 +20,11 @@ SearchKnows sizes value NotFound = lacks_buffer value ≡ true
 SearchKnows sizes value HintSet = lacks_buffer value ≡ false
 
 -- by where a pass stands
-abbrev pub KnowsAt : Sizes → Values → (pages : List ℕ) → Control → Type 0
-KnowsAt sizes values pages (Searching page tries search) = SearchKnows sizes (values (PAGE (page_named pages page))) search
-KnowsAt sizes values pages control = Unit {0}
+abbrev pub KnowsAt : Sizes → Values → (units : ℕ → ℕ) → Control → Type 0
+KnowsAt sizes values units (Searching page tries search) = SearchKnows sizes (values (PAGE (units page))) search
+KnowsAt sizes values units control = Unit {0}
 
--- Each HINT is a page of the mount, and each search knows this.
+-- Each HINT is a unit of the mount, and each search knows this.
 pub record Searches (sizes : Sizes) (core : Core) : Type 0 where
   pub hints : (buffer : ℕ) → buffer < sizes.buffers → core.words (HINT buffer) < page_total sizes
-  pub each : (number : ℕ) → KnowsAt sizes core.values (core.passes number).pages (core.passes number).control
+  pub each : (number : ℕ) → KnowsAt sizes core.values (core.passes number).units (core.passes number).control

@@ -5,7 +5,7 @@ use Rattle.nv_plain.specs.Histories.{Answered}
 use Rattle.nv_plain.specs.declared.call.FileCall.{FileCall}
 use Rattle.nv_core.specs.state.Words.{Sizes, Word, PAGE, same}
 use Rattle.nv_core.specs.state.Values.{Job, PageRead, PieceRead, CallEnding, Made, Failed, called, emptied, received, filled, Refused}
-use Rattle.nv_core.specs.state.Passes.{Control, Idle, ReadStore, GiveStore, GiveVictim, Searching, ReadPiece, ReturnEntry, GiveCleanup, CommitGroup, PledgePage, SetStopAfterRead, SetStopAfterPiece, SetStopAfterCommit, Pass, first_page, fetched_bytes, Cleaning, page_named}
+use Rattle.nv_core.specs.state.Passes.{Control, Idle, ReadStore, GiveStore, GiveVictim, Searching, ReadPiece, ReturnEntry, GiveCleanup, CommitGroup, PledgePage, SetStopAfterRead, SetStopAfterPiece, SetStopAfterCommit, Pass, first_page, fetched_bytes, Cleaning}
 use Rattle.nv_core.specs.steps.CleanerSteps.{after_cleaner_work}
 use Rattle.nv_core.specs.steps.Ops.{Op, Give, Pledge, Split, Join, word_of, value_after, patched_by}
 use Rattle.nv_core.specs.steps.PassSteps.{added, stepped, begun}
@@ -64,33 +64,37 @@ worked sizes work pass = record pass {
 }
 
 -- a page that was read and has no entries comes into its buffer
-abbrev pub values_read : (pages : List ℕ) → Job → CallEnding → Control → Values → Values
-values_read pages (PageRead at bytes) Made (ReadStore page false) values =
-    with_value values (PAGE (page_named pages page)) (filled bytes (values (PAGE (page_named pages page))))
-values_read pages job ending control values = values
+abbrev pub values_read : (units : ℕ → ℕ) → Job → CallEnding → Control → Values → Values
+values_read units (PageRead at bytes) Made (ReadStore page false) values = with_value values (PAGE (units page)) (filled bytes (values (PAGE (units page))))
+values_read units job ending control values = values
 
 -- what the cells keep after a device call
 abbrev pub values_worked : Pass → Work → Values → Values
 values_worked pass work values =
-    values_read pass.pages work.job work.ending pass.control (with_value values work.cell (called work.job work.ending (values work.cell)))
+    values_read pass.units work.job work.ending pass.control (with_value values work.cell (called work.job work.ending (values work.cell)))
 
 -- ---- steps
 
 -- a victim's buffer, if it has one, comes to the page that is missed
-abbrev pub values_robbed : (pages : List ℕ) → Control → Values → Values
-values_robbed pages (Searching page tries (GiveVictim buffer victim)) values =
-    with_value (with_value values (PAGE (page_named pages page)) (received (values (PAGE victim)) (values (PAGE (page_named pages page))))) (PAGE victim)
+abbrev pub values_robbed : (units : ℕ → ℕ) → Control → Values → Values
+values_robbed units (Searching page tries (GiveVictim buffer victim)) values =
+    with_value (with_value values (PAGE (units page)) (received (values (PAGE victim)) (values (PAGE (units page))))) (PAGE victim)
     (emptied (values (PAGE victim)))
-values_robbed pages control values = values
+values_robbed units control values = values
 
 -- a page with entries comes into its buffer when all its pieces are read, and CLEANUP is given back
 abbrev pub values_given : Pass → Control → Values → Values
-values_given pass (GiveCleanup page) values = with_value values (PAGE page) (filled (fetched_bytes pass.fetched page) (values (PAGE page)))
-values_given pass control values = values_robbed pass.pages control values
+values_given pass (GiveCleanup page) values = with_value values (PAGE (pass.units page)) (filled (fetched_bytes pass.fetched page) (values (PAGE (pass.units page))))
+values_given pass control values = values_robbed pass.units control values
+
+-- the page that a write pledges
+abbrev pub pledging : Control → ℕ
+pledging (PledgePage page) = page
+pledging control = 0
 
 -- what the cells keep after a step: a pledge patches the page's buffer, and a victim is given back without its own
 abbrev pub values_stepped : Sizes → Pass → Op → Values → Values
-values_stepped sizes pass (Pledge page) values = with_value values (PAGE page) (patched_by sizes pass.call page (values (PAGE page)))
+values_stepped sizes pass (Pledge unit) values = with_value values (PAGE unit) (patched_by sizes pass.call (pledging pass.control) (values (PAGE unit)))
 values_stepped sizes pass (Give cell) values = values_given pass pass.control values
 values_stepped sizes pass op values = values
 

@@ -1,5 +1,5 @@
 -- Passes: a thread's view, its call at hand, and where in the order of steps it stands.
-use Rattle.std.specs.Prelude.{◌≡◌, ◌⊎◌, ℕ, ◌+◌, ◌-◌, ◌*◌, ◌/◌, ◌<◌, ◌≤◌, ◌==◌, nat_lt, min, Bool, false, if◌then◌else◌, List, [], ◌∷◌, length, slice_index}
+use Rattle.std.specs.Prelude.{◌≡◌, ◌⊎◌, ℕ, zero, suc, ◌+◌, ◌-◌, ◌*◌, ◌/◌, ◌<◌, ◌≤◌, ◌==◌, nat_lt, min, Bool, false, if◌then◌else◌, List, [], ◌∷◌, length, slice_index}
 use Rattle.std.specs.List.{range_with_len}
 use Rattle.nv_plain.specs.Files.{empty_files}
 use Rattle.nv_plain.specs.Histories.{Answered}
@@ -12,7 +12,7 @@ use Rattle.nv_core.specs.state.Words.{Sizes, Word, same}
 use Rattle.nv_core.specs.state.Cleaner.{Batch, CleanerControl, WriteBack, CleanEntry, RefusedReturnEntry, FailedReturnEntry, SetStop}
 use Rattle.nv_core.specs.state.Cleaner as cleaner
 
--- A read's search for a buffer, in the try at hand: HINT of this buffer is loaded next; PAGE of the hinted page, the victim, is tried next;
+-- A read's search for a buffer, in the try at hand: HINT of this buffer is loaded next; PAGE of the hinted unit, the victim, is tried next;
 -- it is held, and given back next; it is given back; the try found nothing; HINT is set.
 pub data Search : Type 0 where
   LoadHint : (buffer : ℕ) → Search
@@ -22,7 +22,8 @@ pub data Search : Type 0 where
   NotFound : Search
   HintSet : Search
 
--- Where a pass stands in the order of steps: what its next step is. A page is named by its number of all pages, an entry by its number.
+-- Where a pass stands in the order of steps: what its next step is. A page is named by its number of all pages, an entry by its number; a victim is
+-- a unit.
 pub data Control : Type 0 where
   -- no call is open
   Idle : Control
@@ -86,7 +87,9 @@ pub record Pass : Type 0 where
   pub asked : FileCall
   pub call : FileCall
   pub owned : List Word
-  -- the pages of its call that it has taken, in their order
+  -- the unit of each page, as far as it knows them: the one that has the page's words and its buffer
+  pub units : ℕ → ℕ
+  -- the units of the pages of its call that it has taken, in their order
   pub pages : List ℕ
   -- it has taken SIZE in this call
   pub sized : Bool
@@ -108,10 +111,6 @@ pub record Pass : Type 0 where
   pub mine : List Answered
   -- what it has put back of what its cells keep, on its way into pass 0, or, as pass 0, when the mount is closed
   pub left : List Word
-
--- The page that a control state names, of the pages of its pass: so far it is named by its number.
-abbrev pub page_named : (pages : List ℕ) → (name : ℕ) → ℕ
-page_named pages name = name
 
 -- what a read has fetched of a page
 abbrev pub fetched_bytes : List (ℕ × List ℕ) → (page : ℕ) → List ℕ
@@ -178,6 +177,15 @@ first_pages sizes call count = range_with_len (first_page sizes call) count
 
 abbrev pub pages_of : Sizes → FileCall → List ℕ
 pages_of sizes call = first_pages sizes call (page_count sizes call)
+
+-- the first page of so many, from one on, that has a unit; the one behind them where none has
+abbrev pub page_with : (units : ℕ → ℕ) → (unit from count : ℕ) → ℕ
+page_with units unit from zero = from
+page_with units unit from (suc count) = if units from == unit then from else page_with units unit (suc from) count
+
+-- the page of a pass's call that has a unit
+abbrev pub page_of_unit : Sizes → Pass → (unit : ℕ) → ℕ
+page_of_unit sizes pass unit = page_with pass.units unit (first_page sizes pass.call) (page_count sizes pass.call)
 
 -- how many bytes of a file of a length it covers: a read no more than there are
 abbrev pub covered : FileCall → (len : ℕ) → ℕ

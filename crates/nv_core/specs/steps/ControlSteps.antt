@@ -2,7 +2,7 @@
 use Rattle.std.specs.Prelude.{ℕ, ◌+◌, ◌%◌, ◌^◌, ◌==◌, nat_lt, nat_le, Bool, true, false, not, ◌&&◌, if◌then◌else◌, List, [], ◌∷◌}
 use Rattle.nv_plain.specs.declared.call.FileCall.{FileCall}
 use Rattle.nv_core.specs.state.Words.{Sizes, Word, STOP, ORDER, HEAD, TAIL, LENGTH, SIZE, STORE, ENTRY, HINT, PAGE, CLEANUP, DIRTY, ready, is_entry_of, slot_of_entry}
-use Rattle.nv_core.specs.state.Passes.{Control, Idle, TakePage, LoadLength, TakeSize, LoadStop, LoadOrder, VisitPage, TakeCleanup, Search, LoadHint, TakeVictim, GiveVictim, VictimGiven, NotFound, HintSet, Searching, TakeStore, ReadStore, GiveStore, ReadLoadHead, ReadLoadTail, LoadEntry, HoldEntry, ReadPiece, ReturnEntry, GiveCleanup, WriteLoadHead, WriteLoadTail, DrawNumbers, SeizeEntry, CommitGroup, PledgePage, ReadyEntry, TakePlace, GrowLength, GiveSize, GivePage, GiveBack, SetStopAfterPiece, SetStopAfterCommit, BreakEntry, Pass, at_of, len_of, is_write, is_read, page_count, first_page, end_page, without, Cleaning}
+use Rattle.nv_core.specs.state.Passes.{Control, Idle, TakePage, LoadLength, TakeSize, LoadStop, LoadOrder, VisitPage, TakeCleanup, Search, LoadHint, TakeVictim, GiveVictim, VictimGiven, NotFound, HintSet, Searching, TakeStore, ReadStore, GiveStore, ReadLoadHead, ReadLoadTail, LoadEntry, HoldEntry, ReadPiece, ReturnEntry, GiveCleanup, WriteLoadHead, WriteLoadTail, DrawNumbers, SeizeEntry, CommitGroup, PledgePage, ReadyEntry, TakePlace, GrowLength, GiveSize, GivePage, GiveBack, SetStopAfterPiece, SetStopAfterCommit, BreakEntry, Pass, at_of, len_of, is_write, is_read, page_count, first_page, end_page, page_of_unit, without, Cleaning}
 use Rattle.nv_core.specs.steps.Ops.{Op, Load, Take, Give, Place, Stop, Draw, Seize, Pledge, Ready, Grow, Break, Turn, Hint, Hold, Return, moved, cleaner_move, ByCleaner}
 use Rattle.nv_core.specs.invariant.CleanerOwnership.{count_in}
 use Rattle.nv_core.specs.state.Cleaner.{CleanerOp, TakeCleaner, TakeHeader}
@@ -100,10 +100,10 @@ after_tail sizes pass found control =
 
 -- after a number's ENTRY: where it is ready and of the page it is held next
 abbrev pub after_look : Pass → (found : ℕ) → Control → Control
-after_look pass found (LoadEntry page number) = if is_entry_of ready page found then HoldEntry page number else scanning pass page (number + 1)
+after_look pass found (LoadEntry page number) = if is_entry_of ready (pass.units page) found then HoldEntry page number else scanning pass page (number + 1)
 after_look pass found control = control
 
--- a hinted page is tried next, unless it is one of the pass's own
+-- a hinted unit is tried next, unless it is one of the pass's own
 abbrev pub hinted : (pages : List ℕ) → (buffer victim : ℕ) → Control → Control
 hinted pages buffer victim (Searching page tries search) = Searching page tries (if count_in pages victim == 0 then TakeVictim buffer victim else NotFound)
 hinted pages buffer victim control = control
@@ -115,7 +115,7 @@ after_load sizes pass ORDER found = if nat_lt found (2 ^ 60) then ordered sizes 
 after_load sizes pass HEAD found = after_head sizes pass found pass.control
 after_load sizes pass TAIL found = after_tail sizes pass found pass.control
 after_load sizes pass (ENTRY slot) found = after_look pass found pass.control
-after_load sizes pass (DIRTY page) found = if found == 0 then TakeStore page false else TakeCleanup page
+after_load sizes pass (DIRTY unit) found = if found == 0 then TakeStore (page_of_unit sizes pass unit) false else TakeCleanup (page_of_unit sizes pass unit)
 after_load sizes pass (HINT buffer) found = hinted pass.pages buffer found pass.control
 after_load sizes pass word found = pass.control
 
@@ -131,21 +131,27 @@ pursued (GiveVictim buffer victim) = VictimGiven buffer
 pursued search = search
 
 -- a page of the call that was taken is followed by the next one, or by LENGTH
-abbrev pub after_page : Sizes → FileCall → (page : ℕ) → Control → Control
-after_page sizes call page (Searching missed tries search) = Searching missed tries (pursued search)
-after_page sizes call page control = if page + 1 == end_page sizes call then LoadLength else TakePage (page + 1)
+abbrev pub after_page : Sizes → FileCall → Control → Control
+after_page sizes call (Searching missed tries search) = Searching missed tries (pursued search)
+after_page sizes call (TakePage page) = if page + 1 == end_page sizes call then LoadLength else TakePage (page + 1)
+after_page sizes call control = control
+
+-- a page with entries whose CLEANUP was taken is read from the store next
+abbrev pub after_cleanup : Control → Control
+after_cleanup (TakeCleanup page) = TakeStore page true
+after_cleanup control = control
 
 -- what follows a lock that was taken
 abbrev pub after_take : Sizes → Pass → Word → Control
-after_take sizes pass (PAGE page) = after_page sizes pass.call page pass.control
+after_take sizes pass (PAGE unit) = after_page sizes pass.call pass.control
 after_take sizes pass (SIZE file) = LoadLength
 after_take sizes pass (STORE file) = copying pass.control
-after_take sizes pass (CLEANUP page) = TakeStore page true
+after_take sizes pass (CLEANUP unit) = after_cleanup pass.control
 after_take sizes pass word = pass.control
 
 -- a lock that is found shut ends the call, but a victim's the try alone
 abbrev pub refused : List Word → Word → Control → Control
-refused owned (PAGE page) (Searching missed tries search) = Searching missed tries NotFound
+refused owned (PAGE unit) (Searching missed tries search) = Searching missed tries NotFound
 refused owned cell control = leaving owned
 
 -- what a call that gives back stands at next
@@ -168,6 +174,17 @@ abbrev pub after_stop : Pass → Control → Control
 after_stop pass SetStopAfterCommit = BreakEntry pass.first
 after_stop pass (SetStopAfterPiece page number) = ReturnEntry page number true
 after_stop pass control = leaving pass.owned
+
+-- a page that was pledged is followed by the next one, or by the entries
+abbrev pub after_pledge : Sizes → Pass → Control → Control
+after_pledge sizes pass (PledgePage page) =
+    if page + 1 == end_page sizes pass.call then ReadyEntry (if pass.entries == 1 then pass.first else pass.first + 1) else PledgePage (page + 1)
+after_pledge sizes pass control = control
+
+-- the search for a buffer ends with its hint
+abbrev pub after_hint : Control → Control
+after_hint (Searching page tries search) = Searching page tries HintSet
+after_hint control = control
 
 -- an entry that is held is read next
 abbrev pub after_hold : Control → Control
@@ -194,8 +211,7 @@ control_after sizes pass (Place reply) found = if is_write pass.call && exceeds 
 control_after sizes pass Stop found = after_stop pass pass.control
 control_after sizes pass Draw found = if found == pass.head then SeizeEntry found else leaving pass.owned
 control_after sizes pass (Seize number) found = if number + 1 == pass.first + pass.entries then CommitGroup 0 else SeizeEntry (number + 1)
-control_after sizes pass (Pledge page) found =
-    if page + 1 == end_page sizes pass.call then ReadyEntry (if pass.entries == 1 then pass.first else pass.first + 1) else PledgePage (page + 1)
+control_after sizes pass (Pledge unit) found = after_pledge sizes pass pass.control
 control_after sizes pass (Ready number) found =
     if number == pass.first then TakePlace else ReadyEntry (if number + 1 == pass.first + pass.entries then pass.first else number + 1)
 control_after sizes pass Grow found = ending sizes pass
@@ -205,5 +221,5 @@ control_after sizes pass (Hold number) found = after_hold pass.control
 control_after sizes pass (ByCleaner cleaner_op) found = after_by_cleaner sizes (moved (cleaner_move sizes cleaner_op found) pass.owned) cleaner_op found pass.control
 control_after sizes pass (Return number) found = after_return sizes pass pass.control
 control_after sizes pass (Turn page) found = Searching page (tries_of pass.control + 1) (LoadHint (found % sizes.buffers))
-control_after sizes pass (Hint buffer page) found = Searching page (tries_of pass.control) HintSet
+control_after sizes pass (Hint buffer unit) found = after_hint pass.control
 control_after sizes pass _ found = pass.control

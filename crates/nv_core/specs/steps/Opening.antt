@@ -23,13 +23,14 @@ opening_word mount (LENGTH file) = mount.lengths file
 opening_word mount (HINT buffer) = buffer
 opening_word mount word = 0
 
--- a pass that has seen nothing yet
+-- a pass that has seen nothing yet: so far the unit of a page has the page's own number
 abbrev pub opening_pass : Mount → Pass
 opening_pass mount = record {
   control = Idle;
   asked = Sync 0;
   call = Sync 0;
   owned = [];
+  units = λ page. page;
   pages = [];
   sized = false;
   length = 0;

@@ -12,7 +12,7 @@ use Rattle.nv_core.specs.state.Cleaner as cleaner
 use Rattle.nv_core.specs.steps.CleanerSteps.{cleaner_word, cleaner_value}
 use Rattle.nv_core.specs.state.Passes.{Pass, file_of, at_of, len_of, page_count, first_page, without}
 
--- A kind of step with what it is made on. An entry is named by its number, a page by its number of all pages.
+-- A kind of step with what it is made on. An entry is named by its number, a page by its unit; a search by the page's number of all pages.
 pub data Op : Type 0 where
   -- a word is read
   Load : Word → Op
@@ -29,7 +29,7 @@ pub data Op : Type 0 where
   -- the entry is being filled, and its part comes to the pass
   Seize : (number : ℕ) → Op
   -- DIRTY rises: the page has one more entry
-  Pledge : (page : ℕ) → Op
+  Pledge : (unit : ℕ) → Op
   -- the entry is ready, and its part is back
   Ready : (number : ℕ) → Op
   -- LENGTH is the end of the write
@@ -42,8 +42,8 @@ pub data Op : Type 0 where
   Return : (number : ℕ) → Op
   -- HAND rises, modulo 2^64: a try of the search for a buffer for this page
   Turn : (page : ℕ) → Op
-  -- HINT of the buffer is the page that was given it
-  Hint : (buffer page : ℕ) → Op
+  -- HINT of the buffer is the unit of the page that was given it
+  Hint : (buffer unit : ℕ) → Op
   -- a step of a cleaner
   ByCleaner : CleanerOp → Op
   -- a new pass is made, with what pass 0 and the passes that it took in have seen
@@ -65,7 +65,7 @@ word_of sizes pass (Give word) = word
 word_of sizes pass (Place reply) = ORDER
 word_of sizes pass Draw = HEAD
 word_of sizes pass (Seize number) = ENTRY (slot_of_entry sizes number)
-word_of sizes pass (Pledge page) = DIRTY page
+word_of sizes pass (Pledge unit) = DIRTY unit
 word_of sizes pass (Ready number) = ENTRY (slot_of_entry sizes number)
 word_of sizes pass Grow = LENGTH (file_of pass.call)
 word_of sizes pass (Break number) = ENTRY (slot_of_entry sizes number)
@@ -73,12 +73,12 @@ word_of sizes pass (ByCleaner cleaner_op) = cleaner_word sizes cleaner_op
 word_of sizes pass (Hold number) = ENTRY (slot_of_entry sizes number)
 word_of sizes pass (Return number) = ENTRY (slot_of_entry sizes number)
 word_of sizes pass (Turn page) = HAND
-word_of sizes pass (Hint buffer page) = HINT buffer
+word_of sizes pass (Hint buffer unit) = HINT buffer
 word_of sizes pass op = STOP
 
 -- the ENTRY word of an entry that its pass makes ready
 abbrev pub ready_word : Sizes → Pass → (number : ℕ) → ℕ
-ready_word sizes pass number = entry_word ready (if number == pass.first then pass.entries else 0) (page_at sizes pass number)
+ready_word sizes pass number = entry_word ready (if number == pass.first then pass.entries else 0) (pass.units (page_at sizes pass number))
 
 -- the value of that word after the step, where it was found
 abbrev pub value_after : Sizes → Pass → Op → (found : ℕ) → ℕ
@@ -88,7 +88,7 @@ value_after sizes pass (Place reply) found = found + 1
 value_after sizes pass Stop found = 1
 value_after sizes pass Draw found = if found == pass.head then found + page_count sizes pass.call else found
 value_after sizes pass (Seize number) found = filling
-value_after sizes pass (Pledge page) found = found + 1
+value_after sizes pass (Pledge unit) found = found + 1
 value_after sizes pass (Ready number) found = ready_word sizes pass number
 value_after sizes pass Grow found = at_of pass.call + len_of pass.call
 value_after sizes pass (Break number) found = broken
@@ -96,7 +96,7 @@ value_after sizes pass (ByCleaner cleaner_op) found = cleaner_value cleaner_op f
 value_after sizes pass (Hold number) found = found + 1
 value_after sizes pass (Return number) found = found - 1
 value_after sizes pass (Turn page) found = (found + 1) % 2 ^ 64
-value_after sizes pass (Hint buffer page) found = page
+value_after sizes pass (Hint buffer unit) found = unit
 value_after sizes pass op found = found
 
 -- What moves: nothing, or what a cell keeps comes to the pass, or goes back.

@@ -34,16 +34,16 @@ Values = Word → Value
 -- ---- a read's reply
 
 -- a page that a read has fetched, or what its buffer has
-abbrev pub page_bytes : List (ℕ × List ℕ) → Values → (page : ℕ) → List ℕ
-page_bytes [] values page = bytes_in (values (PAGE page))
-page_bytes (one ∷ rest) values page = if one.0 == page then one.1 else page_bytes rest values page
+abbrev pub page_bytes : (units : ℕ → ℕ) → List (ℕ × List ℕ) → Values → (page : ℕ) → List ℕ
+page_bytes units [] values page = bytes_in (values (PAGE (units page)))
+page_bytes units (one ∷ rest) values page = if one.0 == page then one.1 else page_bytes units rest values page
 
 -- the bytes that a read has of its pages
 abbrev pub gathered : Sizes → Values → Pass → List ℕ
 gathered sizes values pass =
     flat_map
     (λ i. let piece = piece_of (at_of pass.call) (covered pass.call pass.length) sizes.page i in
-    bytes_at (page_bytes pass.fetched values (first_page sizes pass.call + i)) (piece.at % sizes.page) piece.size)
+    bytes_at (page_bytes pass.units pass.fetched values (first_page sizes pass.call + i)) (piece.at % sizes.page) piece.size)
     (range_with_len 0 (end_read sizes pass.call pass.length - first_page sizes pass.call))
 
 -- what a call that reads no page is answered
@@ -55,21 +55,24 @@ plain_reply _ = Done
 -- ---- steps
 
 -- a page that is missed: another try, where it has no buffer and there were fewer than two for each buffer of the mount; else its DIRTY
-abbrev pub miss : Sizes → Values → (page tries : ℕ) → Op
-miss sizes values page tries = if lacks_buffer (values (PAGE page)) && nat_lt tries (2 * sizes.buffers) then Turn page else Load (DIRTY page)
+abbrev pub miss : Sizes → Values → (units : ℕ → ℕ) → (page tries : ℕ) → Op
+miss sizes values units page tries =
+    if lacks_buffer (values (PAGE (units page))) && nat_lt tries (2 * sizes.buffers) then Turn page else Load (DIRTY (units page))
 
 -- the first of so many pages, from one on, whose buffer isn't valid is missed; where all do, the read takes its place
 abbrev pub read_on : Sizes → Values → Pass → (page count : ℕ) → Op
 read_on sizes values pass page zero = Place (Bytes (gathered sizes values pass))
-read_on sizes values pass page (suc count) = if is_valid (values (PAGE page)) then read_on sizes values pass (page + 1) count else miss sizes values page 0
+read_on sizes values pass page (suc count) =
+    if is_valid (values (PAGE (pass.units page))) then read_on sizes values pass (page + 1) count else miss sizes values pass.units page 0
 
 -- a try of a search goes on, and the page is missed again where it is over
-abbrev pub search_on : Sizes → Values → (page tries : ℕ) → Search → Op
-search_on sizes values page tries (LoadHint buffer) = Load (HINT buffer)
-search_on sizes values page tries (TakeVictim buffer victim) = Take (PAGE victim)
-search_on sizes values page tries (GiveVictim buffer victim) = Give (PAGE victim)
-search_on sizes values page tries (VictimGiven buffer) = if lacks_buffer (values (PAGE page)) then miss sizes values page tries else Hint buffer page
-search_on sizes values page tries search = miss sizes values page tries
+abbrev pub search_on : Sizes → Values → (units : ℕ → ℕ) → (page tries : ℕ) → Search → Op
+search_on sizes values units page tries (LoadHint buffer) = Load (HINT buffer)
+search_on sizes values units page tries (TakeVictim buffer victim) = Take (PAGE victim)
+search_on sizes values units page tries (GiveVictim buffer victim) = Give (PAGE victim)
+search_on sizes values units page tries (VictimGiven buffer) =
+    if lacks_buffer (values (PAGE (units page))) then miss sizes values units page tries else Hint buffer (units page)
+search_on sizes values units page tries search = miss sizes values units page tries
 
 -- a call that is refused gives back what it took last, of the locks that calls take
 abbrev pub is_of_calls : Word → Bool
@@ -85,14 +88,14 @@ give_last (cell ∷ rest) = if is_of_calls cell then Some (Give cell) else None
 
 -- The step of a pass that stands so; none where a device call is next, or where it is idle.
 abbrev pub step_at : Sizes → Values → Pass → Control → Option Op
-step_at sizes values pass (TakePage page) = Some (Take (PAGE page))
+step_at sizes values pass (TakePage page) = Some (Take (PAGE (pass.units page)))
 step_at sizes values pass LoadLength = Some (Load (LENGTH (file_of pass.call)))
 step_at sizes values pass TakeSize = Some (Take (SIZE (file_of pass.call)))
 step_at sizes values pass LoadStop = Some (Load STOP)
 step_at sizes values pass LoadOrder = Some (Load ORDER)
 step_at sizes values pass (VisitPage page) = Some (read_on sizes values pass page (end_read sizes pass.call pass.length - page))
-step_at sizes values pass (Searching page tries search) = Some (search_on sizes values page tries search)
-step_at sizes values pass (TakeCleanup page) = Some (Take (CLEANUP page))
+step_at sizes values pass (Searching page tries search) = Some (search_on sizes values pass.units page tries search)
+step_at sizes values pass (TakeCleanup page) = Some (Take (CLEANUP (pass.units page)))
 step_at sizes values pass (TakeStore page dirty) = Some (Take (STORE (file_of pass.call)))
 step_at sizes values pass (GiveStore page dirty) = Some (Give (STORE (file_of pass.call)))
 step_at sizes values pass (ReadLoadHead page) = Some (Load HEAD)
@@ -100,17 +103,17 @@ step_at sizes values pass (ReadLoadTail page) = Some (Load TAIL)
 step_at sizes values pass (LoadEntry page number) = Some (Load (ENTRY (slot_of_entry sizes number)))
 step_at sizes values pass (HoldEntry page number) = Some (Hold number)
 step_at sizes values pass (ReturnEntry page number failed) = Some (Return number)
-step_at sizes values pass (GiveCleanup page) = Some (Give (CLEANUP page))
+step_at sizes values pass (GiveCleanup page) = Some (Give (CLEANUP (pass.units page)))
 step_at sizes values pass WriteLoadHead = Some (Load HEAD)
 step_at sizes values pass WriteLoadTail = Some (Load TAIL)
 step_at sizes values pass DrawNumbers = Some Draw
 step_at sizes values pass (SeizeEntry number) = Some (Seize number)
-step_at sizes values pass (PledgePage page) = Some (Pledge page)
+step_at sizes values pass (PledgePage page) = Some (Pledge (pass.units page))
 step_at sizes values pass (ReadyEntry number) = Some (Ready number)
 step_at sizes values pass TakePlace = Some (Place (plain_reply pass.call))
 step_at sizes values pass GrowLength = Some Grow
 step_at sizes values pass GiveSize = Some (Give (SIZE (file_of pass.call)))
-step_at sizes values pass (GivePage page) = Some (Give (PAGE page))
+step_at sizes values pass (GivePage page) = Some (Give (PAGE (pass.units page)))
 step_at sizes values pass GiveBack = give_last pass.owned
 step_at sizes values pass (SetStopAfterRead page dirty) = Some Stop
 step_at sizes values pass (SetStopAfterPiece page number) = Some Stop

@@ -11,9 +11,9 @@ use Rattle.nv_core.specs.state.Cleaner as cleaner
 use Rattle.nv_core.specs.steps.Ops.{Op, ByCleaner, value_after, move_of, moved, Load, Take, Place, Stop, Draw, PutBack}
 use Rattle.nv_core.specs.steps.ControlSteps.{first_control, control_after}
 
--- its pages: one more, where it takes one of its call
+-- the units of its pages: one more, where it takes one of its call
 abbrev pub pages_after : Pass → Op → (found : ℕ) → Control → List ℕ
-pages_after pass (Take (PAGE page)) found (TakePage next) = if found == 0 then pass.pages ++ page ∷ [] else pass.pages
+pages_after pass (Take (PAGE unit)) found (TakePage next) = if found == 0 then pass.pages ++ unit ∷ [] else pass.pages
 pages_after pass _ found control = pass.pages
 
 -- it has taken SIZE
@@ -95,6 +95,7 @@ stepped sizes number history op found pass = record {
   asked = pass.asked;
   call = pass.call;
   owned = moved (move_of sizes op found) pass.owned;
+  units = pass.units;
   pages = pages_after pass op found pass.control;
   sized = sized_after pass op found;
   length = length_after pass op found;

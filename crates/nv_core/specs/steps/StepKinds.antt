@@ -11,14 +11,14 @@ use Rattle.nv_core.specs.steps.CleanerSteps.{next_cleaner_op}
 use Rattle.nv_core.specs.steps.Order.{Values, gathered, plain_reply, IsFailing}
 
 -- the pages of a read from one on, below another, have valid buffers
-abbrev pub AreValid : Values → (from end : ℕ) → Type 0
-AreValid values from end = (page : ℕ) → from ≤ page → page < end → is_valid (values (PAGE page)) ≡ true
+abbrev pub AreValid : Values → (units : ℕ → ℕ) → (from end : ℕ) → Type 0
+AreValid values units from end = (page : ℕ) → from ≤ page → page < end → is_valid (values (PAGE (units page))) ≡ true
 
 -- the reply with which a call may take its place
 abbrev pub MayPlace : Sizes → Values → Pass → Reply → Control → Type 0
 MayPlace sizes values pass reply TakePlace = reply ≡ plain_reply pass.call
 MayPlace sizes values pass reply (VisitPage page) =
-    AreValid values page (end_read sizes pass.call pass.length) × (reply ≡ Bytes (gathered sizes values pass))
+    AreValid values pass.units page (end_read sizes pass.call pass.length) × (reply ≡ Bytes (gathered sizes values pass))
 MayPlace sizes values pass reply control = ⊥
 
 -- ---- steps
@@ -28,8 +28,8 @@ pub record IsMissed (sizes : Sizes) (values : Values) (pass : Pass) (page from :
   pub control : pass.control ≡ VisitPage from
   pub later : from ≤ page
   pub within : page < end_read sizes pass.call pass.length
-  pub passed : AreValid values from page
-  pub missed : is_valid (values (PAGE page)) ≡ false
+  pub passed : AreValid values pass.units from page
+  pub missed : is_valid (values (PAGE (pass.units page))) ≡ false
 
 -- a try of a search is over, and none is under way
 abbrev pub IsTryOver : Value → Search → Type 0
@@ -41,20 +41,20 @@ IsTryOver value search = ⊥
 -- a read has missed a page: just now, or it has made so many tries of its search
 pub data IsMiss (sizes : Sizes) (values : Values) (pass : Pass) (page tries : ℕ) : Type 0 where
   JustNow : (from : ℕ) → IsMissed sizes values pass page from → tries ≡ 0 → IsMiss sizes values pass page tries
-  AfterTries : (search : Search) → pass.control ≡ Searching page tries search → IsTryOver (values (PAGE page)) search → IsMiss sizes values pass page tries
+  AfterTries : (search : Search) → pass.control ≡ Searching page tries search → IsTryOver (values (PAGE (pass.units page))) search → IsMiss sizes values pass page tries
 
 -- A try may begin where the page has no buffer, and there were fewer than two for each buffer of the mount.
 pub record MayTurn (sizes : Sizes) (values : Values) (pass : Pass) (page : ℕ) : Type 0 where
   pub tries : ℕ
   pub miss : IsMiss sizes values pass page tries
-  pub lacks : lacks_buffer (values (PAGE page)) ≡ true
+  pub lacks : lacks_buffer (values (PAGE (pass.units page))) ≡ true
   pub few : tries < 2 * sizes.buffers
 
 -- Else the page's DIRTY is loaded.
 pub record MayLookUp (sizes : Sizes) (values : Values) (pass : Pass) (page : ℕ) : Type 0 where
   pub tries : ℕ
   pub miss : IsMiss sizes values pass page tries
-  pub enough : (lacks_buffer (values (PAGE page)) ≡ false) ⊎ (2 * sizes.buffers ≤ tries)
+  pub enough : (lacks_buffer (values (PAGE (pass.units page))) ≡ false) ⊎ (2 * sizes.buffers ≤ tries)
 
 -- the HINT of a try's buffer is loaded next
 pub record IsHinting (control : Control) (buffer : ℕ) : Type 0 where
@@ -69,11 +69,13 @@ pub record IsSeeking (control : Control) (victim : ℕ) : Type 0 where
   pub buffer : ℕ
   pub is : control ≡ Searching page tries (TakeVictim buffer victim)
 
--- A HINT may be set where its page has just got the buffer.
-pub record MayHint (values : Values) (control : Control) (buffer page : ℕ) : Type 0 where
+-- A HINT may be set where its unit has just got the buffer.
+pub record MayHint (values : Values) (pass : Pass) (buffer unit : ℕ) : Type 0 where
+  pub page : ℕ
   pub tries : ℕ
-  pub is : control ≡ Searching page tries (VictimGiven buffer)
-  pub has : lacks_buffer (values (PAGE page)) ≡ false
+  pub is : pass.control ≡ Searching page tries (VictimGiven buffer)
+  pub unit_is : unit ≡ pass.units page
+  pub has : lacks_buffer (values (PAGE (pass.units page))) ≡ false
 
 -- a word may be loaded
 abbrev pub MayLoad : Sizes → Values → Pass → Word → Type 0
@@ -83,26 +85,26 @@ MayLoad sizes values pass ORDER = pass.control ≡ LoadOrder
 MayLoad sizes values pass HEAD = (pass.control ≡ WriteLoadHead) ⊎ ((page : ℕ) × (pass.control ≡ ReadLoadHead page))
 MayLoad sizes values pass TAIL = (pass.control ≡ WriteLoadTail) ⊎ ((page : ℕ) × (pass.control ≡ ReadLoadTail page))
 MayLoad sizes values pass (ENTRY slot) = (page number : ℕ) × (pass.control ≡ LoadEntry page number) × (slot ≡ slot_of_entry sizes number)
-MayLoad sizes values pass (DIRTY page) = MayLookUp sizes values pass page
+MayLoad sizes values pass (DIRTY unit) = (page : ℕ) × MayLookUp sizes values pass page × (unit ≡ pass.units page)
 MayLoad sizes values pass (HINT buffer) = IsHinting pass.control buffer
 MayLoad sizes values pass word = ⊥
 
--- a lock may be tried: a page also as a victim
+-- a lock may be tried: a page's also as a victim's
 abbrev pub MayTake : Pass → Word → Type 0
-MayTake pass (PAGE page) = (pass.control ≡ TakePage page) ⊎ IsSeeking pass.control page
+MayTake pass (PAGE unit) = ((page : ℕ) × (pass.control ≡ TakePage page) × (unit ≡ pass.units page)) ⊎ IsSeeking pass.control unit
 MayTake pass (SIZE file) = (pass.control ≡ TakeSize) × (file ≡ file_of pass.call)
 MayTake pass (STORE file) = (page : ℕ) × (dirty : Bool) × (pass.control ≡ TakeStore page dirty) × (file ≡ file_of pass.call)
-MayTake pass (CLEANUP page) = pass.control ≡ TakeCleanup page
+MayTake pass (CLEANUP unit) = (page : ℕ) × (pass.control ≡ TakeCleanup page) × (unit ≡ pass.units page)
 MayTake pass word = ⊥
 
 -- a lock may be given back: by a call that has its place, by one that has read its store or all pieces of a page or robbed a victim, or else
 -- in the reverse order of taking
 abbrev pub MayGive : Pass → Word → Control → Type 0
 MayGive pass (SIZE file) GiveSize = file ≡ file_of pass.call
-MayGive pass (PAGE page) (GivePage next) = page ≡ next
+MayGive pass (PAGE unit) (GivePage page) = unit ≡ pass.units page
 MayGive pass (STORE file) (GiveStore page dirty) = file ≡ file_of pass.call
-MayGive pass (CLEANUP page) (GiveCleanup next) = page ≡ next
-MayGive pass (PAGE page) (Searching missed tries (GiveVictim buffer victim)) = page ≡ victim
+MayGive pass (CLEANUP unit) (GiveCleanup page) = unit ≡ pass.units page
+MayGive pass (PAGE unit) (Searching missed tries (GiveVictim buffer victim)) = unit ≡ victim
 MayGive pass (SIZE file) GiveBack = IsLastTaken (SIZE file) pass.owned
 MayGive pass (PAGE page) GiveBack = IsLastTaken (PAGE page) pass.owned
 MayGive pass (STORE file) GiveBack = IsLastTaken (STORE file) pass.owned
@@ -124,7 +126,7 @@ EnabledByKind sizes values pass (Place reply) = MayPlace sizes values pass reply
 EnabledByKind sizes values pass Stop = IsFailing pass.control
 EnabledByKind sizes values pass Draw = pass.control ≡ DrawNumbers
 EnabledByKind sizes values pass (Seize number) = pass.control ≡ SeizeEntry number
-EnabledByKind sizes values pass (Pledge page) = pass.control ≡ PledgePage page
+EnabledByKind sizes values pass (Pledge unit) = (page : ℕ) × (pass.control ≡ PledgePage page) × (unit ≡ pass.units page)
 EnabledByKind sizes values pass (Ready number) = pass.control ≡ ReadyEntry number
 EnabledByKind sizes values pass Grow = pass.control ≡ GrowLength
 EnabledByKind sizes values pass (Break number) = pass.control ≡ BreakEntry number
@@ -132,5 +134,5 @@ EnabledByKind sizes values pass (ByCleaner cleaner_op) = CleanerEnabled sizes pa
 EnabledByKind sizes values pass (Hold number) = (page : ℕ) × (pass.control ≡ HoldEntry page number)
 EnabledByKind sizes values pass (Return number) = (page : ℕ) × (failed : Bool) × (pass.control ≡ ReturnEntry page number failed)
 EnabledByKind sizes values pass (Turn page) = MayTurn sizes values pass page
-EnabledByKind sizes values pass (Hint buffer page) = MayHint values pass.control buffer page
+EnabledByKind sizes values pass (Hint buffer unit) = MayHint values pass buffer unit
 EnabledByKind sizes values pass _ = ⊥

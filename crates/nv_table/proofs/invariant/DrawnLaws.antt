@@ -7,7 +7,7 @@ use Rattle.nv_plain.specs.declared.call.FileCall.{FileCall}
 use Rattle.nv_plain.specs.declared.call.FileCall.TheVariants.{Read, Write, Readv, Writev, Sync}
 use Rattle.nv_core.specs.state.Words.{Sizes, Word, STOP, ORDER, HEAD, TAIL, SIZE, LENGTH, STORE, ENTRY, HINT, PAGE, DIRTY, CLEANUP, ready, is_entry_of, slot_of_entry}
 use Rattle.nv_core.specs.state.Values.{CallEnding, Made, Failed, Refused}
-use Rattle.nv_core.specs.state.Passes.{Control, Idle, TakePage, LoadLength, TakeSize, LoadStop, LoadOrder, VisitPage, TakeCleanup, TakeStore, ReadStore, GiveStore, Searching, WriteLoadHead, WriteLoadTail, DrawNumbers, SeizeEntry, CommitGroup, PledgePage, ReadyEntry, TakePlace, GrowLength, GiveSize, GivePage, GiveBack, SetStopAfterRead, SetStopAfterPiece, SetStopAfterCommit, BreakEntry, ReadLoadHead, LoadEntry, HoldEntry, ReadPiece, GiveCleanup, Cleaning, Pass, is_read, is_write, page_count, first_page, end_page, without, plain_call}
+use Rattle.nv_core.specs.state.Passes.{Control, Idle, TakePage, LoadLength, TakeSize, LoadStop, LoadOrder, VisitPage, TakeCleanup, TakeStore, ReadStore, GiveStore, Searching, WriteLoadHead, WriteLoadTail, DrawNumbers, SeizeEntry, CommitGroup, PledgePage, ReadyEntry, TakePlace, GrowLength, GiveSize, GivePage, GiveBack, SetStopAfterRead, SetStopAfterPiece, SetStopAfterCommit, BreakEntry, ReadLoadHead, LoadEntry, HoldEntry, ReadPiece, GiveCleanup, Cleaning, Pass, is_read, is_write, page_count, first_page, end_page, without, plain_call, page_of_unit}
 use Rattle.nv_core.specs.state.Cleaner.{CleanerOp}
 use Rattle.nv_core.specs.state.Cleaner as cleaner
 use Rattle.nv_core.specs.steps.Ops.{Op, Load, Take, Give, Place, Stop, Draw, Seize, Pledge, Ready, Grow, Break, Hold, Return, Turn, Hint, ByCleaner, cleaner_move, moved}
@@ -18,7 +18,7 @@ use Rattle.nv_core.specs.state.Core.{worked, control_worked}
 use Rattle.nv_core.specs.steps.PassSteps.{stepped, begun}
 use Rattle.nv_core.specs.invariant.ControlFacts.{HasDrawn, FactsAt, ControlFacts}
 use Rattle.nv_core.proofs.steps.CleanerControls.{tended, tended_to, of_cleaner_worked}
-use Rattle.nv_core.proofs.steps.SearchLaws.{looked_at, turned_at, hinting_at, hinting_next, hinted_at, tried_at, tried_next}
+use Rattle.nv_core.proofs.steps.SearchLaws.{looked_at, turned_at, hinting_at, hinting_next, hinted_at, tried_at, tried_next, clearing_next, pledged_next, hinted_next}
 use Rattle.nv_table.specs.steps.SeatSteps.{pass_worked}
 use Rattle.nv_table.specs.invariant.Drawn.{lost_of, drawn_at, drawn_of, marks_of, IsFromHead, drawn_then, lost_then}
 use Rattle.nv_table.specs.declared.acting.Change.{Change}
@@ -107,21 +107,21 @@ module _ (sizes : Sizes) (values : Values) (pass : Pass) where
     | inr at ↦ subst (λ s. IsClosed (after_tail sizes pass found s)) (sym at.1) (closed_scanning at.0 found)
   ]
   loaded (ENTRY slot) found may = subst (λ s. IsClosed (after_look pass found s)) (sym may.2)
-      (if_both IsClosed (is_entry_of ready may.0 found) (HoldEntry may.0 may.1) (scanning pass may.0 (may.1 + 1)) (λ _. refl) (λ _. closed_scanning may.0 (may.1 + 1)))
-  loaded (DIRTY page) found may = if_both IsClosed (found == 0) (TakeStore page false) (TakeCleanup page) (λ _. refl) (λ _. refl)
+      (if_both IsClosed (is_entry_of ready (pass.units may.0) found) (HoldEntry may.0 may.1) (scanning pass may.0 (may.1 + 1)) (λ _. refl) (λ _. closed_scanning may.0 (may.1 + 1)))
+  loaded (DIRTY unit) found may = if_both IsClosed (found == 0) (TakeStore (page_of_unit sizes pass unit) false) (TakeCleanup (page_of_unit sizes pass unit)) (λ _. refl) (λ _. refl)
   loaded (HINT buffer) found may = hinting_next IsClosed sizes pass buffer found may refl
   loaded word found may = absurd may
 
   took : (cell : Word) (found : ℕ) → MayTake pass cell → IsClosed (control_after sizes pass (Take cell) found)
-  took (PAGE page) found may = tried_next IsClosed sizes pass page found
-      (λ _. if_both IsClosed (found == 0) (if page + 1 == end_page sizes pass.call then LoadLength else TakePage (page + 1)) (leaving pass.owned)
+  took (PAGE unit) found may = tried_next IsClosed sizes pass unit found
+      (λ page _ _. if_both IsClosed (found == 0) (if page + 1 == end_page sizes pass.call then LoadLength else TakePage (page + 1)) (leaving pass.owned)
       (λ _. if_both IsClosed (page + 1 == end_page sizes pass.call) LoadLength (TakePage (page + 1)) (λ _. refl) (λ _. refl)) (λ _. closed_leaving pass.owned))
       (λ seeks. if_both IsClosed (found == 0) _ _ (λ _. refl) (λ _. refl))
       may
   took (SIZE file) found may = if_both IsClosed (found == 0) LoadLength (leaving pass.owned) (λ _. refl) (λ _. closed_leaving pass.owned)
   took (STORE file) found may = if_both IsClosed (found == 0) (copying pass.control) (leaving pass.owned)
       (λ _. subst (λ s. IsClosed (copying s)) (sym may.2) refl) (λ _. closed_leaving pass.owned)
-  took (CLEANUP page) found may = if_both IsClosed (found == 0) (TakeStore page true) (leaving pass.owned) (λ _. refl) (λ _. closed_leaving pass.owned)
+  took (CLEANUP unit) found may = clearing_next IsClosed sizes pass unit found may (if_both IsClosed (found == 0) (TakeStore may.0 true) (leaving pass.owned) (λ _. refl) (λ _. closed_leaving pass.owned))
   took cell found may = absurd may
 
   gave : (cell : Word) (control : Control) → MayGive pass cell control → IsClosed (after_give sizes pass cell control)
@@ -145,15 +145,15 @@ module _ (sizes : Sizes) (values : Values) (pass : Pass) where
   loads HEAD may = elim may [ inl at ↦ subst IsClosed (sym at) refl | inr at ↦ subst IsClosed (sym at.1) refl ]
   loads TAIL may = elim may [ inl at ↦ subst IsClosed (sym at) refl | inr at ↦ subst IsClosed (sym at.1) refl ]
   loads (ENTRY slot) may = subst IsClosed (sym may.2) refl
-  loads (DIRTY page) may = looked_at IsClosed sizes values pass page (λ _. refl) (λ _ _. refl) may
+  loads (DIRTY unit) may = looked_at IsClosed sizes values pass may.0 (λ _. refl) (λ _ _. refl) may.1
   loads (HINT buffer) may = hinting_at IsClosed pass buffer (λ _ _. refl) may
   loads word may = absurd may
 
   takes : (cell : Word) → MayTake pass cell → IsClosed pass.control
-  takes (PAGE page) may = tried_at IsClosed pass page refl (λ _ _ _. refl) may
+  takes (PAGE page) may = tried_at IsClosed pass page (λ _. refl) (λ _ _ _. refl) may
   takes (SIZE file) may = subst IsClosed (sym may.0) refl
   takes (STORE file) may = subst IsClosed (sym may.2) refl
-  takes (CLEANUP page) may = subst IsClosed (sym may) refl
+  takes (CLEANUP page) may = subst IsClosed (sym may.1) refl
   takes cell may = absurd may
 
   gives : (cell : Word) (control : Control) → MayGive pass cell control → IsClosed control
@@ -279,7 +279,8 @@ module _ (sizes : Sizes) (values : Values) (number : ℕ) (history : List Answer
   }
   goes_on Grow may head = stays_closed Grow refl refl (closed_ending sizes values pass) (ap At may)
   goes_on (Turn page) may head = stays_closed (Turn page) refl refl refl (turned_at (λ s. At s ≡ lost_of pass.faulted) sizes values pass page (λ _. refl) (λ _ _. refl) may)
-  goes_on (Hint buffer page) may head = stays_closed (Hint buffer page) refl refl refl (hinted_at (λ s. At s ≡ lost_of pass.faulted) values pass buffer page (λ _. refl) may)
+  goes_on (Hint buffer page) may head = stays_closed (Hint buffer page) refl refl (hinted_next (λ s. At s ≡ lost_of pass.faulted) values pass buffer page may refl)
+      (hinted_at (λ s. At s ≡ lost_of pass.faulted) values pass buffer page (λ _ _. refl) may)
   goes_on (Hold n) may head = stays_closed (Hold n) refl refl (ap (λ s. At (after_hold s)) may.1) (ap At may.1)
   goes_on (Return n) may head = stays_closed (Return n) refl refl
       (ap (λ s. At (after_return sizes pass s)) may.2 ∙ if_both (λ s. At s ≡ lost_of pass.faulted) may.1 (leaving (without (ENTRY (slot_of_entry sizes n)) pass.owned)) (scanning pass may.0 (n + 1))
@@ -292,7 +293,8 @@ module _ (sizes : Sizes) (values : Values) (number : ℕ) (history : List Answer
   goes_on (Seize n) may head = stays_open (Seize n) refl refl
       (if_both (λ s. At s ≡ Some pass.first) (n + 1 == pass.first + pass.entries) (CommitGroup 0) (SeizeEntry (n + 1)) (λ _. refl) (λ _. refl)) (ap At may)
   goes_on (Pledge page) may head = stays_open (Pledge page) refl refl
-      (if_both (λ s. At s ≡ Some pass.first) (page + 1 == end_page sizes pass.call) (ReadyEntry (if pass.entries == 1 then pass.first else pass.first + 1)) (PledgePage (page + 1)) (λ _. refl) (λ _. refl)) (ap At may)
+      (pledged_next (λ s. At s ≡ Some pass.first) sizes pass may.0 may.1
+      (if_both (λ s. At s ≡ Some pass.first) (may.0 + 1 == end_page sizes pass.call) (ReadyEntry (if pass.entries == 1 then pass.first else pass.first + 1)) (PledgePage (may.0 + 1)) (λ _. refl) (λ _. refl))) (ap At may.1)
   goes_on (Ready n) may head = stays_open (Ready n) refl refl
       (if_both (λ s. At s ≡ Some pass.first) (n == pass.first) TakePlace (ReadyEntry (if n + 1 == pass.first + pass.entries then pass.first else n + 1))
       (λ _. ap (λ b. if b then Some pass.first else lost_of pass.faulted) (stands_at (ReadyEntry n) may).0.write) (λ _. refl)) (ap At may)

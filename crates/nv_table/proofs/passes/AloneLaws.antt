@@ -37,7 +37,9 @@ use Rattle.nv_table.proofs.invariant.Going.{told_of}
 use Rattle.nv_table.proofs.invariant.StepAt.{IsMadeAt, made_at}
 use Rattle.nv_table.proofs.invariant.PassLaws.{step_begins}
 use Rattle.nv_table.proofs.steps.TakenLaws.{knows_on}
-use Rattle.nv_core.proofs.invariant.PageLists.{front_apart}
+use Rattle.nv_core.proofs.invariant.PageLists.{AreApart, front_apart}
+use Rattle.nv_core.proofs.invariant.IndexLaws.{units_apart}
+use Rattle.nv_core.specs.invariant.CleanerOwnership.{count_in}
 
 -- ---- nobody else has an event
 
@@ -75,7 +77,7 @@ module _ (sound : RunsAreSound) (view : PassView) (mount : IsMount (mount_of vie
 
 -- ---- no call takes a lock that it holds
 
-module _ (sizes : Sizes) (pass : Pass) (ownership : Ownership sizes pass) (control_facts : ControlFacts sizes pass) where
+module _ (sizes : Sizes) (pass : Pass) (ownership : Ownership sizes pass) (control_facts : ControlFacts sizes pass) (apart : AreApart pass.units) where
   locks_at : (control : Control) → pass.control ≡ control → HoldsLocks sizes pass control
   locks_at control is = subst (HoldsLocks sizes pass) is ownership.locks
 
@@ -90,14 +92,15 @@ module _ (sizes : Sizes) (pass : Pass) (ownership : Ownership sizes pass) (contr
       pick false = refl
 
   not_held : (cell : Word) → MayTake pass cell → times cell pass.owned ≡ 0
-  not_held (PAGE page) (inl is) =
-      locks_at (TakePage page) is (PAGE page) (λ slot. differ (PAGE page) (ENTRY slot) refl) ∙ front_apart sizes pass.call pass.pages page (subst (PagesAt sizes pass) is control_facts.pages) (stands_at (TakePage page) is).0.0
+  not_held (PAGE unit) (inl (page, is, same)) =
+      locks_at (TakePage page) is (PAGE unit) (λ slot. differ (PAGE unit) (ENTRY slot) refl) ∙ ap (count_in pass.pages) same
+      ∙ front_apart sizes pass.call pass.pages page apart (subst (PagesAt sizes pass) is control_facts.pages) (stands_at (TakePage page) is).0.0
   not_held (PAGE page) (inr seeks) =
       locks_at (Searching seeks.page seeks.tries (TakeVictim seeks.buffer page)) seeks.is (PAGE page) (λ slot. differ (PAGE page) (ENTRY slot) refl)
       ∙ (stands_at (Searching seeks.page seeks.tries (TakeVictim seeks.buffer page)) seeks.is).2
   not_held (SIZE file) may = locks_at TakeSize may.0 (SIZE file) (λ slot. differ (SIZE file) (ENTRY slot) refl) ∙ none_of file (file_of pass.call) (one_if pass.sized) (ap one_if (stands_at TakeSize may.0))
   not_held (STORE file) may = locks_at (TakeStore may.0 may.1) may.2 (STORE file) (λ slot. differ (STORE file) (ENTRY slot) refl) ∙ none_of file (file_of pass.call) 0 refl
-  not_held (CLEANUP page) may = locks_at (TakeCleanup page) may (CLEANUP page) (λ slot. differ (CLEANUP page) (ENTRY slot) refl)
+  not_held (CLEANUP unit) may = locks_at (TakeCleanup may.0) may.1 (CLEANUP unit) (λ slot. differ (CLEANUP unit) (ENTRY slot) refl)
   not_held cell may = absurd may
 
 -- a lock that is found held is shut
@@ -160,7 +163,7 @@ module _ (sound : RunsAreSound) (tell : OwnEventsTell) where
       let at = made_at sound tell old.view new.view stepped.works opens (Take cell) found mount stepped.steps in
       let pass = at.core.passes old.view.number in
       let may : MayTake pass cell = (find_kind old.view.opened.sizes old.view.number at.core (Take cell) found at.may).may in
-      let own = not_held old.view.opened.sizes pass (at.sound.ownership old.view.number) (at.sound.control_facts old.view.number) cell may in
+      let own = not_held old.view.opened.sizes pass (at.sound.ownership old.view.number) (at.sound.control_facts old.view.number) (units_apart at.core at.sound.index old.view.number) cell may in
       let low : at.core.words cell ≤ 1 = at.sound.locks.bit cell (lock pass cell may) in
       let is : at.core.words cell ≡ found = at.may.is in
       elim (cases_eq found 0) [
