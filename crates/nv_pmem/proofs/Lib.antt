@@ -13,5 +13,5 @@ pub mod OneOfRow
 pub mod CallLaws
 pub mod Ranges
 mod RowStateLaws
-mod LineLoops
+mod HeldLines
 mod LineWiseLaws

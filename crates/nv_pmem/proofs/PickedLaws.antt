@@ -1,7 +1,7 @@
 -- Laws about picked images: they are images, and quiet; and one more line.
-use Rattle.std.proofs.Common.{◌≡◌, ◌≢◌, ℕ, ◌+◌, ◌-◌, ◌%◌, ◌<◌, ◌≤◌, ◌==◌, if◌then◌else◌, Bool, true, false, [], ◌∷◌, ◌++◌, length, get_or, set, take, drop, zero, suc, refl, sym, ap, subst, ◌∙◌, arith, append_assoc}
+use Rattle.std.proofs.Common.{◌≡◌, ◌≢◌, ℕ, ◌+◌, ◌-◌, ◌%◌, ◌<◌, ◌≤◌, ◌==◌, if◌then◌else◌, Bool, true, false, [], ◌∷◌, ◌++◌, length, get_or, set, take, drop, zero, suc, refl, sym, ap, subst, ◌∙◌, arith, append_assoc, length-append}
 use Rattle.std.proofs.lemmas.Bool.{ne_eqb}
-use Rattle.std.proofs.lemmas.List.{take_more, drop_more, get_or_at, set_at, length-take, take_all, drop_all, append-nil}
+use Rattle.std.proofs.lemmas.List.{take_more, drop_more, get_or_at, set_at, length-take, length-drop, take_all, drop_all, append-nil}
 use Rattle.std.specs.List.{refill}
 use Rattle.nv_pmem.specs.Draws.{Draws, next_word, after_draw}
 use Rattle.nv_pmem.specs.Images.{MayHave, PowerMayLeave, IsPartImage, later_values, IsQuietLine, IsQuietPart}
@@ -143,10 +143,11 @@ words_all draws line i words now over so_far =
     ∙ ap (λ (draw : Draws). let both : Line × Draws = (all.0, draw) in both) so_far.draws_are
     ∙ ap (picked_from draws 0) (take_all i line over)
 
-pub length-words_all : (draws : Draws) (line : Line) (i : ℕ) (words : Line) (now : Draws) → length line ≤ i → PicksWords draws line i words now → length words ≡ length line
-length-words_all draws line i words now over so_far =
-    let all = (picked_from draws 0 (take i line)).0 in
-    ap length (so_far.are ∙ ap (λ rest. all ++ rest) (drop_all i line over) ∙ append-nil all) ∙ length-picked_from draws 0 (take i line) ∙ ap length (take_all i line over)
+pub length-words : (draws : Draws) (line : Line) (i : ℕ) (words : Line) (now : Draws) → PicksWords draws line i words now → length words ≡ length line
+length-words draws line i words now so_far =
+    let front = (picked_from draws 0 (take i line)).0 in
+    ap length so_far.are
+    ∙ omega (arith, length-append front (drop i line), length-picked_from draws 0 (take i line), length-take i line, length-drop i line)
 
 -- ---- they are images, and quiet
 

@@ -1,6 +1,7 @@
 //! A line in memory, with all values that its words can have.
-ghost use Rattle.std.specs.Prelude.{◌≡◌, ◌<◌, ◌≤◌, length, map};
-ghost use Rattle.nv_pmem.specs.Part.{blank_line, word_of, settled_word, newest, newest_value, word_at, stored, stored_value, flushed, flushed_word, fenced, fenced_word};
+ghost use Rattle.std.specs.Prelude.{◌≡◌, ◌≢◌, ℕ, ◌<◌, ◌≤◌, List, length, map, take, slice_index_or, slice_set, None};
+ghost use Rattle.nv_pmem.specs.MemLine.{noted, column};
+ghost use Rattle.nv_pmem.specs.Part.{blank_line, word_of, newest, newest_value, word_at, stored, flushed, flushed_word, fenced, fenced_word};
 ghost use Rattle.nv_pmem.specs.Made.{words_in};
 ghost use Rattle.nv_pmem.specs.Steps.{word_in};
 ghost use Rattle.nv_pmem.specs.Picked.{settled, value_of, taken, picked_word, picked_line};
@@ -12,42 +13,43 @@ use std::marker::Model;
 /// How many values a word can have had since its oldest.
 const LATER_VALUES: usize = 15;
 
+/// The mark of a word that no flush noted since the last fence.
+const UNMARKED: u8 = 16;
+
 /// A line in memory. Contracts see it as the line that it is.
+///
+/// What calls need stands in rows of eight, a place for each word: so a flush and a fence copy rows. Only a fence that
+/// finds something stored behind the flush looks at the words one by one, and so does a power failure.
 #[derive(Drop)]
 pub(crate) struct MemLine {
-    // Whether it was flushed since the last fence: a fence looks at no word of a line that wasn't.
+    // Whether it was flushed since the last fence, and whether something may have been stored since.
     is_flushed: bool,
-    words: [MemWord; 8],
+    is_behind: bool,
+    newest: [u64; 8],
+    oldest: [u64; 8],
+    // How many values each word has had since its oldest, and how many of them a flush noted.
+    counts: [u8; 8],
+    marks: [u8; 8],
+    // Those values: the first ones of all words, then the second ones, and so on.
+    later: [[u64; 8]; LATER_VALUES],
 }
 
 impl Model for MemLine {
     ghost use Rattle.nv_pmem.specs.Part.{Line};
-    ghost use Rattle.nv_pmem.specs.MemLine.{HoldsLine};
+    ghost use Rattle.nv_pmem.specs.MemLine.{held_line, HoldsLine};
 
     ghost Value = { Line };
 
-    ghost view = { λ l. l.words };
+    ghost view = { λ l. held_line l.oldest l.counts l.marks l.later };
 
-    ghost invariant = { λ l. HoldsLine l.is_flushed l.words };
+    ghost invariant = { λ l. HoldsLine l.is_flushed l.is_behind l.newest l.oldest l.counts l.marks l.later };
 }
 
 impl MemLine {
     pub(crate) fn blank() -> Self
         ensures { result ≡ blank_line }
     {
-        MemLine {
-            is_flushed: false,
-            words: [
-                MemWord::settled(0),
-                MemWord::settled(0),
-                MemWord::settled(0),
-                MemWord::settled(0),
-                MemWord::settled(0),
-                MemWord::settled(0),
-                MemWord::settled(0),
-                MemWord::settled(0),
-            ],
-        }
+        MemLine::settled(&[0; 8])
     }
 
     /// The line of 64 bytes, of which each word has one value.
@@ -55,18 +57,29 @@ impl MemLine {
     pub(crate) fn of(bytes: &[u8; 64]) -> Self
         ensures { result ≡ settled (words_in bytes.now) }
     {
+        MemLine::settled(&[
+            word_of_bytes(bytes, 0),
+            word_of_bytes(bytes, 1),
+            word_of_bytes(bytes, 2),
+            word_of_bytes(bytes, 3),
+            word_of_bytes(bytes, 4),
+            word_of_bytes(bytes, 5),
+            word_of_bytes(bytes, 6),
+            word_of_bytes(bytes, 7),
+        ])
+    }
+
+    fn settled(words: &[u64; 8]) -> Self
+        ensures { result ≡ settled words.now }
+    {
         MemLine {
             is_flushed: false,
-            words: [
-                MemWord::settled(word_of_bytes(bytes, 0)),
-                MemWord::settled(word_of_bytes(bytes, 1)),
-                MemWord::settled(word_of_bytes(bytes, 2)),
-                MemWord::settled(word_of_bytes(bytes, 3)),
-                MemWord::settled(word_of_bytes(bytes, 4)),
-                MemWord::settled(word_of_bytes(bytes, 5)),
-                MemWord::settled(word_of_bytes(bytes, 6)),
-                MemWord::settled(word_of_bytes(bytes, 7)),
-            ],
+            is_behind: false,
+            newest: *words,
+            oldest: *words,
+            counts: [0; 8],
+            marks: [UNMARKED; 8],
+            later: [[0; 8]; LATER_VALUES],
         }
     }
 
@@ -75,70 +88,154 @@ impl MemLine {
     {
         MemLine {
             is_flushed: self.is_flushed,
-            words: [
-                self.words[0].copy(),
-                self.words[1].copy(),
-                self.words[2].copy(),
-                self.words[3].copy(),
-                self.words[4].copy(),
-                self.words[5].copy(),
-                self.words[6].copy(),
-                self.words[7].copy(),
-            ],
+            is_behind: self.is_behind,
+            newest: self.newest,
+            oldest: self.oldest,
+            counts: self.counts,
+            marks: self.marks,
+            later: self.later,
         }
     }
 
-    #[tactic(auto, unfolding(crate::specs::Part::newest, crate::specs::Part::word_at))]
     pub(crate) fn load(&self, word: usize) -> u64
         requires { word < 8 }
         ensures { result ≡ word_at (newest self.now) word }
     {
-        self.words[word].newest()
+        self.newest[word]
     }
 
-    #[tactic(auto, unfolding(crate::specs::Part::stored))]
     pub(crate) fn store(&mut self, word: usize, value: u64)
         requires word { word < 8 }
         requires spare { length (word_of self.old word).later < 15 }
         ensures { self.new ≡ stored word value self.old }
     {
-        let word = &mut self.words[word];
-        word.store(value);
+        let count = self.counts[word];
+        self.newest[word] = value;
+        self.later[count as usize][word] = value;
+        self.counts[word] = count + 1;
+        self.is_behind = true;
     }
 
-    #[tactic(auto, unfolding(crate::specs::Part::flushed))]
     pub(crate) fn flush(&mut self)
         ensures { self.new ≡ flushed self.old }
     {
-        for at in 0..8 {
-            let word = &mut self.words[at];
-            word.flush();
-        }
+        self.marks = self.counts;
         self.is_flushed = true;
+        self.is_behind = false;
     }
 
-    #[tactic(auto, unfolding(crate::specs::Part::fenced))]
     pub(crate) fn fence(&mut self)
         ensures { self.new ≡ fenced self.old }
     {
-        if self.is_flushed {
-            self.is_flushed = false;
-            for at in 0..8 {
-                let word = &mut self.words[at];
-                word.fence();
-            }
+        if !self.is_flushed {
+            return;
         }
+        if self.is_behind {
+            self.fence_words();
+        } else {
+            self.oldest = self.newest;
+            self.counts = [0; 8];
+            self.marks = [UNMARKED; 8];
+            self.is_flushed = false;
+        }
+    }
+
+    // A fence word by word, which is rare: in a frame of its own, so that other fences save no registers for it.
+    #[inline(never)]
+    fn fence_words(&mut self)
+        ensures { self.new ≡ fenced self.old }
+    {
+        // Until each word is put back, no flush has noted all of them.
+        self.is_behind = true;
+        for at in 0..8 {
+            let mut word = self.word(at);
+            word.fence();
+            self.put(at, &word);
+        }
+        self.is_flushed = false;
     }
 
     /// Loses power: of each word the value that the picker takes is left.
     pub(crate) fn lose_power(&mut self, picker: &mut Picker)
         ensures { (self.new, picker.new) ≡ picked_line picker.old self.old }
     {
-        self.is_flushed = false;
+        // Until each word is put back, no flush has noted all of them.
+        self.is_behind = true;
         for at in 0..8 {
-            let word = &mut self.words[at];
+            let mut word = self.word(at);
             word.lose_power(at, picker);
+            self.put(at, &word);
         }
+        self.is_flushed = false;
+    }
+
+    // The word at a place.
+    fn word(&self, at: usize) -> MemWord
+        requires { at < 8 }
+        ensures { result ≡ word_of self.now at }
+    {
+        MemWord {
+            oldest: self.oldest[at],
+            later: taken_from(&self.later, at, self.counts[at] as usize),
+            flushed: noted(self.marks[at]),
+        }
+    }
+
+    // Puts a word that isn't flushed in a place.
+    fn put(&mut self, at: usize, word: &MemWord)
+        requires at { at < 8 }
+        requires unflushed { word.now.flushed ≡ None }
+        ensures { self.new ≡ slice_set self.old at word.now }
+    {
+        self.newest[at] = word.newest();
+        self.oldest[at] = word.oldest;
+        self.counts[at] = word.later.len() as u8;
+        self.marks[at] = UNMARKED;
+        put_into(&mut self.later, at, &word.later);
+        self.is_flushed = true;
+        self.is_behind = true;
+    }
+}
+
+// How many values a flush noted, if there was one.
+fn noted(mark: u8) -> Option<usize>
+    ensures { result ≡ noted mark }
+{
+    if mark == UNMARKED {
+        None
+    } else {
+        Some(mark as usize)
+    }
+}
+
+// The first values that rows have at a place.
+fn taken_from(
+    rows: &[[u64; 8]; LATER_VALUES],
+    at: usize,
+    count: usize,
+) -> ArrayVec<u64, LATER_VALUES>
+    requires at { at < 8 }
+    requires count { count ≤ 15 }
+    ensures { result.items ≡ take count (column rows.now at) }
+{
+    let mut values = ArrayVec::new();
+    for row in 0..count {
+        values.push(rows[row][at]);
+    }
+    values
+}
+
+// Writes values over the first ones that rows have at a place.
+fn put_into(rows: &mut [[u64; 8]; LATER_VALUES], at: usize, values: &[u64])
+    requires at { at < 8 }
+    requires count { length values.now ≤ 15 }
+    requires wide { (row : ℕ) (none : List ℕ) → row < 15 → length (slice_index_or rows.old row none) ≡ 8 }
+    ensures wide { (row : ℕ) (none : List ℕ) → row < 15 → length (slice_index_or rows.new row none) ≡ 8 }
+    ensures put { take (length values.now) (column rows.new at) ≡ values.now }
+    ensures others { (other : ℕ) → other ≢ at → column rows.new other ≡ column rows.old other }
+{
+    for row in 0..values.len() {
+        rows[row][at] = values[row];
     }
 }
 
@@ -162,46 +259,10 @@ impl Model for MemWord {
 }
 
 impl MemWord {
-    fn settled(value: u64) -> Self
-        ensures { result ≡ settled_word value }
-    {
-        MemWord {
-            oldest: value,
-            later: ArrayVec::new(),
-            flushed: None,
-        }
-    }
-
-    fn copy(&self) -> Self
-        ensures { result ≡ self.now }
-    {
-        let mut later = ArrayVec::new();
-        let fits = later.try_extend_from_slice(&self.later).is_ok();
-        prove!(fits);
-        MemWord {
-            oldest: self.oldest,
-            later,
-            flushed: self.flushed,
-        }
-    }
-
     fn newest(&self) -> u64
         ensures { result ≡ newest_value self.now }
     {
         self.later.last().copied().unwrap_or(self.oldest)
-    }
-
-    fn store(&mut self, value: u64)
-        requires { length self.old.later < 15 }
-        ensures { self.new ≡ stored_value value self.old }
-    {
-        self.later.push(value);
-    }
-
-    fn flush(&mut self)
-        ensures { self.new ≡ flushed_word self.old }
-    {
-        self.flushed = Some(self.later.len());
     }
 
     fn fence(&mut self)

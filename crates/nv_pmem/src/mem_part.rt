@@ -24,7 +24,7 @@ pub struct MemPart {
 impl MemPart {
     ghost use Rattle.nv_pmem.specs.MemPart.{IsBlankMemPart, IsNewPart, part_now, part_history, part_room, part_faults, part_device};
 
-    /// A part of so many lines of zeros, durable, whose calls all go well. It takes about 1,230 bytes a line.
+    /// A part of so many lines of zeros, durable, whose calls all go well. It takes about 1,110 bytes a line.
     pub fn new(alloc: Global, lines: u64) -> Result<Self, NoMemory>
         ensures { IfOk result (IsBlankMemPart lines) }
     {

@@ -1,37 +1,19 @@
-use Rattle.std.proofs.Common.{◌≡◌, ℕ, ◌++◌, map, take, drop, subst, ◌<◌, ◌≤◌, length, slice_set, refl, sym, ap, ◌∙◌, arith}
-use Rattle.std.proofs.lemmas.List.{length-map}
-use Rattle.std.proofs.lemmas.List.Edits.{map_over_more}
-use Rattle.nv_pmem.specs.MemLine.{NoneIsNoted}
-use Rattle.nv_pmem.specs.Part.{Line, fenced_word, fenced}
-use Rattle.nv_pmem.proofs.LineLoops.{all_words, none_to_fence, none_behind_fence}
+use Rattle.std.proofs.Common.{sym, ap, ◌∙◌}
+use Rattle.nv_pmem.specs.Part.{fenced}
+use Rattle.nv_pmem.proofs.HeldLines.{holds_settled, fence_held, unmarked_fence}
 use Rattle.nv_pmem.proofs.mem_line.MemLine.fence.Goals as goal
 
-pub loop-at-init : goal.loop-at-init
-loop-at-init c = refl
-
-pub loop-at-preserved : goal.loop-at-preserved
-loop-at-preserved c =
-    let inside : c.loop-at.at < length c.self.inside.words = omega (arith, c.self.invariant.words) in
-    ap (slice_set c.loop-at.self-inside.words c.loop-at.at) (c.fence.ensures ∙ ap fenced_word (sym c.index-self-at.is))
-    ∙ map_over_more fenced_word c.self.inside.words _ _ _ inside c.loop-at.invariant c.index-self-at.is
-
--- the words after the loop
-after_loop : (words now : Line) (at : ℕ) → length words ≡ 8 → 8 ≤ at → now ≡ map fenced_word (take at words) ++ drop at words → now ≡ map fenced_word words
-after_loop words now at long over so_far = all_words fenced_word words now at so_far (omega arith)
+pub returns-then-not-self : goal.returns-then-not-self
+returns-then-not-self c =
+    let rows = c.self.inside in
+    sym c.self.view_is ∙ unmarked_fence rows.is_flushed rows.is_behind rows.newest rows.oldest rows.counts rows.marks rows.later c.self.invariant c.if-not-self.true
+    ∙ ap fenced c.self.view_is
 
 pub invariant_of-self : goal.invariant_of-self
-invariant_of-self c =
-    let words = c.self.inside.words in
-    let after = after_loop words c.loop-at.self-inside.words c.loop-at.at c.self.invariant.words c.loop-at-test.false c.loop-at.invariant in
-    record {
-      words = ap length after ∙ length-map words fenced_word ∙ c.self.invariant.words;
-      unflushed = λ _. subst NoneIsNoted (sym after) (none_behind_fence words);
-    }
-
-pub returns-after-loop-at : goal.returns-after-loop-at
-unfolding fenced
-returns-after-loop-at c =
-    rw (← c.self.view_is) (after_loop c.self.inside.words c.loop-at.self-inside.words c.loop-at.at c.self.invariant.words c.loop-at-test.false c.loop-at.invariant)
+invariant_of-self c = holds_settled c.self.inside.is_behind c.self.inside.newest c.self.inside.later c.self.invariant.wide.0 c.self.invariant.long c.self.invariant.rows_wide
 
 pub returns-else-self : goal.returns-else-self
-returns-else-self c = rw (← c.self.view_is) (sym (none_to_fence c.self.inside.words (c.self.invariant.unflushed c.if-self.false)))
+returns-else-self c =
+    let rows = c.self.inside in
+    fence_held rows.is_flushed rows.is_behind rows.newest rows.oldest rows.counts rows.marks rows.later c.self.invariant c.if-not-self.false c.if-self.false
+    ∙ ap fenced c.self.view_is

@@ -1,8 +1,0 @@
-use Rattle.std.proofs.Common.{◌≡◌, ◌++◌, map, take, drop}
-use Rattle.nv_pmem.specs.Part.{fenced_word}
-use Rattle.nv_pmem.proofs.mem_line.MemLine.fence.Given as goal
-
--- the words before this one are fenced
-abbrev pub invariant-loop-at : goal.invariant-loop-at
-invariant-loop-at l =
-    l.self-inside.words ≡ map fenced_word (take l.at l.initial.self-inside.words) ++ drop l.at l.initial.self-inside.words
