@@ -17,7 +17,6 @@ use Rattle.nv_plain.specs.declared.call.Reply.TheVariants.{Bytes}
 use Rattle.nv_pmem.specs.Steps.{PartHistory}
 use Rattle.nv_pmem.proofs.RowLaws.{row_tells_more}
 use Rattle.nv_store.specs.Steps.{StoreHistory}
-use Rattle.nv_bench.specs.Benches.{BenchState}
 use Rattle.nv_core.specs.content.Content.{Opens}
 use Rattle.nv_core.specs.content.StorePages.{HasFiles}
 use Rattle.nv_core.specs.crash.CrashImages.{OpensRegion}
@@ -34,10 +33,11 @@ use Rattle.nv_core.specs.state.Words.{Sizes}
 use Rattle.nv_core.specs.steps.Order.{Values}
 use Rattle.nv_table.specs.invariant.Idle.{IsIdle, IsLater}
 use Rattle.nv_table.specs.passes.Seats.{past_of}
-use Rattle.nv_table.specs.passes.Alone.{IsAlone}
+use Rattle.nv_table.specs.passes.Alone.{CallsLeaveAlone, IsAlone}
 use Rattle.nv_table.specs.state.Opened.{IsRunOf, mount_of, state_of}
 use Rattle.nv_table.specs.state.States.{IsOf, PassState}
-use Rattle.nv_table.specs.state.Views.{PassView, made_of, pass_of, past_pass}
+use Rattle.nv_table.specs.state.Views.{PassView, first_view, made_of, pass_of, past_pass}
+use Rattle.nv_table.specs.state.Workspaces.{WorkspaceState}
 use Rattle.nv_mirror.specs.Answers.{IsPlacedAs, IsReadPlaced, IsUnplaced, answered_by, refusal_in_answer}
 use Rattle.nv_mirror.specs.PassSteps.{is_fault}
 use Rattle.nv_mirror.specs.declared.answers.Done.{Done}
@@ -46,15 +46,13 @@ use Rattle.nv_mount.specs.Mounts.{MountState}
 use Rattle.nv_mount.specs.WholeRuns.{history_then}
 use Rattle.nv_mount.specs.WholeWrites.{CrashesLeaveWholeWrites, LeavesWholeWrites, faults_then, kept_writes}
 use Rattle.nv_clean.specs.declared.batch.CleanRefusal.{CleanRefusal}
-use Rattle.nv_session.specs.Calls.{HasCleanedAll, HasRead, HasWritten, HaveCarried}
-use Rattle.nv_session.specs.Closing.{Views}
-use Rattle.nv_session.specs.Sessions.{FirstState}
+use Rattle.nv_session.specs.Calls.{HasCleanedAll, HaveCarried}
 use Rattle.nv_mount.specs.declared.fds.Fd.{Fd}
 use Rattle.nv_calls.specs.fsync.SyncRuns.{file_of_fd}
 use Rattle.nv_calls.specs.histories.Faults.{OpensBy, ReadsOpenNothing, WritesOpen, open_in, open_writes}
 use Rattle.nv_calls.specs.writes.Writes.{IsWritePlaced}
 use Rattle.nv_runner.specs.OpenWrites.{KeptAreOpen, kept_open}
-use Rattle.nv_own.specs.Owned.{HasBytes, HasEnded, HasPut, IsOwn, LeaveFiles, TellsFiles, Told, files_of, files_seen, opening_files}
+use Rattle.nv_own.specs.Owned.{HasBytes, HasPut, HasReadAlone, HasWrittenAlone, IsOwn, LeaveFiles, OwnState, Told, files_of, files_seen, opening_files}
 
 -- ---- a history of one caller
 
@@ -171,37 +169,43 @@ pub refused_keeps : (old new : PassView) (result : Result Done Refusal) → new.
 refused_keeps old new (Ok done) same kept = tt
 refused_keeps old new (Err refusal) same kept = files_stay old new same kept
 
--- ---- between two calls of a session
+-- ---- between two calls
 
-pub same_mount : (old new : FirstState) → IsOf old.mount.board old.pass → IsOf new.mount.board new.pass → new.mount ≡ old.mount → new.pass.view.opened ≡ old.pass.view.opened
+pub same_mount : (old new : OwnState) → IsOf old.mount.board old.pass → IsOf new.mount.board new.pass → new.mount ≡ old.mount → new.pass.view.opened ≡ old.pass.view.opened
 same_mount old new was now same = now.same_mount ∙ ap (λ (mount : MountState). mount.board.opened) same ∙ sym was.same_mount
 
-pub own_later : (old new : FirstState) → IsOwn old → IsAlone old.pass.view → IsLater old.pass new.pass → IsOwn new
-own_later old new own alone later = later.made alone.zero ∙ own
+-- what is known of it
+pub record Stands (own : OwnState) : Type 0 where
+  pub one : made_of own.pass.view ≡ 0
+  pub board : IsOf own.mount.board own.pass
+  pub alone : IsAlone own.pass.view
+  pub mount : IsMount (mount_of own.pass.view.opened)
+  pub run : IsRunOf own.pass.view.opened own.pass.view.run
 
--- what is known of a first session
-pub record Stands (first : FirstState) : Type 0 where
-  pub own : IsOwn first
-  pub board : IsOf first.mount.board first.pass
-  pub alone : IsAlone first.pass.view
-  pub mount : IsMount (mount_of first.pass.view.opened)
-  pub run : IsRunOf first.pass.view.opened first.pass.view.run
+-- So it is between two calls, and behind one.
+pub stands : {L B : Type 0} (own : OwnState) (workspace : WorkspaceState L B) → IsOwn own.mount own.pass workspace → IsMount (mount_of own.pass.view.opened) → IsRunOf own.pass.view.opened own.pass.view.run → Stands own
+stands own workspace is mount run = record { one = is.one; board = is.ready.board; alone = is.alone; mount = mount; run = run }
 
-pub one_call : RunsAreSound → (old new : FirstState) → IsLater old.pass new.pass → new.mount ≡ old.mount → Stands old → Stands new → IsOneCall old.pass.view new.pass.view
+pub stands_after : CallsLeaveAlone → (old new : OwnState) → Stands old → IsOf new.mount.board new.pass → IsIdle new.pass → IsLater old.pass new.pass
+    → IsMount (mount_of new.pass.view.opened) → IsRunOf new.pass.view.opened new.pass.view.run → Stands new
+stands_after calls old new was board idle later mount run =
+    record { one = later.made was.alone.zero ∙ was.one; board = board; alone = calls old.pass new.pass later idle was.alone; mount = mount; run = run }
+
+pub one_call : RunsAreSound → (old new : OwnState) → IsLater old.pass new.pass → new.mount ≡ old.mount → Stands old → Stands new → IsOneCall old.pass.view new.pass.view
 one_call sound old new later same was now = record {
   same = same_mount old new was.board now.board same;
-  was = sees_its_own sound old.pass.view was.mount was.run was.alone.zero was.own;
-  now = sees_its_own sound new.pass.view now.mount now.run now.alone.zero now.own;
+  was = sees_its_own sound old.pass.view was.mount was.run was.alone.zero was.one;
+  now = sees_its_own sound new.pass.view now.mount now.run now.alone.zero now.one;
 }
 
--- ---- the calls of a session
+-- ---- the calls
 
-module _ (sound : RunsAreSound) (goes_on : GoesOnFrom) (fd at : ℕ) (old new : FirstState) (result : Result Done Refusal) (same : new.mount ≡ old.mount) (was : Stands old) (now : Stands new) where
+module _ (sound : RunsAreSound) (goes_on : GoesOnFrom) (fd at : ℕ) (old new : OwnState) (result : Result Done Refusal) (same : new.mount ≡ old.mount) (was : Stands old) (now : Stands new) where
   -- What the mount told when it was opened is told of its pass too.
   told_of : Told old.mount.board.opened → Told old.pass.view.opened
   told_of told = subst Told (sym was.board.same_mount) told
 
-  module _ (buf : List ℕ) (read : HasRead old.mount fd at buf old.pass new.pass result) where
+  module _ (buf : List ℕ) (read : HasReadAlone old.mount fd at buf old.pass new.pass result) where
     pub read_leaves : files_of new ≡ files_of old
     read_leaves = read_keeps goes_on old.mount.fds fd at old.pass.view new.pass.view (one_call sound old new read.later same was now) buf result read.done read.kept
 
@@ -214,9 +218,10 @@ module _ (sound : RunsAreSound) (goes_on : GoesOnFrom) (fd at : ℕ) (old new : 
         go (Err refusal) has = tt
 
     pub read_opens : ReadsOpenNothing → open_writes new.pass ≡ open_writes old.pass
-    read_opens nothing = nothing old.mount.fds fd at buf old.pass new.pass result was.mount read.tried
+    read_opens nothing = nothing old.mount.fds fd at buf old.pass new.pass result was.mount
+        (record { tries = []; last = old.pass; busy = refl; over = read.over; stays = λ seen. seen; heeds = read.stop })
 
-  module _ (bytes : List ℕ) (written : HasWritten old.mount fd at bytes old.pass new.pass result) where
+  module _ (bytes : List ℕ) (written : HasWrittenAlone old.mount fd at bytes old.pass new.pass result) where
     pub write_puts : IfOk result (λ done. HasPut old.mount.fds fd at bytes (files_of old) (files_of new))
     write_puts = writes goes_on old.mount.fds fd at old.pass.view new.pass.view (one_call sound old new written.later same was now) bytes result written.done
 
@@ -224,7 +229,8 @@ module _ (sound : RunsAreSound) (goes_on : GoesOnFrom) (fd at : ℕ) (old new : 
     write_refused = refused_keeps old.pass.view new.pass.view result (same_mount old new was.board now.board same) written.kept
 
     pub write_opens : WritesOpen → OpensBy (is_fault (refusal_in_answer result)) old.mount.fds fd at bytes old.pass new.pass
-    write_opens opens = opens old.mount.fds fd at bytes old.pass new.pass result was.mount written.tried
+    write_opens opens = opens old.mount.fds fd at bytes old.pass new.pass result was.mount
+        (record { tries = []; last = old.pass; again = refl; over = written.over; left = written.left; stays = λ seen. seen; heeds = written.stop })
 
 -- Batches of a cleaner keep the faults of their pass.
 carried_faults : (most count : ℕ) (start now : PassState) → HaveCarried most count start now → (pass_of now.view).faulted ≡ (pass_of start.view).faulted
@@ -243,49 +249,47 @@ files_are sizes first files has = ap (λ c. record { contents = c }) (sym (fill_
     each : (k : ℕ) → k < sizes.files → get_or files.contents k [] ≡ store_bytes (first (STORE k))
     each k low = let tells = has.tell.each k low in sym (told_seen first k tells.0 tells.1 ∙ has.seen.seen k tells.0 tells.1)
 
-pub tells_files : (first : FirstState) → IsOf first.mount.board first.pass → TellsFiles first
-tells_files first board files log opens =
-    let opened = first.mount.board.opened in
+-- A mount whose pass has seen nothing yet has just these.
+pub opens_files : (own : OwnState) → own.pass.view ≡ first_view own.mount.board.opened → OpensLog (mount_of own.mount.board.opened) own.mount.board.opened.next
+    → (files : Files) → Opens (mount_of own.mount.board.opened) files → Told own.mount.board.opened × (files_of own ≡ files)
+opens_files own view log files opens =
+    let opened = own.mount.board.opened in
     let are = files_are opened.sizes (mount_of opened).values files opens.stores in (
       record { log = log; files = subst (Opens (mount_of opened)) (sym are) opens },
-      ap (after (pass_of first.pass.view).seen) (ap opening_files board.same_mount ∙ are),
+      ap files_seen view ∙ are,
     )
 
 -- ---- what a power failure leaves at the end
 
-module _ (sound : RunsAreSound) (kept : KeptAreOpen) (first : FirstState) (stands : Stands first) (idle : IsIdle first.pass) where
-  history_is : history_then first.pass.view ≡ (pass_of first.pass.view).seen
+module _ (sound : RunsAreSound) (kept : KeptAreOpen) (own : OwnState) (stands : Stands own) (idle : IsIdle own.pass) where
+  history_is : history_then own.pass.view ≡ (pass_of own.pass.view).seen
   history_is =
-      let view = first.pass.view in
+      let view = own.pass.view in
       let core = state_of view.opened view.run in
-      sym (subst (λ number. (core.passes number).seen ≡ core.history) (sym stands.alone.zero) (seen_is_all core (sound (mount_of view.opened) view.run stands.mount stands.run) stands.own))
+      sym (subst (λ number. (core.passes number).seen ≡ core.history) (sym stands.alone.zero) (seen_is_all core (sound (mount_of view.opened) view.run stands.mount stands.run) stands.one))
 
-  faults_are : faults_then first.pass.view ≡ (pass_of first.pass.view).faulted
+  faults_are : faults_then own.pass.view ≡ (pass_of own.pass.view).faulted
   faults_are =
-      let view = first.pass.view in
-      let none : view.ended ≡ [] = nil_from_length view.ended (stands.alone.all ∙ stands.own) in
+      let view = own.pass.view in
+      let none : view.ended ≡ [] = nil_from_length view.ended (stands.alone.all ∙ stands.one) in
       ap (λ ended. flat_map (λ past. (past_pass view.opened past).faulted) (past_of view ∷ ended)) none ∙ append-nil (pass_of view).faulted
 
-  recovers : (files : Files) (names : List (List ℕ)) (image : Image) (bytes : Files) → LeavesWholeWrites first.pass.view files names image bytes
-      → (recovered image bytes).files ≡ after_calls (kept_open (recovered image bytes).first (recovered image bytes).groups (open_writes first.pass)) (after (pass_of first.pass.view).seen files)
+  recovers : (files : Files) (names : List (List ℕ)) (image : Image) (bytes : Files) → LeavesWholeWrites own.pass.view files names image bytes
+      → (recovered image bytes).files ≡ after_calls (kept_open (recovered image bytes).first (recovered image bytes).groups (open_writes own.pass)) (after (pass_of own.pass.view).seen files)
   recovers files names image bytes leaves =
-      let view = first.pass.view in
+      let view = own.pass.view in
       let from = (recovered image bytes).first in
       let groups = (recovered image bytes).groups in
       leaves.faults idle.owned idle.taken (faults_then view) (IsPermutation-refl (faults_then view))
       ∙ ap₂ (λ calls history. after_calls calls (after history files)) (ap (kept_writes from groups) faults_are ∙ kept from groups (pass_of view).faulted) history_is
 
-  pub leaves_files : (parts : List PartHistory) (stores : List StoreHistory) → CrashesLeaveWholeWrites first.pass.view parts stores
-      → Told first.mount.board.opened → LeaveFiles first.mount.board.opened (files_of first) (open_writes first.pass) parts stores
+  pub leaves_files : (parts : List PartHistory) (stores : List StoreHistory) → CrashesLeaveWholeWrites own.pass.view parts stores
+      → Told own.mount.board.opened → LeaveFiles own.mount.board.opened (files_of own) (open_writes own.pass) parts stores
   leaves_files parts stores crash told names opens =
-      let view = first.pass.view in
-      let same : view.opened ≡ first.mount.board.opened = stands.board.same_mount in
+      let view = own.pass.view in
+      let same : view.opened ≡ own.mount.board.opened = stands.board.same_mount in
       let files = opening_files view.opened in
       row_tells_more parts _ _
       (λ now each image is. row_tells_more stores _ _ (λ held whole bytes are. recovers files names image bytes (whole bytes are)) (each image is))
       (crash files names (subst (λ o. OpensLog (mount_of o) o.next) (sym same) told.log) (subst (λ o. Opens (mount_of o) (opening_files o)) (sym same) told.files)
       (subst (λ o. OpensRegion (mount_of o) names) (sym same) opens))
-
--- A value's session is the one inside.
-pub ended_so : {L B : Type 0} (views : Views L B) (bench : BenchState) (inside first : FirstState) → inside ≡ first → HasEnded views inside bench → HasEnded views first bench
-ended_so views bench inside first same ended = subst (λ (first : FirstState). HasEnded views first bench) same ended

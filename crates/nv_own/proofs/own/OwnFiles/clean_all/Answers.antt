@@ -1,11 +1,22 @@
--- No batch opens a write.
-use Rattle.std.proofs.Common.{◌≡◌, subst}
-use Rattle.nv_calls.specs.histories.Faults.{open_writes}
-use Rattle.nv_session.specs.Sessions.{FirstState}
-use Rattle.nv_own.proofs.OwnLaws.{cleaned_opens}
+-- A batch that carried entries comes behind those before it.
+use Rattle.std.proofs.Common.{◌∙◌}
+use Rattle.std.specs.Prelude.{suc}
 use Rattle.nv_own.proofs.own.OwnFiles.clean_all.Goals as goal
 
-pub returns-clause-opens : goal.returns-clause-opens
-returns-clause-opens g c =
-    subst (λ (first : FirstState). open_writes c.clean_all-result.new.self.pass ≡ open_writes first.pass) c.self.view_is
-    (cleaned_opens c.args.most c.self.inside.first.pass c.clean_all-result.new.self.pass c.clean_all-result.result c.clean_all-result.ensures.cleaned)
+pub loop-refusal-preserved : goal.loop-refusal-preserved
+loop-refusal-preserved g c =
+    let so_far = c.loop-refusal.invariant in
+    let more = c.in-Ok.ensures in
+    record {
+      mount = more.mount ∙ so_far.mount;
+      later = record {
+        number = more.call.later.number ∙ so_far.later.number;
+        ended = more.call.later.ended ∙ so_far.later.ended;
+        made = λ none. more.call.later.made (so_far.later.number ∙ none) ∙ so_far.later.made none;
+      };
+      spare = more.call.spare ∙ so_far.spare;
+      carried = (suc so_far.carried.0, (c.loop-refusal.self.pass, so_far.carried.1, c.in-Ok.field-0, more.call.over));
+      kept = record { seen = more.call.kept.seen ∙ so_far.kept.seen; mine = more.call.kept.mine ∙ so_far.kept.mine };
+      files = more.files ∙ so_far.files;
+      opens = more.opens ∙ so_far.opens;
+    }

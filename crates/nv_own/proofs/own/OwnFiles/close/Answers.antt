@@ -1,16 +1,28 @@
 -- Its calls are the history, and its open writes the faults.
-use Rattle.std.proofs.Common.{map}
-use Rattle.nv_own.proofs.OwnLaws.{ended_so, leaves_files}
+use Rattle.std.proofs.Common.{map, subst}
+use Rattle.nv_own.specs.Owned.{HasEnded, OwnState}
+use Rattle.nv_own.proofs.OwnLaws.{leaves_files, stands}
 use Rattle.nv_own.proofs.own.OwnFiles.close.Goals as goal
 
 pub returns : goal.returns
 returns g c =
-    let ended = c.close.ensures in
-    let alone = c.is_alone.ensures in
-    ended_so _ (g.T.Bench.state c.close.result) c.self.inside.first c.args.self c.self.view_is
+    let told = c.in-Ok.ensures in
+    let closed = c.in-Ok.closed in
+    let own : OwnState = record { mount = c.self.inside.mount; pass = c.self.inside.pass } in
+    let stand = stands own c.self.inside.workspace c.self.invariant c.sees_a_run.ensures.mount c.sees_a_run.ensures.run in
+    subst (λ (own : OwnState). HasEnded _ own closed.parts.items closed.stores.items closed.placed closed.tail) c.self.view_is
     (record {
-      closed = ended;
-      left = leaves_files c.runs_are_sound.ensures.runs c.open_answers_are_faults.ensures.kept c.self.inside.first
-          (record { own = c.self.invariant; board = alone.board; alone = alone.alone; mount = alone.mount; run = alone.run }) alone.idle
-          (map g.T.Part.Lines.history ended.parts) (map g.T.Store.Backing.history ended.stores) ended.told.crash;
+      closed = told.closed;
+      told = record {
+        whole = told.whole;
+        history = told.history;
+        rest = told.rest;
+        crash = told.crash;
+        stopped = told.stopped;
+        grew = told.grew;
+        telling = told.telling;
+        lines = told.lines;
+      };
+      left = leaves_files c.runs_are_sound.ensures.runs c.open_answers_are_faults.ensures.kept own stand c.self.invariant.ready.idle
+          (map g.L.Lines.history closed.parts.items) (map g.B.Backing.history closed.stores.items) told.crash;
     })
