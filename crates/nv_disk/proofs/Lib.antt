@@ -1,0 +1,7 @@
+pub mod ShownLaws
+pub mod ZeroLaws
+pub mod WrittenLaws
+pub mod WritingLaws
+pub mod PairLaws
+pub mod FileLaws
+pub mod OpenLaws
