@@ -1,0 +1,4 @@
+pub mod ListMode
+pub mod Answers
+pub mod Scripts
+pub mod Leaving
