@@ -82,8 +82,8 @@ fn left<R: Abort>(rt: &R, alloc: Global, files: Files<Cut>) -> Connection<FileSt
 #[test]
 fn a_stop_at_any_call_leaves_what_was_answered(rt: HostRuntime) -> Result<(), Fail> {
     let alloc = rt.alloc();
-    for step in 0..12 {
-        let calls = 9 * step;
+    for step in 0..4 {
+        let calls = 11 + 13 * step;
         let Some(conn) = stopped_at(alloc, calls) else {
             continue;
         };
