@@ -104,7 +104,7 @@ impl<T: Bench> Disk for MountFile<T> {
     }
 
     fn write_at(&mut self, at: usize, bytes: &[u8]) -> io::Result<()> {
-        let written = self.pair.write(at as u64, bytes);
+        let written = self.pair.write_in_turn(at as u64, bytes);
         counted_room(written, &mut self.faults, &mut self.refused)
     }
 

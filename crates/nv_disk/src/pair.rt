@@ -1,7 +1,7 @@
 //! Two files of a mount that nobody shares, which show as one.
 ghost use Rattle.std.specs.Prelude.{◌≡◌, ◌+◌, ◌<◌, ◌≤◌, true, false, length, IsErr, OnOk};
 ghost use Rattle.std.specs.Int.{w64, to_le_bytes};
-ghost use Rattle.sqlite_disk.specs.Disk.{Cut, Holds, Mixed, Only};
+ghost use Rattle.sqlite_disk.specs.Disk.{Cut, Holds, Mixed, Only, Torn};
 ghost use Rattle.nv_plain.specs.Files.{contents_of, overwritten};
 ghost use Rattle.nv_own.specs.Owned.{Told, files_of};
 ghost use Rattle.nv_disk.specs.MountFiles.{may_leave};
@@ -128,9 +128,10 @@ impl<L: Lines + Drop, B: Backing + Drop> Pair<L, B> {
         ensures going { OnOk result (self.new.frozen ≡ false) }
     {
         write_leaves_its_bytes();
+        let most = self.room.most().min(ZEROS.len()) as u64;
         let mut at = self.len();
         while at < end {
-            let count = (end - at).min(ZEROS.len() as u64);
+            let count = (end - at).min(most);
             self.write_bytes(at, &ZEROS[..count as usize])?;
             at += count;
         }
@@ -159,6 +160,31 @@ impl<L: Lines + Drop, B: Backing + Drop> Pair<L, B> {
         self.write_bytes(at, bytes)?;
         if end > self.len() {
             self.write_end(end)?;
+        }
+        Ok(())
+    }
+
+    /// The bytes are shown from the offset on, with zeros in a gap behind the old end: by one write, or by several in turn where they are
+    /// more than one may have. One that fails is the last, and those before it are shown.
+    pub(crate) fn write_in_turn(&mut self, at: u64, bytes: &[u8]) -> io::Result<()>
+        ensures changed { HasChanged (Torn at (length bytes.now)) self.old self.new }
+        ensures written { OnOk result (0 < length bytes.now → Holds (seen_by self.new) at bytes.now) }
+        ensures exact { OnOk result (seen_by self.new ≡ overwritten (seen_by self.old) at bytes.now) }
+        ensures frozen { self.old.frozen ≡ true → IsErr result }
+        ensures same { self.old.frozen ≡ true → self.new ≡ self.old }
+    {
+        if self.is_frozen() {
+            return Err(stopped());
+        }
+        if at.checked_add(bytes.len() as u64).is_none() {
+            return Err(full());
+        }
+        let most = self.room.most();
+        let mut done = 0;
+        while done < bytes.len() {
+            let end = done.saturating_add(most).min(bytes.len());
+            self.write(at + done as u64, &bytes[done..end])?;
+            done = end;
         }
         Ok(())
     }

@@ -24,7 +24,7 @@ fn lose_power(bench: &mut MemBench, pick: Pick) -> Result<(), NoMemory>
     bench.power(pick)
 }
 
-// What is written is read, with zeros before it, also behind an end that was lower in between.
+// What is written is read, with zeros before it, also behind an end that was lower in between; and where it takes two writes.
 #[test]
 fn a_file_is_written_and_cut(rt: HostRuntime) -> Result<(), Fail> {
     let alloc = rt.alloc();
@@ -39,6 +39,10 @@ fn a_file_is_written_and_cut(rt: HostRuntime) -> Result<(), Fail> {
     file.set_len(6)?;
     file.read_at(0, &mut buf)?;
     assert_eq!(rt; buf, *b"\0\0\0a\0\0");
+    file.write_at(1000, &[7; 900])?;
+    assert_eq!(rt; file.len()?, 1900);
+    file.read_at(997, &mut buf)?;
+    assert_eq!(rt; buf, [0, 0, 0, 7, 7, 7]);
     file.sync()?;
     drop(file.close());
     Ok(())

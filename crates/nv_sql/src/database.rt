@@ -15,7 +15,7 @@ use sqlite_disk::Disk;
 use std::alloc::Global;
 
 /// How many pages the log of a database may have before the next transaction copies them to its file. The library writes zeros ahead of
-/// its log, as many as the log has bytes, at once; and a mount takes a write of 64 pages.
+/// its log, as many as the log has bytes.
 const LOG_PAGES: usize = 28;
 
 /// How many pages of a transaction are written to the log at once.
