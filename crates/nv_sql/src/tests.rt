@@ -1,4 +1,7 @@
 //! Scripts over memory, and over two files in memory that lose power at a call.
+ghost use Rattle.std.specs.Prelude.{IfSome, IsTrue};
+ghost use Rattle.sqlite.specs.Files.{file_state};
+ghost use Rattle.sqlite.specs.State.{HasCleanDisk};
 
 use crate::{Stop, open_database, run, run_and_leave};
 use nv_trace::MemSink;
@@ -48,7 +51,9 @@ fn a_script_ends_at_its_first_fault(rt: HostRuntime) -> Result<(), Fail> {
 type Cut = Fuse<Memory>;
 
 // How many rows the database of two files has. They are as they are then.
-fn rows_in(alloc: Global, conn: Connection<FileStore<Cut>>) -> Result<(u64, Files<Cut>), Fail> {
+fn rows_in(alloc: Global, conn: Connection<FileStore<Cut>>) -> Result<(u64, Files<Cut>), Fail>
+    requires { HasCleanDisk (file_state conn) → IsTrue (file_state conn).is_open }
+{
     let mut out = MemSink::new(alloc, 100, &[])?;
     let (ended, files) = run_and_leave(alloc, conn, b"SELECT count(*) FROM t", &mut out);
     let text = str::from_utf8(out.bytes())?.trim_ascii_end();
@@ -63,14 +68,18 @@ fn rows_in(alloc: Global, conn: Connection<FileStore<Cut>>) -> Result<(u64, File
 }
 
 // A database of two files, whose log stops behind so many calls.
-fn stopped_at(alloc: Global, calls: u64) -> Option<Connection<FileStore<Cut>>> {
+fn stopped_at(alloc: Global, calls: u64) -> Option<Connection<FileStore<Cut>>>
+    ensures { IfSome result (λ conn. HasCleanDisk (file_state conn) → IsTrue (file_state conn).is_open) }
+{
     let log = Fuse::new(Memory::new(alloc), calls);
     let db = Fuse::new(Memory::new(alloc), 1 << 40);
     open_database(alloc, Files { log, db }, 5).ok()
 }
 
 // What is left of two files by a power failure, opened again.
-fn left<R: Abort>(rt: &R, alloc: Global, files: Files<Cut>) -> Connection<FileStore<Cut>> {
+fn left<R: Abort>(rt: &R, alloc: Global, files: Files<Cut>) -> Connection<FileStore<Cut>>
+    ensures { HasCleanDisk (file_state result) → IsTrue (file_state result).is_open }
+{
     let Files { mut log, mut db } = files;
     log.crash();
     db.crash();
