@@ -1,0 +1,3 @@
+CREATE TABLE stock (name TEXT, count INTEGER);
+INSERT INTO stock VALUES ('nut', 7);
+SELECT * FROM stock;
