@@ -3,7 +3,7 @@
 # rows of commands and their reports (rows.py), lines of traces (traces.py), folders of a real disk (folder.py), regions that are made by hand (regions.py); compares the
 # summaries of loads with those of the rules (load.py) and the reports of 400 drawn schedules, 100 of them with crashes, with those of a model of the machine that is
 # made after the pages (schedules.py), looks for the one history of 20,000 calls of four threads, and of 18,000 amid which power fails (crowds.py), stops runs of two threads
-# at each of many device calls (stops.py), kills a few of four over a folder (threads.py), kills scripts of SQL and holds what is left against SQLite (database.py), feeds inputs round by round and has their sources, sinks and runs end amid (streams.py), counts what threads take from the heap once they are at work (thread_memory.py) and what calls
+# at each of many device calls (stops.py), kills a few of four over a folder (threads.py), cuts and kills scripts of SQL and holds what is left against SQLite (database.py), feeds inputs round by round and has their sources, sinks and runs end amid (streams.py), counts what threads take from the heap once they are at work (thread_memory.py) and what calls
 # that take no memory allocate (no_memory.sh), and tries the tests that nothing proves (tests.sh). These two build anew, and what runs over folders or databases waits for the disk, so each of
 # these goes beside the others and is told behind them.
 # The gate leaves the programs built; without it, this builds them. All of it is made; ends with the status of the first that fails.
@@ -13,9 +13,11 @@ built() { [ -x "$1/out/$1" ] || (cd "$1" && rt run -- "${@:2}" < /dev/null > /de
 built nv_sim run --noworker
 built nv_run || true
 built nv_db || true
+built nv_db_stops || true
 sim=$PWD/nv_sim/out/nv_sim
 run=$PWD/nv_run/out/nv_run
 db=$PWD/nv_db/out/nv_db
+stops=$PWD/nv_db_stops/out/nv_db_stops
 room=$(mktemp -d)
 trap 'rm -rf "$room"' EXIT
 first=0
@@ -35,7 +37,7 @@ over_folders() {
 begin ../checks/tests.sh
 begin ../checks/no_memory.sh
 begin over_folders
-begin python3 ../checks/database.py "$db"
+begin python3 ../checks/database.py "$db" "$stops"
 tell python3 ../checks/docs.py
 tell python3 ../checks/program.py "$sim"
 tell python3 ../checks/rows.py "$sim"
