@@ -56,16 +56,13 @@ pub(crate) fn write_as<A: Asks, L: Lines + Drop, B: Backing + Drop>(
     ensures workspace { IsWorkspace board.now.opened.sizes workspace.new }
     ensures bare { workspace.new.parts.items ≡ [] }
 {
-    let mut write = RunningWrite::new(board.layout(), Asked::Write { file, at, bytes });
-    loop {
-        match write {
-            RunningWrite::Over(Ok(place)) => {
-                let len = bytes.len() as u64;
-                return Ok(Done { place, len });
-            }
-            RunningWrite::Over(Err(refusal)) => return Err(refusal),
-            _ => write.advance::<A, L, B>(board, pass, workspace.parts()),
+    let write = RunningWrite::new(board.layout(), Asked::Write { file, at, bytes });
+    match write.run::<A, L, B>(board, pass, workspace.parts()) {
+        Ok(place) => {
+            let len = bytes.len() as u64;
+            Ok(Done { place, len })
         }
+        Err(refusal) => Err(refusal),
     }
 }
 

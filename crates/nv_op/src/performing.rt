@@ -90,6 +90,7 @@ pub fn perform_asked<A: Asks, L: Lines, B: Backing>(
 }
 
 /// The same, where something is so of the device calls that the pass has made since its last step: it is so of those that the step tells.
+#[inline(always)]
 pub fn perform_after<W: Says, L: Lines, B: Backing>(
     board: &Board<L, B>,
     pass: &mut Pass<L, B>,

@@ -54,6 +54,7 @@ fn fill<L: Lines, B: Backing>(held: &mut Slot<L, B>, bytes: &[u8])
 }
 
 // Lays some bytes over a buffer, from an offset on, where it counts.
+#[inline(always)]
 fn lay_over(buffer: &mut PageBuffer, at: usize, bytes: &[u8])
     requires { at + length bytes.now ≤ length buffer.old.bytes.items }
     ensures { ABuffer (Some record { bytes = buffer.new.bytes.items; valid = buffer.new.valid }) ≡ patched at bytes.now (ABuffer (Some record { bytes = buffer.old.bytes.items; valid = buffer.old.valid })) }
@@ -64,6 +65,7 @@ fn lay_over(buffer: &mut PageBuffer, at: usize, bytes: &[u8])
 }
 
 // Lays some bytes over the buffer of a slot, from an offset on, where it counts.
+#[inline(always)]
 fn lay<L: Lines, B: Backing>(held: &mut Slot<L, B>, at: usize, bytes: &[u8])
     requires { (buffer : Buffer) → slot_value (part_value L.device L.history L.fault_count L.room) (store_value B.device B.history B.fault_count) held.old ≡ ABuffer (Some buffer) → at + length bytes.now ≤ length buffer.bytes }
     ensures { slot_value (part_value L.device L.history L.fault_count L.room) (store_value B.device B.history B.fault_count) held.new
@@ -161,6 +163,7 @@ pub fn fill_page<L: Lines, B: Backing>(
 }
 
 /// Lays some bytes of a write over the buffer of a page, from an offset in it on, where it counts.
+#[inline(always)]
 pub fn patch_page<L: Lines, B: Backing>(
     board: &Board<L, B>,
     pass: &mut Pass<L, B>,

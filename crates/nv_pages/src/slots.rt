@@ -24,6 +24,7 @@ pub(crate) fn slot_of_page<L: Lines, B: Backing>(board: &Board<L, B>, page: u64)
 }
 
 // The slot of a file's store.
+#[inline(always)]
 pub(crate) fn slot_of_store<L: Lines, B: Backing>(board: &Board<L, B>, file: u64) -> usize
     requires { file < board.now.opened.sizes.files }
     ensures { result ≡ store_slot board.now.opened.sizes file }
@@ -33,6 +34,7 @@ pub(crate) fn slot_of_store<L: Lines, B: Backing>(board: &Board<L, B>, file: u64
 }
 
 // The slot of the part of a number's entry.
+#[inline(always)]
 pub(crate) fn slot_of_entry<L: Lines, B: Backing>(board: &Board<L, B>, number: u64) -> usize
     ensures { result ≡ entry_slot board.now.opened.sizes number }
 {

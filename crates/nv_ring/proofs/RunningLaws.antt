@@ -12,10 +12,12 @@ use Rattle.nv_mirror.specs.declared.answers.Refusal.{Refusal}
 use Rattle.nv_ring.specs.declared.append.AppendMachine.{AppendMachine}
 use Rattle.nv_ring.specs.declared.append.AppendControl.TheVariants.{Appended, Refused}
 use Rattle.nv_ring.specs.declared.append.AppendControl.TheVariants as appends
+use Rattle.nv_mirror.specs.declared.front.FrontControl.{FrontControl}
 use Rattle.nv_mirror.specs.declared.front.FrontMachine.{FrontMachine}
 use Rattle.nv_mirror.specs.declared.front.FrontControl.TheVariants as fronts
 use Rattle.nv_mirror.specs.declared.pageless.PagelessControl.TheVariants as controls
 use Rattle.nv_mirror.specs.declared.pageless.PagelessMachine.{PagelessMachine}
+use Rattle.nv_mirror.specs.declared.release.ReleaseControl.{ReleaseControl}
 use Rattle.nv_mirror.specs.declared.release.ReleaseMachine.{ReleaseMachine}
 use Rattle.nv_mirror.specs.declared.release.ReleaseControl.TheVariants as releases
 use Rattle.nv_ring.specs.declared.write.RunningWrite.TheVariants.{Pageless, Front, Draw, Append, Release}
@@ -50,6 +52,42 @@ front_over m refusal call start now control way =
 pub release_over : (m : ReleaseMachine) (call : FileCall) (start now : PassState) → m.control ≡ releases.Over → IsUnderWay call (Release m) start now → IsMadeOver call None (Some m.place) start now
 release_over m call start now control way =
     call_over (release.release_call_of m) call _ None (Some m.place) start now way.0 (subst (λ c. release.IsInCall m c start now) control way.1.1) refl refl
+
+-- ---- a part is over nowhere else
+
+pub open_front : (control : FrontControl) → (control ≡ fronts.Passed → ⊥) → ((refusal : Refusal) → control ≡ fronts.Over refusal → ⊥) → front.IsOpen control
+open_front fronts.Passed passed over = absurd (passed refl)
+open_front (fronts.Over refusal) passed over = absurd (over refusal refl)
+open_front fronts.Begin passed over = tt
+open_front fronts.TakePage passed over = tt
+open_front fronts.LoadLength passed over = tt
+open_front fronts.TakeSize passed over = tt
+open_front fronts.LoadStop passed over = tt
+open_front fronts.LoadOrder passed over = tt
+open_front (fronts.GiveBack size refusal) passed over = tt
+
+pub open_draw : (control : DrawControl) → (control ≡ draws.Drawn → ⊥) → ((refusal : Refusal) → control ≡ draws.Refused refusal → ⊥) → draw.IsOpen control
+open_draw draws.Drawn drawn refused = absurd (drawn refl)
+open_draw (draws.Refused refusal) drawn refused = absurd (refused refusal refl)
+open_draw draws.LoadHead drawn refused = tt
+open_draw draws.LoadTail drawn refused = tt
+open_draw draws.DrawNumbers drawn refused = tt
+
+pub open_append : (control : AppendControl) → (control ≡ Appended → ⊥) → ((refusal : Refusal) → control ≡ Refused refusal → ⊥) → append.IsOpen control
+open_append Appended appended refused = absurd (appended refl)
+open_append (Refused refusal) appended refused = absurd (refused refusal refl)
+open_append (appends.SeizeEntry seized) appended refused = tt
+open_append appends.CommitGroup appended refused = tt
+open_append (appends.PledgePage pledged) appended refused = tt
+open_append (appends.ReadyEntry ready) appended refused = tt
+open_append appends.TakePlace appended refused = tt
+open_append appends.GrowLength appended refused = tt
+open_append (appends.BreakEntry broken) appended refused = tt
+
+pub open_release : (control : ReleaseControl) → (control ≡ releases.Over → ⊥) → release.IsOpen control
+open_release releases.Over over = absurd (over refl)
+open_release releases.GiveSize over = tt
+open_release (releases.GivePage given) over = tt
 
 -- ---- what is given back first
 

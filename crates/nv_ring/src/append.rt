@@ -55,6 +55,7 @@ pub struct AppendMachine<'a> {
 
 impl<'a> AppendMachine<'a> {
     // The number of the entry that is made ready behind so many, and the word that it gets.
+    #[inline(always)]
     fn ready_number(self, ready: u64) -> u64
         requires own { ready < self.pages }
         requires numbers { self.number + self.pages ≤ 2 ^ 60 }
@@ -67,6 +68,7 @@ impl<'a> AppendMachine<'a> {
         }
     }
 
+    #[inline(always)]
     fn ready_word(self, ready: u64) -> u64
         requires own { ready < self.pages }
         requires few { self.pages ≤ mount_layout.group_limit }
@@ -82,6 +84,7 @@ impl<'a> AppendMachine<'a> {
     }
 
     // The next step, where no device call has failed.
+    #[inline(always)]
     fn next(self, layout: Layout) -> Op
         requires { Fits (sizes_of layout) self }
         ensures { result ≡ append_op self.entry false }
@@ -112,6 +115,7 @@ impl<'a> AppendMachine<'a> {
     }
 
     // What comes behind the pledge of one of its pages.
+    #[inline(always)]
     fn pledged_after(self, pledged: u64) -> AppendControl
         requires { pledged < self.pages }
         ensures { result ≡ pledged_then self.entry pledged }
@@ -126,6 +130,7 @@ impl<'a> AppendMachine<'a> {
     }
 
     // Where it stands after a step that found this, where no device call has failed.
+    #[inline(always)]
     fn control_after(self, layout: Layout, found: u64) -> AppendControl
         requires { Fits (sizes_of layout) self }
         ensures { result ≡ control_then (sizes_of layout) self.entry self.entry.control false found }
@@ -158,6 +163,7 @@ impl<'a> AppendMachine<'a> {
     }
 
     // What it notes of what was found.
+    #[inline(always)]
     fn noted(self, found: u64) -> AppendMachine<'a>
         ensures { result ≡ noted self.entry self.entry.control found }
     {
@@ -171,6 +177,7 @@ impl<'a> AppendMachine<'a> {
     }
 
     // What it is after the step.
+    #[inline(always)]
     pub(crate) fn after(self, layout: Layout, found: u64) -> AppendMachine<'a>
         requires { Fits (sizes_of layout) self }
         ensures { result ≡ append_after (sizes_of layout) self.entry false found }
@@ -182,6 +189,7 @@ impl<'a> AppendMachine<'a> {
     }
 
     // Makes the next step, where neither a device call nor a buffer's change comes before it.
+    #[inline(always)]
     pub(crate) fn step<L: Lines, B: Backing>(&mut self, board: &Board<L, B>, pass: &mut Pass<L, B>)
         requires board { IsOf board.now pass.old }
         requires plain { IsPlain self.old.control }

@@ -22,6 +22,7 @@ use std::marker::Brand;
 
 impl<'a> AppendMachine<'a> {
     // Lays the piece of one of its pages over the page's buffer, where that counts.
+    #[inline(always)]
     fn patch<L: Lines, B: Backing>(self, board: &Board<L, B>, pass: &mut Pass<L, B>, done: u64)
         requires board { IsOf board.now pass.old }
         requires fits { Fits pass.old.view.opened.sizes self }
@@ -39,6 +40,7 @@ impl<'a> AppendMachine<'a> {
     }
 
     // Pledges one of its pages, whose piece is laid over the buffer before. The result is what the word was found at.
+    #[inline(always)]
     fn pledge_page<L: Lines, B: Backing>(
         self,
         board: &Board<L, B>,
@@ -60,7 +62,8 @@ impl<'a> AppendMachine<'a> {
     }
 
     // Makes the pledge of the page behind so many.
-    fn pledge<L: Lines, B: Backing>(
+    #[inline(always)]
+    pub(crate) fn pledge<L: Lines, B: Backing>(
         &mut self,
         board: &Board<L, B>,
         pass: &mut Pass<L, B>,
@@ -84,7 +87,8 @@ impl<'a> AppendMachine<'a> {
 
     // Makes the device calls of its commit, and pledges its first page; or sets STOP, where one of them has failed. While the calls are made the parts of its
     // entries lie in `parts`.
-    fn commit<L: Lines, B: Backing>(
+    #[inline(always)]
+    pub(crate) fn commit<L: Lines, B: Backing>(
         &mut self,
         board: &Board<L, B>,
         pass: &mut Pass<L, B>,

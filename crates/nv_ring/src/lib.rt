@@ -7,6 +7,7 @@ mod lent;
 mod numbers;
 mod ways;
 mod write;
+mod write_run;
 
 pub use append::{AppendControl, AppendMachine};
 pub use numbers::{DrawControl, DrawMachine};

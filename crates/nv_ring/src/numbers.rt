@@ -45,6 +45,7 @@ pub struct DrawMachine<'a> {
 
 impl<'a> DrawMachine<'a> {
     // The next step.
+    #[inline(always)]
     fn next(self) -> Op
         ensures { result ≡ draw_op self.entry }
     {
@@ -59,6 +60,7 @@ impl<'a> DrawMachine<'a> {
     }
 
     // Where it stands after a step that found this.
+    #[inline(always)]
     fn control_after(self, layout: Layout, found: u64) -> DrawControl
         requires { Fits (sizes_of layout) self }
         ensures { result ≡ control_then (sizes_of layout) self.entry self.entry.control found }
@@ -84,6 +86,7 @@ impl<'a> DrawMachine<'a> {
     }
 
     // What it notes of what was found.
+    #[inline(always)]
     fn noted(self, found: u64) -> DrawMachine<'a>
         ensures { result ≡ noted self.entry self.entry.control found }
     {
@@ -97,6 +100,7 @@ impl<'a> DrawMachine<'a> {
     }
 
     // What it is after the step.
+    #[inline(always)]
     fn after(self, layout: Layout, found: u64) -> DrawMachine<'a>
         requires { Fits (sizes_of layout) self }
         ensures { result ≡ draw_after (sizes_of layout) self.entry found }
@@ -111,6 +115,7 @@ impl<'a> DrawMachine<'a> {
     ///
     /// It draws its numbers by at most three steps, and is refused as `Spent` where HEAD leaves too few numbers, as `Again` where TAIL leaves no room for the
     /// entries, and as `Raced` where another write moved HEAD between its load and the exchange. Nothing is drawn then.
+    #[inline(always)]
     pub fn advance<L: Lines, B: Backing>(&mut self, board: &Board<L, B>, pass: &mut Pass<L, B>)
         requires board { IsOf board.now pass.old }
         requires open { IsOpen self.old.control }

@@ -21,6 +21,7 @@ use nv_table::Layout;
 
 impl<'a> DrawMachine<'a> {
     /// The draw of a write whose front is over.
+    #[inline(always)]
     pub fn behind(front: FrontMachine<'a>, layout: Layout) -> Self
         requires passed { front.control ≡ fronts.Passed }
         requires fits { FitsFront (sizes_of layout) front }
@@ -61,6 +62,7 @@ impl<'a> DrawMachine<'a> {
     }
 
     /// The append of a write that has its numbers.
+    #[inline(always)]
     pub fn append(self) -> AppendMachine<'a>
         requires drawn { self.control ≡ draws.Drawn }
         ensures machine { result ≡ append_of self.entry }
@@ -82,6 +84,7 @@ impl<'a> DrawMachine<'a> {
     }
 
     /// The way back of a write that has drawn none.
+    #[inline(always)]
     pub fn give_back(self, layout: Layout) -> FrontMachine<'a>
         requires refused { IsRefusedDraw self.control }
         requires fits { FitsDraw (sizes_of layout) self }
@@ -115,6 +118,7 @@ impl<'a> DrawMachine<'a> {
 
 impl<'a> AppendMachine<'a> {
     // What it asks for.
+    #[inline(always)]
     fn asked(self) -> Asked<'a>
         ensures { result ≡ append_asked self.entry }
     {
@@ -126,6 +130,7 @@ impl<'a> AppendMachine<'a> {
     }
 
     // What it gives back first.
+    #[inline(always)]
     fn first_given(self) -> ReleaseControl
         ensures { result ≡ (if self.entry.sized then releases.GiveSize else releases.GivePage 0) }
     {
@@ -137,6 +142,7 @@ impl<'a> AppendMachine<'a> {
     }
 
     /// The end of a write that is in the log.
+    #[inline(always)]
     pub fn release(self) -> ReleaseMachine<'a>
         requires appended { self.control ≡ appends.Appended }
         ensures machine { result ≡ released_of self.entry }
@@ -154,6 +160,7 @@ impl<'a> AppendMachine<'a> {
     }
 
     /// The way back of a write that is refused.
+    #[inline(always)]
     pub fn give_back(self, layout: Layout) -> FrontMachine<'a>
         requires refused { IsRefused self.control }
         requires fits { FitsAppend (sizes_of layout) self }

@@ -37,6 +37,7 @@ pub enum RunningWrite<'a> {
 
 impl<'a> RunningWrite<'a> {
     /// A write that is allowed, and has made no step yet.
+    #[inline(always)]
     pub fn new(layout: Layout, asked: Asked<'a>) -> Self
         requires write { AsksForWrite asked }
         requires allowed { IsAllowed (sizes_of layout) (call_asked asked) }
