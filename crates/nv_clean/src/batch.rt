@@ -136,6 +136,7 @@ impl CleanMachine {
     }
 
     // The page of an entry of the group at hand.
+    #[inline(always)]
     pub(crate) fn page(&self, at: u64) -> u64
         requires { at < length self.now.batch.pages }
         ensures { result ≡ group_page self.now.batch at }
@@ -144,6 +145,7 @@ impl CleanMachine {
     }
 
     // Whether it is the last one of the group.
+    #[inline(always)]
     pub(crate) fn is_last(&self, at: u64) -> bool
         ensures { result ≡ (at + 1 == length self.now.batch.pages) }
     {
@@ -152,6 +154,7 @@ impl CleanMachine {
     }
 
     // Its file.
+    #[inline(always)]
     pub(crate) fn file(&self, layout: Layout) -> u64
         requires { 0 < length self.now.batch.pages }
         ensures { result ≡ group_file (sizes_of layout) self.now.batch }
@@ -160,6 +163,7 @@ impl CleanMachine {
     }
 
     // Whether it holds STORE of a file.
+    #[inline(always)]
     pub(crate) fn holds_store(&self, file: u64) -> bool
         ensures { result ≡ holds_store self.now.batch file }
     {
@@ -167,6 +171,7 @@ impl CleanMachine {
     }
 
     // The first file from one on whose STORE it holds; behind the last where there is none.
+    #[inline(always)]
     pub(crate) fn next_store(&self, layout: Layout, from: u64) -> u64
         ensures { files_from (sizes_of layout) self.now.batch from ≡ (if nat_lt result layout.files then result ∷ files_from (sizes_of layout) self.now.batch (result + 1) else []) }
     {

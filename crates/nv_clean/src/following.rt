@@ -17,6 +17,7 @@ use nv_table::{HEADER, Layout};
 
 impl CleanMachine {
     // All that is left is given back, or it is over.
+    #[inline(always)]
     pub(crate) fn withdraw(&mut self)
         ensures control { (sizes : Sizes) → control_of sizes self.new ≡ withdrawing self.old.owned self.old.batch }
         ensures begun { IsBegun self.new.control }
@@ -32,6 +33,7 @@ impl CleanMachine {
     }
 
     // It has no group at hand.
+    #[inline(always)]
     fn close(&mut self)
         ensures { self.new ≡ record self.old { batch = closed self.old.batch } }
     {
@@ -40,6 +42,7 @@ impl CleanMachine {
     }
 
     // It ends.
+    #[inline(always)]
     fn finish(&mut self)
         ensures control { (sizes : Sizes) → control_of sizes self.new ≡ finishing sizes self.old.owned self.old.batch }
         ensures begun { IsBegun self.new.control }
@@ -56,6 +59,7 @@ impl CleanMachine {
     }
 
     // Why it has cleaned nothing, where its first group can't be cleaned. The first reason stays.
+    #[inline(always)]
     pub(crate) fn refuse(&mut self, refusal: CleanRefusal)
         ensures { self.new ≡ record self.old { refusal = first_refusal self.old.batch self.old.refusal refusal } }
     {
@@ -65,6 +69,7 @@ impl CleanMachine {
     }
 
     // The next group is looked at, if there is one.
+    #[inline(always)]
     fn survey(&mut self)
         ensures control { (sizes : Sizes) → control_of sizes self.new ≡ surveying sizes self.old.owned self.old.batch }
         ensures begun { IsBegun self.new.control }
@@ -96,6 +101,7 @@ impl CleanMachine {
     }
 
     // Whether the next group begins with a word like this, and it may pass it.
+    #[inline(always)]
     fn may_pass(&self, found: u64) -> bool
         requires low { self.now.batch.tail ≤ self.now.batch.reached }
         requires small { self.now.batch.reached ≤ 2 ^ 60 }
@@ -108,6 +114,7 @@ impl CleanMachine {
     }
 
     // After the ENTRY of the leader of the next group, or of one of its followers.
+    #[inline(always)]
     fn look(&mut self, at: u64, found: u64)
         requires low { self.old.batch.tail ≤ self.old.batch.reached }
         requires small { self.old.batch.reached ≤ 2 ^ 60 }
@@ -137,6 +144,7 @@ impl CleanMachine {
     }
 
     // After a CLEANUP of the group that was taken.
+    #[inline(always)]
     fn claim(&mut self, layout: Layout, at: u64)
         requires { at < length self.old.batch.pages }
         ensures control { control_of (sizes_of layout) self.new ≡ each_next self.old.batch at (cleaner.TakeCleanup (at + 1)) (claimed (sizes_of layout) self.old.batch) }
@@ -156,6 +164,7 @@ impl CleanMachine {
     }
 
     // The next entry of the group, or what comes behind the last.
+    #[inline(always)]
     pub(crate) fn each(&mut self, at: u64, next: CleanControl, last: CleanControl)
         ensures { self.new ≡ record self.old { control = if at + 1 == length self.old.batch.pages then last else next } }
     {
@@ -163,6 +172,7 @@ impl CleanMachine {
     }
 
     // The group at hand is cleaned.
+    #[inline(always)]
     fn pass_group(&mut self)
         requires low { IsLow self.old.batch }
         requires some { 0 < length self.old.batch.pages }
@@ -178,6 +188,7 @@ impl CleanMachine {
     }
 
     // STORE of the first file from one on is given back next, or HEADER.
+    #[inline(always)]
     pub(crate) fn discharge(&mut self, layout: Layout, from: u64)
         ensures control { control_of (sizes_of layout) self.new ≡ discharging self.old.batch (files_from (sizes_of layout) self.old.batch from) }
         ensures begun { IsBegun self.new.control }
@@ -208,6 +219,7 @@ impl CleanMachine {
     }
 
     // After a step of the front: HEADER, STOP, TAIL, HEAD.
+    #[inline(always)]
     fn follow_front(&mut self, found: u64)
         requires { IsFront self.old.control }
         ensures control { (sizes : Sizes) → control_of sizes self.new ≡ after_cleaner_op sizes self.old.owned self.old.batch (inner_at sizes self.old.batch self.old.control) found }
@@ -240,6 +252,7 @@ impl CleanMachine {
     }
 
     // After CLEANUP of a page, or STORE of the file, of the group at hand.
+    #[inline(always)]
     fn follow_claims(&mut self, layout: Layout, found: u64)
         requires claims { IsClaim self.old.control }
         requires fits { Fits (sizes_of layout) self.old }
@@ -270,6 +283,7 @@ impl CleanMachine {
     }
 
     // After a step on an entry of the group at hand, on DIRTY or CLEANUP of its page.
+    #[inline(always)]
     fn follow_entries(&mut self, found: u64)
         requires entries { IsOnEntries self.old.control }
         requires fits { (sizes : Sizes) × Fits sizes self.old }
@@ -328,6 +342,7 @@ impl CleanMachine {
     }
 
     // After a step of what is retired, or given back.
+    #[inline(always)]
     fn follow_ends(&mut self, layout: Layout)
         requires ends { IsEnd self.old.control }
         requires fits { Fits (sizes_of layout) self.old }
@@ -353,6 +368,7 @@ impl CleanMachine {
     }
 
     // What it is after a step that found this, with what it owns then.
+    #[inline(always)]
     pub(crate) fn follow(&mut self, layout: Layout, found: u64)
         requires plain { IsPlain self.old.control }
         requires fits { Fits (sizes_of layout) self.old }

@@ -41,6 +41,7 @@ impl CleanMachine {
     }
 
     // Makes the next step, where no device call comes before it.
+    #[inline(always)]
     pub(crate) fn step<L: Lines, B: Backing>(&mut self, board: &Board<L, B>, pass: &mut Pass<L, B>)
         requires board { IsOf board.now pass.old }
         requires plain { IsPlain self.old.control }
@@ -62,6 +63,7 @@ impl CleanMachine {
     }
 
     // Makes the next step, behind some device calls.
+    #[inline(always)]
     pub(crate) fn step_behind<W: Says, L: Lines, B: Backing>(
         &mut self,
         board: &Board<L, B>,

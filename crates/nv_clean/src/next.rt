@@ -12,6 +12,7 @@ use nv_table::Layout;
 
 impl CleanMachine {
     // HEADER, STOP, TAIL, HEAD.
+    #[inline(always)]
     fn next_in_front(&self, layout: Layout) -> CleanerOp
         requires { IsFront self.now.control }
         ensures cells { MovesCells result }
@@ -28,6 +29,7 @@ impl CleanMachine {
     }
 
     // CLEANUP of a page, or STORE of the file, of the group at hand.
+    #[inline(always)]
     fn next_claim(&self, layout: Layout) -> CleanerOp
         requires claims { IsClaim self.now.control }
         requires fits { Fits (sizes_of layout) self.now }
@@ -49,6 +51,7 @@ impl CleanMachine {
     }
 
     // An entry of the group at hand, DIRTY or CLEANUP of its page.
+    #[inline(always)]
     fn next_on_entries(&self, layout: Layout) -> CleanerOp
         requires entries { IsOnEntries self.now.control }
         requires fits { Fits (sizes_of layout) self.now }
@@ -80,6 +83,7 @@ impl CleanMachine {
     }
 
     // An entry of a group that can't be cleaned, or CLEANUP of its page.
+    #[inline(always)]
     fn next_undone(&self, layout: Layout) -> CleanerOp
         requires undoes { IsUndoing self.now.control }
         requires fits { Fits (sizes_of layout) self.now }
@@ -104,6 +108,7 @@ impl CleanMachine {
     }
 
     // What is retired, or given back.
+    #[inline(always)]
     fn next_at_end(&self, layout: Layout) -> CleanerOp
         requires ends { IsEnd self.now.control }
         requires owns { OwnsAt self.now.owned self.now.control }
@@ -127,6 +132,7 @@ impl CleanMachine {
     }
 
     // The next step.
+    #[inline(always)]
     pub(crate) fn next(&self, layout: Layout) -> CleanerOp
         requires plain { IsPlain self.now.control }
         requires fits { Fits (sizes_of layout) self.now }

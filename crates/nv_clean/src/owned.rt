@@ -34,6 +34,7 @@ impl Default for Cell {
 
 impl Cell {
     /// Its word.
+    #[inline(always)]
     pub fn word(self) -> Word
         ensures cell { IsCell result }
         ensures word { core_word result ≡ core_cell self }
@@ -48,6 +49,7 @@ impl Cell {
     }
 
     // The cell of such a word.
+    #[inline(always)]
     fn of(word: Word) -> Self
         requires { IsCell word }
         ensures { core_cell result ≡ core_word word }
@@ -117,6 +119,7 @@ impl OwnedCells {
     }
 
     /// One more is taken.
+    #[inline(always)]
     pub fn take(&mut self, cell: Cell)
         requires { length self.old < most_cells }
         ensures { self.new ≡ core_cell cell ∷ self.old }
@@ -125,6 +128,7 @@ impl OwnedCells {
     }
 
     /// One is given back.
+    #[inline(always)]
     pub fn give(&mut self, cell: Cell)
         ensures { self.new ≡ without (core_cell cell) self.old }
     {
@@ -138,6 +142,7 @@ impl OwnedCells {
     }
 
     /// What it is after a step that found this: a cell comes, or goes back.
+    #[inline(always)]
     pub fn follow(&mut self, layout: Layout, op: CleanerOp, found: u64)
         requires cells { MovesCells op }
         requires room { TakesCell (core_cleaner_op op) found → length self.old < most_cells }

@@ -21,6 +21,7 @@ use std::marker::Brand;
 
 impl CleanMachine {
     // Reads the piece of an entry of the group at hand.
+    #[inline(always)]
     fn read_piece<L: Lines, B: Backing>(
         &self,
         board: &Board<L, B>,
@@ -50,6 +51,7 @@ impl CleanMachine {
     }
 
     // And writes it to the store of the group's file.
+    #[inline(always)]
     fn write_piece<L: Lines, B: Backing>(
         &self,
         board: &Board<L, B>,
@@ -69,6 +71,7 @@ impl CleanMachine {
     }
 
     // Holds the next entry of the group behind the write of this one, or cleans the group's first one behind that of the last.
+    #[inline(always)]
     fn hold_next<L: Lines, B: Backing>(
         &mut self,
         board: &Board<L, B>,
@@ -138,6 +141,7 @@ impl CleanMachine {
     }
 
     // Writes an entry back, and makes the step that follows.
+    #[inline(always)]
     pub(crate) fn write_back<L: Lines, B: Backing>(
         &mut self,
         board: &Board<L, B>,

@@ -36,6 +36,7 @@ pub enum CleanerOp {
 
 impl CleanerOp {
     // The word that it is made on.
+    #[inline(always)]
     pub(crate) fn word(self, layout: Layout) -> Word
         ensures { result ≡ word_of_cleaner_op (sizes_of layout) self }
     {
@@ -56,6 +57,7 @@ impl CleanerOp {
     }
 
     // What it makes of the word.
+    #[inline(always)]
     pub(crate) fn change(self) -> Change
         ensures { result ≡ cleaner_change self }
     {
@@ -71,6 +73,7 @@ impl CleanerOp {
     }
 
     // And how the slot of the word's cell moves, if that keeps something.
+    #[inline(always)]
     pub(crate) fn moves(self, slot: Option<usize>) -> Moves
         ensures { result ≡ cleaner_moves self slot }
     {

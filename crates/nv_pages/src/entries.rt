@@ -25,6 +25,7 @@ pub struct Piece {
 
 /// Reads the piece of the entry of a number, whose part the pass owns: its bytes come to the front of `into`, and all of them lie in one page. It fails exactly
 /// where the part's count rose; then `into` may hold anything.
+#[inline(always)]
 pub fn read_entry<L: Lines, B: Backing>(
     board: &Board<L, B>,
     pass: &mut Pass<L, B>,

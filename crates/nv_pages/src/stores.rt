@@ -18,6 +18,7 @@ use nv_table::{Board, Pass, Slot, exchange};
 
 /// Reads a page of a file from the store that the pass owns: the bytes from the offset `at` on, with zeros behind the end of the file. It fails
 /// exactly where the store's count rose; then `into` may hold anything.
+#[inline(always)]
 pub fn read_store<L: Lines, B: Backing>(
     board: &Board<L, B>,
     pass: &mut Pass<L, B>,
@@ -48,6 +49,7 @@ pub fn read_store<L: Lines, B: Backing>(
 
 /// Writes some bytes to the store that the pass owns, from the offset `at` on: well, or with the store left as it was or torn where its count rose, or not at all
 /// for want of memory.
+#[inline(always)]
 pub fn write_store<L: Lines, B: Backing>(
     board: &Board<L, B>,
     pass: &mut Pass<L, B>,
@@ -72,6 +74,7 @@ pub fn write_store<L: Lines, B: Backing>(
 }
 
 /// Makes durable what the store that the pass owns reads as. It fails exactly where the store's count rose; then nothing has become durable.
+#[inline(always)]
 pub fn sync_store<L: Lines, B: Backing>(
     board: &Board<L, B>,
     pass: &mut Pass<L, B>,
